@@ -1,14 +1,9 @@
-pub mod Texts
+pub mod Written
 pub mod ValuesOfFlat
-mod Depth
-mod JsonPoints
-mod PartByPart
-mod Written
-mod Listed
 -- Lemmas of the crates below that callers' proofs cite.
 pub use Rattle.wkt_num.proofs.FailedCalls
 pub use Rattle.wkt_access.proofs.Collections
 pub use Rattle.wkt_access.proofs.Lists
 pub use Rattle.wkt_write.proofs.Members
 pub use Rattle.wkt_types.proofs.Displays
-pub mod RefusalMessages
+pub mod Texts

@@ -1,19 +1,28 @@
--- The `Wkt` of a flat value is what the value of its shape is read as.
-use Rattle.std.proofs.Common.{◌≡◌, refl, ap, ap₂, ◌∙◌, List, [], ◌∷◌, map, Some}
+-- The `Wkt` of a flat value, and its parts as lists.
+use Rattle.std.proofs.Common.{◌≡◌, refl, ap, ap₂, ◌∙◌, List, [], ◌∷◌, map, Some, sym, Option, cond, false}
 use Rattle.std.specs.Prelude.{option_map}
 use Rattle.std.specs.List.{AllByRecursion}
+use Rattle.std.specs.Cmp.{IsTotalOrder}
+use Rattle.std.specs.Ordering.{is_lt, is_gt, ordering_reverse}
+use Rattle.std.specs.declared.cmp.Ordering.{Ordering}
+use Rattle.std.specs.declared.cmp.Ordering.TheVariants.{Less, Equal, Greater}
 use Rattle.wkt_access.specs.Shapes.{canon, canons, cut, rings_of}
 use Rattle.wkt_access.specs.Values.{Value, Values}
 use Rattle.wkt_access.specs.declared.dimensions.Dimension.TheVariants.{XY}
 use Rattle.wkt_access.specs.declared.dimensions.Dimensions.TheVariants.{Xy}
 use Rattle.wkt_types.specs.Values.{value_of, values_of, point_numbers, line_string_numbers, polygon_numbers, HasDim, IsPointIn, IsLineStringIn, IsPolygonIn, IsUniform, AreUniform, IsWktOf}
 use Rattle.wkt_flat.specs.Rings.{Rings}
-use Rattle.wkt_flat.specs.Shape as shape
 use Rattle.wkt_flat.specs.Shape.{flat_shape, flat_shapes, sequence_numbers, rings_shape}
-use Rattle.wkt_flat.specs.Tree.{Flat, Flats}
+use Rattle.wkt_flat.specs.Shape as shape
+use Rattle.wkt_flat.specs.Tree.{Flat, Flats, flats_of}
+use Rattle.wkt_convert.specs.Back.{back, all_back, flat_xy, line_string_back, rings_back, point_back, polygon_back}
 use Rattle.wkt_flat.specs.declared.coord.Coord as flat_coord
 use Rattle.wkt_flat.specs.declared.point.Point as flat_point
-use Rattle.wkt_convert.specs.Back.{back, all_back, flat_xy, line_string_back, rings_back, point_back, polygon_back}
+use Rattle.wkt_flat.specs.Corners.{lesser, greater}
+use Rattle.wkt_types.specs.Tree.{Tree, trees_of}
+use Rattle.wkt_visit.specs.Bounds.{IsAtMost}
+
+-- The `Wkt` of a flat value is what the value of its shape is read as.
 
 coords_uniform : {T : Type 0} (cs : List (flat_coord.Coord T)) → AllByRecursion (HasDim XY) (map flat_xy cs)
 coords_uniform [] = tt
@@ -93,3 +102,28 @@ mutual
 
 pub back_is_wkt : {T : Type 0} (t : Flat T) → IsWktOf (canon (flat_shape t)) (back t)
 back_is_wkt t = record { value = back_value t; uniform = back_uniform t }
+
+-- The corners of a rectangle in order, and the members of a collection as one list.
+
+module _ {N : Type 0} (cmp : N → N → Ordering) (o : IsTotalOrder cmp) (partial : N → N → Option Ordering) (agrees : (x y : N) → partial x y ≡ Some (cmp x y)) where
+  turned : (a b : N) (r : Ordering) → cmp a b ≡ r → IsAtMost cmp (cond (is_lt r) a b) (cond (is_lt r) b a)
+  turned a b Less e = ap is_gt e
+  turned a b Equal e = ap is_gt (o.antisymm b a ∙ ap ordering_reverse e)
+  turned a b Greater e = ap is_gt (o.antisymm b a ∙ ap ordering_reverse e)
+
+  pub in_order : (a b : N) → IsAtMost cmp (lesser partial a b) (greater partial a b)
+  in_order a b = rw (agrees a b) (turned a b (cmp a b) refl)
+
+-- lists are one where what is made of them is, and each step of the making keeps its parts apart
+module _ {A B : Type 0} (of : List A → B) (apart : (x : A) (xs : List A) → of [] ≡ of (x ∷ xs) → ⊥) (parts : (x y : A) (xs ys : List A) → of (x ∷ xs) ≡ of (y ∷ ys) → (x ≡ y) × (of xs ≡ of ys)) where
+  one : (xs ys : List A) → of xs ≡ of ys → xs ≡ ys
+  one [] [] e = refl
+  one [] (y ∷ ys) e = absurd (apart y ys e)
+  one (x ∷ xs) [] e = absurd (apart x xs (sym e))
+  one (x ∷ xs) (y ∷ ys) e = let p = parts x y xs ys e in ap₂ (λ z zs. z ∷ zs) p.0 (one xs ys p.1)
+
+pub trees_one : {T : Type 0} (xs ys : List (Tree T)) → trees_of xs ≡ trees_of ys → xs ≡ ys
+trees_one = one trees_of (λ x xs e. cc) (λ x y xs ys e. (cc, cc))
+
+pub flats_one : {T : Type 0} (xs ys : List (Flat T)) → flats_of xs ≡ flats_of ys → xs ≡ ys
+flats_one = one flats_of (λ x xs e. cc) (λ x y xs ys e. (cc, cc))

@@ -1,9 +1,15 @@
--- What is written of a geometry, which the tests of two geometries decide exactly.
-use Rattle.std.proofs.Common.{◌≡◌, refl, ap, ap₂, sym, subst, ◌∙◌, List, [], ◌∷◌, ◌++◌, map, take, Option, Some, None, option_map, Bool, true, false, ◌&&◌, slice_get, ◌↔◌, IsTrue}
+-- What is written of a geometry, part by part, which the tests of two geometries decide exactly.
+use Rattle.std.proofs.Common.{◌≡◌, ℕ, ◌+◌, ◌<◌, ◌≤◌, ◌-◌, refl, ap, sym, ◌∙◌, List, [], ◌∷◌, drop, length, get_or, Bool, true, false, ◌&&◌, nat_eq, add-one, arith, eq-eqb, length-drop, zero, suc, max, ap₂, subst, ◌++◌, map, take, Option, Some, None, option_map, slice_get, ◌↔◌, IsTrue}
 use Rattle.std.specs.Prelude.{option_to_list}
+use Rattle.std.proofs.lemmas.Bool.Decides.{nat_tests}
+use Rattle.std.proofs.Math.Seq.{drop-cons}
+use Rattle.std.proofs.lemmas.List.{drop_all}
 use Rattle.std.specs.Cmp.Lexicographic.{pointwise}
 use Rattle.std.proofs.lemmas.Simd.{map-map}
 use Rattle.std.proofs.Math.Bool.{and-true}
+use Rattle.wkt_types.specs.Tree.{tree, members, Tree, Trees, point, line_string, polygon, multi_point, multi_line_string, multi_polygon, collection, no_trees, more_trees}
+use Rattle.wkt_types.specs.declared.geometry.Wkt.{Wkt}
+use Rattle.wkt.specs.WrittenAlike.{tree_alike, trees_alike, written_rings, coord_alike, point_alike, line_alike, polygon_alike}
 use Rattle.wkt_access.specs.declared.dimensions.Dimension.{Dimension}
 use Rattle.wkt_access.specs.declared.dimensions.Dimension.TheVariants.{XY, XYZ, XYM, XYZM}
 use Rattle.wkt_access.specs.Values.{Value, Values, size}
@@ -13,10 +19,75 @@ use Rattle.wkt_flat.specs.Exact.{IsExact, both, and_true, pointwise_exact}
 use Rattle.wkt_types.specs.Held.{Held, HeldPoint}
 use Rattle.wkt_types.specs.Coords.{numbers_of}
 use Rattle.wkt_types.specs.Exact.{option_eq, dim_eq, dim_exact}
-use Rattle.wkt_types.specs.Tree.{Tree, Trees, point, line_string, polygon, multi_point, multi_line_string, multi_polygon, collection, no_trees, more_trees}
 use Rattle.wkt_types.specs.Values.{point_numbers, line_string_numbers, polygon_numbers, tree_shape, values_of}
 use Rattle.wkt_types.specs.declared.coord.Coord.{Coord}
-use Rattle.wkt.specs.WrittenAlike.{written_rings, coord_alike, point_alike, line_alike, polygon_alike, tree_alike, trees_alike}
+
+-- Two lists compared part by part.
+
+differ : (n m : ℕ) → n < m → nat_eq n m ≡ false
+differ n m h = grind (arith, nat_tests)
+
+module _ {X : Type 0} (E : X → X → Bool) (as' bs : List X) (i : ℕ) where
+  -- what of the lists is still to compare
+  abbrev pub left : Bool
+  left = pointwise E (drop i as') (drop i bs)
+
+  part_step : (x y : X) → i < length as' → x ≡ get_or as' i x → i < length bs → y ≡ get_or bs i y →
+      left ≡ (E x y && pointwise E (drop (i + 1) as') (drop (i + 1) bs))
+  part_step x y h e lt f = rw (drop-cons as' i x h, drop-cons bs i y lt, ← e, ← f, add-one) refl
+
+  -- the next parts decide
+  pub parts_differ : (x y : X) → i < length as' → x ≡ get_or as' i x → i < length bs → y ≡ get_or bs i y → E x y ≡ false → left ≡ false
+  parts_differ x y h e lt f differs = part_step x y h e lt f ∙ ap (λ b. b && pointwise E (drop (i + 1) as') (drop (i + 1) bs)) differs
+
+  -- or they are passed over
+  pub parts_agree : (x y : X) → i < length as' → x ≡ get_or as' i x → i < length bs → y ≡ get_or bs i y → E x y ≡ true →
+      left ≡ pointwise E (drop (i + 1) as') (drop (i + 1) bs)
+  parts_agree x y h e lt f agrees = part_step x y h e lt f ∙ ap (λ b. b && pointwise E (drop (i + 1) as') (drop (i + 1) bs)) agrees
+
+  pub parts_short : (x : X) → i < length as' → length bs ≤ i → left ≡ false
+  parts_short x h k = rw (drop-cons as' i x h, drop_all i bs k) refl
+
+none_short : {X : Type 0} (E : X → X → Bool) (n m : ℕ) (ws : List X) → length ws ≡ m - n → n ≤ m → nat_eq n m ≡ pointwise E [] ws
+none_short E n m [] h k = eq-eqb n m (omega (arith, h))
+none_short E n m (w ∷ ws) h k = differ n m (omega (arith, h))
+
+pub parts_end : {X : Type 0} (E : X → X → Bool) (as' bs : List X) (i : ℕ) →
+    length as' ≤ i → i ≤ length as' → i ≤ length bs → nat_eq (length as') (length bs) ≡ left E as' bs i
+parts_end E as' bs i h k l =
+    rw (drop_all i as' h)
+    (none_short E (length as') (length bs) (drop i bs) (length-drop i bs ∙ ap (λ n. length bs - n) (omega arith)) (omega arith))
+
+-- the members of two collections, part by part
+pub members_alike : {T : Type 0} (E : T → T → Bool) (as' bs : List (Wkt T)) →
+    trees_alike E (members as') (members bs) ≡ pointwise (λ a b. tree_alike E (tree a) (tree b)) as' bs
+members_alike E [] [] = refl
+members_alike E [] (b ∷ bs) = refl
+members_alike E (a ∷ as') [] = refl
+members_alike E (a ∷ as') (b ∷ bs) = ap (λ t. tree_alike E (tree a) (tree b) && t) (members_alike E as' bs)
+
+-- How deep collections are nested: a member is less deep than its collection.
+
+abbrev mutual
+  pub depth : {T : Type 0} → Tree T → ℕ
+  depth (Tree.point p) = 0
+  depth (Tree.line_string l) = 0
+  depth (Tree.polygon y) = 0
+  depth (Tree.multi_point m) = 0
+  depth (Tree.multi_line_string m) = 0
+  depth (Tree.multi_polygon m) = 0
+  depth (Tree.collection ts d) = suc (deepest ts)
+
+  pub deepest : {T : Type 0} → Trees T → ℕ
+  deepest Trees.no_trees = 0
+  deepest (Trees.more_trees t ts) = max (depth t) (deepest ts)
+
+pub below_deepest : {T : Type 0} (ws : List (Wkt T)) (i : ℕ) (w : Wkt T) → i < length ws → w ≡ get_or ws i w → depth (tree w) ≤ deepest (members ws)
+below_deepest [] i w lt e = absurd (omega arith)
+below_deepest (x ∷ ws) zero w lt e = let d : depth (tree x) ≡ depth (tree w) = ap (λ z. depth (tree z)) (sym e) in omega (arith, d)
+below_deepest (x ∷ ws) (suc i) w lt e = omega (arith, below_deepest ws i w (omega arith) e)
+
+-- What is written of a geometry, which the tests of two geometries decide exactly.
 
 -- a test that is true exactly where two values look the same
 pub record IsTestOf {X V : Type 0} (f : X → V) (E : X → X → Bool) : Type 0 where

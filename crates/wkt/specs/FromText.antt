@@ -1,14 +1,27 @@
--- What a text, and the bytes of a source, are answered with: the flat value of the front's geometry, or the error by name.
-use Rattle.std.specs.Prelude.{◌≡◌, ℕ, List, Option, Result, Ok, Err, Bool, IsUtf8}
+-- What a text, the bytes of a source, a whole text and a JSON value are answered with: the flat value of the geometry, or the error by name.
+use Rattle.std.specs.Prelude.{◌≡◌, ℕ, List, Option, Result, Ok, Err, Bool, IsUtf8, drop, [], ◌∷◌, Some, None, codes}
+use Rattle.serde_json.specs.Find.{as_str}
+use Rattle.serde_json.specs.View.{view}
+use Rattle.serde_json.specs.declared.value.Value.{Value}
 use Rattle.wkt_types.specs.Tree.{Tree}
 use Rattle.wkt_types.specs.Outcome.{Outcome, value, refused, empty_point, mismatched}
 use Rattle.wkt_types.specs.declared.convert.ConvertError.{ConvertError}
 use Rattle.wkt_types.specs.declared.convert.ConvertError.TheVariants.{PointConversionError, MismatchedGeometry, WrongNumberOfGeometries, InvalidWKT, Reader, Utf8, Memory}
 use Rattle.wkt_read.specs.Front.{HasNoFront}
-use Rattle.wkt_read.specs.Answered.{IsFront, HasBadNumber}
+use Rattle.wkt_read.specs.Answered.{IsFront, HasBadNumber, IsFrontTo}
 use Rattle.wkt_read.specs.Items.{bad_number}
 use Rattle.wkt_read.specs.Refusal.{IsTextRefused}
 use Rattle.wkt_convert.specs.Kinds.{FlatKind, only_flat}
+use Rattle.wkt_num.specs.Bytes.{AllWhite}
+use Rattle.wkt_read.specs.declared.error.ReadError.{ReadError}
+use Rattle.wkt.specs.declared.whole.WholeError.{WholeError}
+use Rattle.wkt.specs.declared.whole.WholeError.TheVariants.{Read, Rest}
+use Rattle.wkt_flat.specs.Tree.{Flat}
+use Rattle.wkt_flat.specs.declared.point.Point.{Point}
+use Rattle.wkt.specs.declared.json.ValueError.{ValueError}
+use Rattle.wkt.specs.declared.json.ValueError.TheVariants.{NotAString, Fault}
+
+-- What a text, and the bytes of a source, are answered with: the flat value of the front's geometry, or the error by name.
 
 -- What an error comes from.
 pub data Cause : Type 0 where
@@ -114,3 +127,51 @@ AreNoText bytes (Reader e) = Unit {0}
 AreNoText bytes Utf8 = IsUtf8 bytes → ⊥
 AreNoText bytes (Memory e) = Unit {0}
 AreNoText bytes _ = ⊥
+
+-- What a text is answered with that has to be one geometry as a whole.
+
+module _ {T : Type 0} (read : List ℕ → Option T) where
+  -- The text has a front with nothing but white space after it, and the tree is what the front's value is read as.
+  abbrev pub IsWhole : List ℕ → Tree T → Type 0
+  IsWhole text t = (end : ℕ) × IsFrontTo read text t end × AllWhite (drop end text)
+
+  -- The text has a front that ends here, and more than white space after it.
+  abbrev pub HasRest : List ℕ → ℕ → Type 0
+  HasRest text end = (t : Tree T) × IsFrontTo read text t end × (AllWhite (drop end text) → ⊥)
+
+-- This holds of the answer of reading, where reading failed.
+abbrev pub OnUnread : {X : Type 0} → Result X WholeError → (Result X ReadError → Type 0) → Type 0
+OnUnread (Ok x) P = Unit {0}
+OnUnread (Err (Read e)) P = P (Err e)
+OnUnread (Err (Rest at)) P = Unit {0}
+
+-- This holds of the place where the rest begins, where the answer names one.
+abbrev pub OnRest : {X : Type 0} → Result X WholeError → (ℕ → Type 0) → Type 0
+OnRest (Ok x) P = Unit {0}
+OnRest (Err (Read e)) P = Unit {0}
+OnRest (Err (Rest at)) P = P at
+
+-- What a JSON value is answered with: a string what its text is, and any other value that it is no string.
+
+-- The text of a JSON value that is a string.
+abbrev pub text_of : Value → Option (List ℕ)
+text_of v = as_str (view v)
+
+-- A string is answered by its text, of which and of the answer the fact holds; any other value is answered as no string.
+abbrev pub AsText : {X E : Type 0} → Option (List ℕ) → Result X (ValueError E) → (List ℕ → Result X E → Type 0) → Type 0
+AsText None (Ok x) P = ⊥
+AsText None (Err NotAString) P = Unit {0}
+AsText None (Err (Fault e)) P = ⊥
+AsText (Some text) (Ok x) P = P text (Ok x)
+AsText (Some text) (Err NotAString) P = ⊥
+AsText (Some text) (Err (Fault e)) P = P text (Err e)
+
+-- The point of a geometry that is one, and no point where it is a multipoint without members.
+abbrev pub point_if_any : {T : Type 0} → Flat T → Option (Option (Point T))
+point_if_any (Flat.point p) = Some (Some p)
+point_if_any (Flat.multi_point []) = Some None
+point_if_any _ = None
+
+-- The point of a geometry, or none, as a kind that is asked for.
+abbrev pub point_or_none_kind : {T : Type 0} → FlatKind T (Option (Point T))
+point_or_none_kind = record { name = codes "Point"; content = point_if_any }

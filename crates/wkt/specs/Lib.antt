@@ -1,7 +1,5 @@
-pub mod FromText
 pub mod Laws
-pub mod Json
-pub mod WholeText
+pub mod FromText
 pub mod WrittenAlike
 pub mod Same
 pub mod Literals

@@ -10,9 +10,8 @@ ghost use Rattle.wkt_types.specs.Outcome.{Answers, value};
 ghost use Rattle.wkt_flat.specs.Tree.{Flat, flat_tree};
 ghost use Rattle.wkt_flat.specs.Equal.{coord_eq};
 ghost use Rattle.wkt_convert.specs.Flatten.{flat};
-ghost use Rattle.wkt.specs.FromText.{TextAnswers, AnswersKind};
+ghost use Rattle.wkt.specs.FromText.{TextAnswers, AnswersKind, text_of, AsText, point_or_none_kind};
 ghost use Rattle.wkt_convert.specs.Kinds.{only};
-ghost use Rattle.wkt.specs.Json.{text_of, AsText, point_or_none_kind};
 
 use crate::from_text::TryFromWkt;
 use serde_json::Value;

@@ -6,7 +6,7 @@ ghost use Rattle.wkt_read.specs.Items.{bad_number};
 ghost use Rattle.wkt_read.specs.Front.{Front, HasNoFront, NeedsNoMemory};
 ghost use Rattle.wkt_read.specs.Answered.{HasBadNumber, OnText, OnMessage};
 ghost use Rattle.wkt_read.specs.Refusal.{IsTextRefused, IfText};
-ghost use Rattle.wkt.specs.WholeText.{IsWhole, HasRest, OnUnread, OnRest};
+ghost use Rattle.wkt.specs.FromText.{IsWhole, HasRest, OnUnread, OnRest};
 
 use std::alloc::Global;
 use thiserror::Error;

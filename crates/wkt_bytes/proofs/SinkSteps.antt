@@ -1,15 +1,41 @@
--- What a sink's steps make of a text that is known.
-use Rattle.std.proofs.Common.{◌≡◌, ℕ, List, [], ◌∷◌, ◌++◌, Option, Some, None, refl, sym, ap, ◌∙◌, append_assoc}
-use Rattle.std.proofs.lemmas.List.{append-nil}
+-- What a sink's steps make of a text that is known, and the steps of a loop that puts bytes out.
+use Rattle.std.proofs.Common.{◌≡◌, ℕ, zero, suc, ◌+◌, ◌-◌, List, [], ◌++◌, take, drop, length, refl, ap, sym, ◌∙◌, arith, Ok, Err, Result, OnErr, ◌≢◌, ◌≤◌, ◌∷◌, Option, Some, None, append_assoc}
+use Rattle.std.proofs.Math.Seq.{take-add}
+use Rattle.std.proofs.lemmas.List.{length-drop, take_all, append-nil, take-append-drop}
 use Rattle.std.specs.List.{FoldsTo, concat}
 use Rattle.std.specs.Io.KnownBytes.{Appends}
+use Rattle.wkt_bytes.specs.Sinks.{count_after_put, SinkOfBytes}
 use Rattle.wkt_num.specs.Sink.{Sink, GrewBy, revealing}
 use Rattle.wkt_num.specs.Counted.{writer_of}
-use Rattle.wkt_bytes.specs.Sinks.{SinkOfBytes}
 use Rattle.wkt_bytes.specs.Wrapped.{Wrapped}
 use Rattle.wkt_bytes.specs.Wrapper.{held_bytes, Gathers, BreaksOff}
 use Rattle.wkt_bytes.specs.Growing.{Grows, StringGrows, GatheredGrows, WrapperGrows, AddsPieces, CountedGrows}
 use Rattle.wkt_bytes.specs.Gathered.{gathered_text}
+
+-- Steps of a loop that puts bytes out.
+
+pub rest_whole : (bs : List ℕ) (at : ℕ) → take (length bs - at) (drop at bs) ≡ drop at bs
+rest_whole bs at = take_all (length bs - at) (drop at bs) (omega (arith, length-drop at bs))
+
+pub put_step : (bs : List ℕ) (at n : ℕ) → take (at + n) bs ≡ take at bs ++ take n (take (length bs - at) (drop at bs))
+put_step bs at n = rw (rest_whole bs at) (take-add at n bs)
+
+pub count_kept : (E : Type 0) (f n : ℕ) (bs : List ℕ) → n ≢ 0 → count_after_put {E = E} f (Ok n) bs ≡ f
+count_kept E f zero bs h = absurd (h refl)
+count_kept E f (suc n) bs h = refl
+
+pub any_err : {A E P : Type 0} (r : Result A E) → P → OnErr r P
+any_err (Ok x) h = tt
+any_err (Err e) h = h
+
+pub take_step : (bs : List ℕ) (at next : ℕ) → at ≤ next → take next bs ≡ take at bs ++ take (next - at) (drop at bs)
+take_step bs at next h = let e : at + (next - at) ≡ next = omega arith in ap (λ n. take n bs) (sym e) ∙ take-add at (next - at) bs
+
+-- what was taken, and the rest
+pub with_rest : (bs : List ℕ) (at next : ℕ) → at ≤ next → ((take at bs ++ take (next - at) (drop at bs)) ++ []) ++ drop next bs ≡ bs
+with_rest bs at next h = rw (append-nil, ← take_step bs at next h) (take-append-drop next bs)
+
+-- What a sink's steps make of a text that is known.
 
 pub string : StringGrows
 string = record { ok = λ s t bs h. h.grown; err = λ s t bs h. h.grew }

@@ -2,7 +2,7 @@
 use Rattle.std.specs.Prelude.{◌≡◌, ℕ, List, ◌++◌, Some}
 use Rattle.std.specs.Fmt.{HasWrittenStyled, IsFlush}
 use Rattle.wkt_num.specs.Sink.{Sink, GrewBy, revealing}
-use Rattle.wkt_num.specs.Texts.{string_sink, text_of}
+use Rattle.wkt_num.specs.Borrowed.{string_sink, text_of}
 use Rattle.wkt_num.specs.Counted.{writer_of, counted_sink, formatter_of, formatted_sink}
 use Rattle.wkt_num.specs.declared.counted.CountedText.{CountedText}
 use Rattle.wkt_num.specs.declared.formatted.FormatterText.{FormatterText}

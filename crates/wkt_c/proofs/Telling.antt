@@ -1,9 +1,13 @@
--- What a pen writes that is told the arrays of the caller's.
-use Rattle.std.proofs.Common.{◌≡◌, ◌+◌, ◌*◌, ◌≤◌, ◌==◌, ℕ, ℤ, List, [], ◌∷◌, length, refl, sym, ap, ◌∙◌, subst, arith, if◌then◌else◌}
+-- What a pen writes that is told the arrays of the caller, who is answered so.
+use Rattle.std.proofs.Common.{◌+◌, ◌++◌, ◌≤◌, ◌/◌, ◌%◌, ◌^◌, ◌==◌, ℕ, zero, suc, ℤ, pos, negsuc, Bool, true, false, [], ◌∷◌, length, arith, length-append, if◌then◌else◌, ◌≡◌, ◌*◌, List, refl, sym, ap, ◌∙◌, subst, ◌⊎◌, ◌<◌, inl, inr}
+use Rattle.std.specs.Prelude.{int_lt}
+use Rattle.std.specs.Fmt.{decimal, sign_text}
+use Rattle.std.proofs.lemmas.Fmt.{length-decimal-le_wide}
+use Rattle.std.proofs.Math.Nat.{div-le_self}
 use Rattle.std.specs.List.{All, AllByRecursion}
 use Rattle.std.proofs.lemmas.List.Elements.{recursion_from_All}
+use Rattle.wkt_num.specs.Decimal.{fraction_digits, fraction_text, magnitude_text, decimal_text, IsUnits, read_decimal}
 use Rattle.wkt_num.specs.Whole.{IsSigned}
-use Rattle.wkt_num.specs.Decimal.{IsUnits, read_decimal, decimal_text}
 use Rattle.wkt_access.specs.Values.{Value}
 use Rattle.wkt_access.specs.WellFormed.{IsWellFormed}
 use Rattle.wkt_access.specs.Shapes.{shape_of, canon}
@@ -12,22 +16,56 @@ use Rattle.wkt_access.specs.declared.dimensions.Dimension.{Dimension}
 use Rattle.wkt_access.specs.declared.dimensions.Dimension.TheVariants.{XY, XYZ, XYM, XYZM}
 use Rattle.wkt_write.proofs.Writable.{writable}
 use Rattle.wkt_types.specs.declared.geometry_type.GeometryType.{GeometryType}
-use Rattle.wkt_types.specs.declared.geometry_type.GeometryType.TheVariants as kind
 use Rattle.wkt_read.specs.Front.{Front}
 use Rattle.wkt_read.specs.Kinds.{kind_of, dim_of}
 use Rattle.wkt_read.specs.Laws.{ReadsBack}
 use Rattle.wkt_machine.specs.Events.{Event, events}
-use Rattle.wkt_canonical.specs.PenMaker.{Fits, pen_maker}
-use Rattle.wkt_canonical.specs.Pens.{IsFresh, IsWithin}
+use Rattle.wkt_canonical.specs.PenMaker.{Fits, pen_maker, IsFresh, IsWithin}
 use Rattle.wkt_canonical.specs.declared.pen.Pen.{Pen}
-use Rattle.wkt_canonical.proofs.Told.{fits-fresh, within-room}
-use Rattle.wkt_fill.specs.Given.{IsGiven, events_cost, Tells}
+use Rattle.wkt_canonical.proofs.PenOutput.{fits-fresh, within-room}
+use Rattle.wkt_fill.specs.Arrays.{IsGiven, events_cost, Tells}
 use Rattle.wkt_fill.specs.declared.given.Given.{Given}
 use Rattle.wkt_fill.proofs.Costs.{given-cost}
-use Rattle.wkt_calls.specs.Answer.{kind_number, dimension_number}
+use Rattle.wkt_calls.specs.Answer.{kind_number, dimension_number, IsHandedOut, HasNoRoom}
 use Rattle.wkt_calls.specs.Arrays.{AreArrays}
-use Rattle.wkt_c.specs.Texts.{IsTextOf, AreOfSome}
-use Rattle.wkt_c.proofs.NumberLengths.{number-length}
+use Rattle.wkt_c.specs.ColumnArrays.{IsTextOf, AreOfSome}
+use Rattle.wkt_types.specs.declared.geometry_type.GeometryType.TheVariants as kind
+use Rattle.wkt_c.specs.Told.{CopiesOutText}
+
+-- How long the text of a number of 64 bits is, at most.
+
+digits-length : (D f : ℕ) → length (fraction_digits D f) ≤ D
+digits-length zero f = omega arith
+digits-length (suc j) f = go (digits-length j (f % 10 ^ j)) (f == 0)
+  where
+    go : length (fraction_digits j (f % 10 ^ j)) ≤ j → (b : Bool) → length (if b then [] else (48 + f / 10 ^ j) ∷ fraction_digits j (f % 10 ^ j)) ≤ suc j
+    go h true = omega arith
+    go h false = omega (arith, h)
+
+fraction-length : (D f : ℕ) → length (fraction_text D f) ≤ D + 1
+fraction-length D f = go (f == 0)
+  where
+    go : (b : Bool) → length (if b then [] else 46 ∷ fraction_digits D f) ≤ D + 1
+    go true = omega arith
+    go false = omega (arith, digits-length D f)
+
+sign-length : (b : Bool) → length (sign_text b) ≤ 1
+sign-length true = omega arith
+sign-length false = omega arith
+
+magnitude-length : (D : ℕ) (b : Bool) (m : ℕ) → m ≤ 2 ^ 63 → length (magnitude_text D b m) ≤ D + 21
+magnitude-length D b m small =
+    let w : ℕ = m / 10 ^ D in
+    let f : ℕ = m % 10 ^ D in
+    let less : w ≤ 2 ^ 63 = omega (arith, div-le_self m (10 ^ D), small) in
+    omega (arith, length-append (sign_text b ++ decimal w) (fraction_text D f), length-append (sign_text b) (decimal w), sign-length b, length-decimal-le_wide 19 w (omega arith) (omega (arith, less)) (omega (arith, less)), fraction-length D f)
+
+-- a sign, nineteen digits, a point, and the places
+pub number-length : (D : ℕ) (x : ℤ) → IsSigned 63 x → length (decimal_text D x) ≤ D + 21
+number-length D (pos n) h = magnitude-length D (int_lt (pos n) (pos 0)) n (omega (arith, h))
+number-length D (negsuc n) h = magnitude-length D (int_lt (negsuc n) (pos 0)) (suc n) (omega (arith, h))
+
+-- What a pen writes that is told the arrays of the caller's.
 
 -- a number is that of one kind, and of one dimension
 kind_at : ℕ → GeometryType
@@ -124,3 +162,30 @@ has-room D g small room p fresh n enough large v h =
 pub is-within : (D : ℕ) (p t : Pen ℤ) (es : List (Event ℤ)) → Fits (read_decimal 127 36 D) (decimal_text D) p (events_cost (pen_maker (read_decimal 127 36 D) (decimal_text D)) es) →
     Tells (pen_maker (read_decimal 127 36 D) (decimal_text D)) p es t → IsWithin t
 is-within D p t es fits told = within-room (read_decimal 127 36 D) (decimal_text D) t (told.leaves 0 (omega (arith, fits)))
+
+-- What a caller is answered who gave arrays.
+
+module _ (places kind dimension : ℕ) (numbers : List ℤ) (rings polygons : List ℕ) where
+  -- the text was handed out, or there was no room
+  pub handed : (text given old new : List ℕ) (before needed status : ℕ) → IsTextOf places kind dimension numbers rings polygons text → given ≡ text →
+      (status ≡ 0 → IsHandedOut given needed old new) → (status ≡ 21 → HasNoRoom given needed old) → (1 ≤ status → new ≡ old) → (status ≡ 0) ⊎ (status ≡ 21) →
+      CopiesOutText places kind dimension numbers rings polygons old new before needed status
+  handed text given old new before needed status is e stands lacks kept two =
+      let its : IsTextOf places kind dimension numbers rings polygons given = subst (λ xs. IsTextOf places kind dimension numbers rings polygons xs) (sym e) is in
+      record {
+        written = λ z. (given, its, stands z);
+        small = λ z. (given, its, lacks z);
+        others = λ some other. elim two [ inl z ↦ absurd (omega (arith, some, z)) | inr z ↦ absurd (other z) ];
+        kept = kept;
+        needed_kept = λ some other. elim two [ inl z ↦ absurd (omega (arith, some, z)) | inr z ↦ absurd (other z) ];
+      }
+
+  -- there are no numbers of so many places
+  pub no-places : (old : List ℕ) (needed : ℕ) → 18 < places → CopiesOutText places kind dimension numbers rings polygons old old needed needed 23
+  no-places old needed many = record {
+    written = λ z. absurd (omega (arith, z));
+    small = λ z. absurd (omega (arith, z));
+    others = λ some other. inl (refl, many);
+    kept = λ some. refl;
+    needed_kept = λ some other. refl;
+  }

@@ -1,8 +1,8 @@
 -- The answers to some lines at the front of an input.
 use Rattle.std.specs.Prelude.{◌≡◌, ◌<◌, ◌≤◌, ◌⊎◌, ℕ, List, Option, Bool, false, length, take}
 use Rattle.wkt_lines.specs.Output.{IsOutput}
-use Rattle.wkt_lines.specs.Splitting.{before_feed}
-use Rattle.wkt_calls.specs.Chunks.{AreWholeLines, IsFirstLine}
+use Rattle.wkt_lines.specs.Lines.{before_feed}
+use Rattle.wkt_calls.specs.Calls.{AreWholeLines, IsFirstLine}
 
 module _ {N : Type 0} (read : List ℕ → Option N) (num : N → List ℕ) where
   -- So many bytes of the input are taken, and the first `written` bytes of the buffer are the answers to them. None is taken only where there is no whole line.

@@ -1,9 +1,5 @@
 pub mod Column
-pub mod Joining
-pub mod ColumnArrays
-pub mod ArrayRows
-pub mod TextRows
 pub mod Rows
 pub mod Chunks
-pub mod Texts
+pub mod ColumnArrays
 pub mod Told

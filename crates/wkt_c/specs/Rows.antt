@@ -1,8 +1,26 @@
--- The answers to a column as they grow. Only private contracts cite these words.
-use Rattle.std.specs.Prelude.{◌≡◌, ◌++◌, ℕ, List, [], ◌∷◌, Option, Bool}
+-- The answers to a column as they grow: texts, arrays, and texts of arrays. Only private contracts cite these words.
+use Rattle.std.specs.Prelude.{◌≡◌, ◌++◌, List, [], ◌∷◌, length, ℕ, Option, Bool, ℤ, map}
+use Rattle.wkt_c.specs.declared.joined.Joined.{Joined}
 use Rattle.wkt_c.specs.Column.{AreRows, IsRowAnswer, AreRowAnswers}
-use Rattle.wkt_c.specs.Joining.{HoldsNoList, AddsList}
 use Rattle.wkt_c.specs.declared.column.Rows.{Rows}
+use Rattle.wkt_c.specs.ColumnArrays.{RowArrays, ColumnArrays, IsRowArrays, AreRowArrays, as_column, IsRowText, AreRowTexts}
+use Rattle.wkt_c.specs.declared.column_arrays.ArrayRows.{ArrayRows}
+use Rattle.wkt_c.specs.declared.column_arrays.RowHead.{RowHead}
+use Rattle.wkt_c.specs.declared.column_texts.GivenRows.{GivenRows}
+
+-- Lists joined in a row as they grow. Only private contracts cite these words.
+
+-- Nothing but the first offset.
+pub record HoldsNoList {T : Type 0} (j : Joined T) : Type 0 where
+  pub no_items : j.items.items ≡ []
+  pub zero : j.ends.items ≡ 0 ∷ []
+
+-- A list was added.
+pub record AddsList {T : Type 0} (list : List T) (a b : Joined T) : Type 0 where
+  pub items_are : b.items.items ≡ a.items.items ++ list
+  pub ends_are : b.ends.items ≡ a.ends.items ++ length b.items.items ∷ []
+
+-- The answers to a column as they grow. Only private contracts cite these words.
 
 -- No row.
 pub record HoldsNoRow (r : Rows) : Type 0 where
@@ -33,3 +51,72 @@ module _ {N : Type 0} (whole : Bool) (read : List ℕ → Option N) (num : N →
   -- These are the answers to so many first rows.
   abbrev pub HoldsAnswers : List ℕ → List ℕ → List ℕ → ℕ → Rows → Type 0
   HoldsAnswers texts offsets valid rows r = AreRowAnswers whole read num texts offsets valid rows r.texts.items.items r.texts.ends.items r.statuses.items
+
+-- The arrays of a column as they grow. Only private contracts cite these words.
+
+-- Each part of the heads of rows.
+abbrev pub kinds_of : List RowHead → List ℕ
+kinds_of heads = map (λ h. h.kind) heads
+
+abbrev pub dimensions_of : List RowHead → List ℕ
+dimensions_of heads = map (λ h. h.dimension) heads
+
+abbrev pub statuses_of : List RowHead → List ℕ
+statuses_of heads = map (λ h. h.status) heads
+
+-- All that they hold.
+abbrev pub held_arrays : ArrayRows → ColumnArrays
+held_arrays r = record {
+  kinds = kinds_of r.heads.items;
+  dimensions = dimensions_of r.heads.items;
+  numbers = r.numbers.items.items;
+  number_ends = r.numbers.ends.items;
+  rings = r.rings.items.items;
+  ring_ends = r.rings.ends.items;
+  polygons = r.polygons.items.items;
+  polygon_ends = r.polygons.ends.items;
+}
+
+-- No row.
+pub record HoldsNoArrays (r : ArrayRows) : Type 0 where
+  pub no_numbers : HoldsNoList r.numbers
+  pub no_rings : HoldsNoList r.rings
+  pub no_polygons : HoldsNoList r.polygons
+  pub no_heads : r.heads.items ≡ []
+
+-- A row of these arrays and this status was added.
+pub record AddsArrays (row : RowArrays) (status : ℕ) (a b : ArrayRows) : Type 0 where
+  pub numbers_added : AddsList row.numbers a.numbers b.numbers
+  pub rings_added : AddsList row.rings a.rings b.rings
+  pub polygons_added : AddsList row.polygons a.polygons b.polygons
+  pub head_added : b.heads.items ≡ a.heads.items ++ record { kind = row.kind; dimension = row.dimension; status = status } ∷ []
+
+-- The parts of a row as one.
+abbrev pub row_of : ℕ → ℕ → List ℤ → List ℕ → List ℕ → RowArrays
+row_of k d ns rs ps = record { kind = k; dimension = d; numbers = ns; rings = rs; polygons = ps }
+
+-- The arrays of a row were added.
+pub record AddsRowArrays (places : ℕ) (whole null : Bool) (text : List ℕ) (a b : ArrayRows) : Type 0 where
+  pub row : RowArrays
+  pub status : ℕ
+  pub is : IsRowArrays places whole null text row status
+  pub added : AddsArrays row status a b
+
+-- These are the arrays of so many first rows.
+abbrev pub HoldsArrays : ℕ → Bool → List ℕ → List ℕ → List ℕ → ℕ → ArrayRows → Type 0
+HoldsArrays places whole texts offsets valid rows r = AreRowArrays places whole texts offsets valid rows (held_arrays r) (statuses_of r.heads.items)
+
+-- The texts of a column of arrays as they grow. Only private contracts cite these words.
+
+-- The arrays of the caller's.
+abbrev pub given_arrays : GivenRows → ColumnArrays
+given_arrays g =
+    as_column g.kinds.now g.dimensions.now g.numbers.now g.number_offsets.now g.rings.now g.ring_offsets.now g.polygons.now g.polygon_offsets.now
+
+-- The text of a row was added.
+abbrev pub AddsArraysText : ℕ → Bool → RowArrays → Rows → Rows → Type 0
+AddsArraysText places null row a b = AddsAnswerRow (λ answer status. IsRowText places null row answer status) a b
+
+-- These are the texts of so many first rows.
+abbrev pub HoldsTexts : ℕ → ColumnArrays → List ℕ → ℕ → Rows → Type 0
+HoldsTexts places arrays valid rows r = AreRowTexts places arrays valid rows r.texts.items.items r.texts.ends.items r.statuses.items

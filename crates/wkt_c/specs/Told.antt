@@ -1,7 +1,7 @@
 -- What a caller is answered who gave arrays. Only private contracts cite these words.
 use Rattle.std.specs.Prelude.{◌≡◌, ◌≢◌, ◌⊎◌, ◌≤◌, ℕ, ℤ, List}
 use Rattle.wkt_calls.specs.Answer.{IsHandedOut, HasNoRoom}
-use Rattle.wkt_c.specs.Texts.{IsTextOf, IsNoTextAt}
+use Rattle.wkt_c.specs.ColumnArrays.{IsTextOf, IsNoTextAt}
 
 -- Memory ran out, or what was asked for isn't there.
 abbrev pub IsRefused : Type 0 → ℕ → Type 0

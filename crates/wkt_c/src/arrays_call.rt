@@ -1,7 +1,7 @@
 //! The arrays of one text of any length, for a caller's buffers.
 ghost use Rattle.std.specs.Prelude.{◌≤◌};
 ghost use Rattle.wkt_calls.specs.Answer.{places_in};
-ghost use Rattle.wkt_calls.specs.ArraysCall.{AnswersArrays};
+ghost use Rattle.wkt_calls.specs.Arrays.{AnswersArrays};
 
 use crate::arrays_room::ArraysRoom;
 use std::alloc::Global;

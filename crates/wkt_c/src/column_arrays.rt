@@ -2,8 +2,8 @@
 ghost use Rattle.std.specs.Prelude.{◌≡◌, ◌≤◌, MatchResult, [], false, length};
 ghost use Rattle.wkt_calls.specs.Answer.{places_in, asks_whole};
 ghost use Rattle.wkt_c.specs.Column.{AreOffsets, HasBits, row_count};
-ghost use Rattle.wkt_calls.specs.Flat.{IsFlatPoint};
-ghost use Rattle.wkt_c.specs.ArrayRows.{HoldsNoArrays, AddsArrays, AddsRowArrays, HoldsArrays, row_of, kinds_of, dimensions_of, statuses_of};
+ghost use Rattle.wkt_calls.specs.Arrays.{IsFlatPoint};
+ghost use Rattle.wkt_c.specs.Rows.{HoldsNoArrays, AddsArrays, AddsRowArrays, HoldsArrays, row_of, kinds_of, dimensions_of, statuses_of};
 
 use crate::arrays_room::ArraysRoom;
 use crate::column::{GivenColumn, is_null};

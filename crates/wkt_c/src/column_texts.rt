@@ -3,8 +3,7 @@ ghost use Rattle.std.specs.Prelude.{◌≡◌, ◌↔◌, ◌⊎◌, ◌≤◌, 
 ghost use Rattle.wkt_calls.specs.Answer.{HasNoPlaces};
 ghost use Rattle.wkt_c.specs.Column.{AreOffsets, row_count, is_null};
 ghost use Rattle.wkt_c.specs.ColumnArrays.{AreArrayColumn, IsArrayColumn, HasOffsets};
-ghost use Rattle.wkt_c.specs.ArrayRows.{row_of};
-ghost use Rattle.wkt_c.specs.TextRows.{given_arrays, AddsArraysText, HoldsTexts};
+ghost use Rattle.wkt_c.specs.Rows.{row_of, given_arrays, AddsArraysText, HoldsTexts};
 
 use crate::column::{Rows, are_offsets, has_bits, is_null};
 use crate::told::{GivenArrays, told};

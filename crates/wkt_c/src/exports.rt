@@ -3,11 +3,10 @@ ghost use Rattle.std.specs.Prelude.{◌≡◌, ◌≤◌, ◌≢◌, ◌+◌, �
 ghost use Rattle.wkt_lines.specs.Output.{IsOutput};
 ghost use Rattle.wkt_calls.specs.Answer.{read_at, print_at, places_in, asks_whole, EndsAsAsked, IsCanonicalOf, HasMore, Compares, RefusesAt, RefusesOneAt, IsHeaderOf, NamesNone, HasNoPlaces, IsHandedOut, HasNoRoom, same_number};
 ghost use Rattle.wkt_c.specs.Chunks.{AnswersSome, AnswersNone};
-ghost use Rattle.wkt_calls.specs.Chunks.{ends_here};
+ghost use Rattle.wkt_calls.specs.Calls.{ends_here};
 ghost use Rattle.wkt_c.specs.Column.{AreColumnAnswers, IsColumn, IsNoColumn, row_count};
-ghost use Rattle.wkt_c.specs.Texts.{IsTextOf, IsNoTextAt};
-ghost use Rattle.wkt_calls.specs.Arrays.{IsNotFlat, HasMoreAt};
-ghost use Rattle.wkt_calls.specs.Sizes.{AreHandedOut, HaveNoRoom};
+ghost use Rattle.wkt_c.specs.ColumnArrays.{IsTextOf, IsNoTextAt};
+ghost use Rattle.wkt_calls.specs.Arrays.{IsNotFlat, HasMoreAt, AreHandedOut, HaveNoRoom};
 
 use crate::arrays_call::arrays_long;
 use crate::canonical::canonical;

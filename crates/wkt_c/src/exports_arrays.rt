@@ -2,7 +2,7 @@
 ghost use Rattle.wkt_calls.specs.Answer.{IsHandedOut, HasNoRoom};
 ghost use Rattle.std.specs.Prelude.{◌≡◌, ◌≤◌, ◌≢◌, ◌⊎◌, ℕ, List, length};
 ghost use Rattle.wkt_c.specs.ColumnArrays.{ColumnArrays, AreColumnArrays, AreFilled, FillColumn, LackRoom, HasNoArrays, IsTextColumn, IsArrayColumn, AreColumnTexts, HasNoTexts, as_column};
-ghost use Rattle.wkt_c.specs.ArrayRows.{held_arrays, statuses_of};
+ghost use Rattle.wkt_c.specs.Rows.{held_arrays, statuses_of};
 
 use crate::column::{GivenColumn, is_column};
 use crate::column_arrays::{ArrayRows, all_arrays, copy_heads};

@@ -1,6 +1,6 @@
 //! Lists joined in a row.
 ghost use Rattle.std.specs.Prelude.{◌≡◌, ◌++◌, ◌∷◌, [], MatchResult};
-ghost use Rattle.wkt_c.specs.Joining.{HoldsNoList, AddsList};
+ghost use Rattle.wkt_c.specs.Rows.{HoldsNoList, AddsList};
 
 use std::alloc::Global;
 use wkt_calls::status::MEMORY;

@@ -2,9 +2,9 @@
 ghost use Rattle.std.specs.Prelude.{◌≡◌, ◌≤◌, ◌+◌, ◌*◌, length, vec_len, OnOk, IfOk, IfErr, IfSome};
 ghost use Rattle.wkt_access.specs.declared.dimensions.Dimension.{Dimension};
 ghost use Rattle.wkt_types.specs.declared.geometry_type.GeometryType.{GeometryType};
-ghost use Rattle.wkt_canonical.specs.Pens.{IsWithin, written_of};
+ghost use Rattle.wkt_canonical.specs.PenMaker.{IsWithin, written_of};
 ghost use Rattle.wkt_calls.specs.Answer.{kind_number, dimension_number};
-ghost use Rattle.wkt_c.specs.Texts.{IsTextOf, AreOfSome};
+ghost use Rattle.wkt_c.specs.ColumnArrays.{IsTextOf, AreOfSome};
 ghost use Rattle.wkt_c.specs.Told.{IsRefused, CopiesOutText};
 
 use std::alloc::Global;

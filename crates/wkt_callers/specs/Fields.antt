@@ -7,7 +7,7 @@ use Rattle.wkt.specs.Wkt.{Wkt}
 use Rattle.wkt.specs.Answered.{IsFront, OnText}
 use Rattle.wkt.specs.Front.{HasNoFront}
 use Rattle.wkt.specs.ReadError.{ReadError}
-use Rattle.wkt.specs.Json.{AsText}
+use Rattle.wkt.specs.FromText.{AsText}
 use Rattle.wkt.specs.declared.json.ValueError.{ValueError}
 
 module _ {T : Type 0} (read : List ℕ → Option T) where

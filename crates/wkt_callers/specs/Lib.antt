@@ -1,11 +1,6 @@
 pub mod Fronts
-pub mod Tidy
-pub mod Compared
 pub mod Mine
-pub mod Lined
 pub mod Fields
-pub mod Copied
-pub mod FlatKey
 pub mod Keys
-pub mod Boxed
+pub mod Copied
 pub mod Scene

@@ -4,7 +4,7 @@ ghost use Rattle.std.specs.List.{All};
 ghost use Rattle.wkt.specs.Sink.{Adds, Breaks};
 ghost use Rattle.wkt.specs.Faults.{fault};
 ghost use Rattle.wkt.specs.Writes.{IfFault, OnFmtError};
-ghost use Rattle.wkt_callers.specs.Lined.{lined, StoppedAt};
+ghost use Rattle.wkt_callers.specs.Keys.{lined, StoppedAt};
 
 use wkt::error::Error;
 use wkt::geo_traits::GeometryCollectionTrait;

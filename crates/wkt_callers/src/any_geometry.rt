@@ -6,7 +6,7 @@ use wkt::geo_traits::{GeometryTrait, GeometryType};
 
 /// The first member of a collection. `None` where the geometry has no members: a collection without
 /// any, or another kind.
-#[tactic(auto, using(crate::proofs::Counted::members_counted))]
+#[tactic(auto, using(crate::proofs::Groups::members_counted))]
 pub fn first_member<G: GeometryTrait>(geometry: &G) -> Option<&G>
     ensures none { IfNone result (length (members_of (G.shape geometry.now)) ≡ 0) }
     ensures first { IfSome result (λ g. slice_get (members_of (G.shape geometry.now)) 0 ≡ Some (G.shape g.now)) }

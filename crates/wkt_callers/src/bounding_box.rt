@@ -1,6 +1,6 @@
 //! The bounding box of a text.
 ghost use Rattle.std.specs.Prelude.{IfOk};
-ghost use Rattle.wkt_callers.specs.Boxed.{IsBox};
+ghost use Rattle.wkt_callers.specs.Copied.{IsBox};
 
 use std::alloc::Global;
 use wkt::geo_types::{Geometry, Rect};

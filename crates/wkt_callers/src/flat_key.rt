@@ -3,7 +3,7 @@ ghost use Rattle.std.specs.Prelude.{◌≡◌, IfOk, IfErr, string_bytes};
 ghost use Rattle.wkt.specs.FlatTree.{flat_tree};
 ghost use Rattle.wkt.specs.Back.{wkt_text};
 ghost use Rattle.wkt.specs.Sent.{IsMemory};
-ghost use Rattle.wkt_callers.specs.FlatKey.{NamesPlain};
+ghost use Rattle.wkt_callers.specs.Keys.{NamesPlain};
 
 use std::alloc::Global;
 use wkt::error::Error;

@@ -4,7 +4,7 @@ ghost use Rattle.wkt.specs.FlatTree.{flat_tree};
 ghost use Rattle.wkt.specs.TreeValues.{tree_shape};
 ghost use Rattle.wkt.specs.Back.{back, wkt_text};
 ghost use Rattle.wkt.specs.Sent.{Sends, IfShape};
-ghost use Rattle.wkt_callers.specs.FlatKey.{NamesPlain};
+ghost use Rattle.wkt_callers.specs.Keys.{NamesPlain};
 
 use std::alloc::Global;
 use wkt::geo_types::Geometry;

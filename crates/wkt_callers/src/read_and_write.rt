@@ -5,7 +5,7 @@ ghost use Rattle.wkt.specs.Front.{HasNoFront};
 ghost use Rattle.wkt.specs.Dimension.TheVariants.{XY};
 ghost use Rattle.wkt.specs.Tree.{tree, members, collection};
 ghost use Rattle.wkt.specs.CanonicalText.{IsCanonical};
-ghost use Rattle.wkt_callers.specs.Tidy.{IsTidyPair};
+ghost use Rattle.wkt_callers.specs.Fronts.{IsTidyPair};
 
 use std::alloc::{AllocError, Global};
 use wkt::laws::read_values_are_writable;

@@ -2,7 +2,7 @@
 ghost use Rattle.std.specs.Prelude.{◌⊎◌, IfOk};
 ghost use Rattle.wkt.specs.Answered.{OnText};
 ghost use Rattle.wkt.specs.Front.{HasNoFront};
-ghost use Rattle.wkt_callers.specs.Compared.{ComparesTexts};
+ghost use Rattle.wkt_callers.specs.Fronts.{ComparesTexts};
 
 use crate::read_and_write::tidy;
 use std::alloc::Global;

@@ -1,9 +1,3 @@
 pub mod CopiedOut
-pub mod LastByte
-pub mod Filled
-pub mod FlatPoints
-pub mod Pieces
-pub mod StatusOfMessage
 pub mod Padded
-pub mod AsciiWindows
-pub mod Copied
+pub mod Pieces

@@ -1,4 +1,4 @@
--- What stands behind a NUL is in no front.
+-- What stands behind a NUL is in no front, and the status of a refused text is the number of its message.
 use Rattle.std.proofs.Common.{◌≡◌, ◌+◌, ◌<◌, inl, inr, ℕ, zero, suc, get_or, replicate, take, drop, length-drop, IsUtf8, List, [], ◌∷◌, ◌++◌, Option, refl, sym, ap, ◌∙◌, subst, length, arith, ◌≤◌}
 use Rattle.std.specs.Str.{IsAscii}
 use Rattle.std.proofs.lemmas.List.{get_or-drop}
@@ -12,11 +12,17 @@ use Rattle.wkt_read.specs.Lexemes.{IsSplit}
 use Rattle.wkt_read.specs.Refusal.{IsRefusedWith}
 use Rattle.wkt_read.specs.Spanned.{Spanned, lexemes_of, end_after, AreEnds, joined, after_run, front, spanned_from, spanned}
 use Rattle.wkt_read.specs.declared.messages.Message.{Message}
-use Rattle.wkt_read.proofs.LawLemmas.FrontEnds.{front-of-lexemes}
-use Rattle.wkt_read.proofs.LawLemmas.Fronts.{taken_begin, front_one}
+use Rattle.wkt_read.proofs.LawLemmas.HeaderPlaces.{front-of-lexemes}
+use Rattle.wkt_read.proofs.LawLemmas.OneForm.{taken_begin, front_one}
 use Rattle.wkt_read.proofs.LawLemmas.Splits.{split_one}
 use Rattle.wkt_read.proofs.TokenizerLemmas.Placings.{spanned-split, spanned-ends}
 use Rattle.wkt_calls.specs.Calls.{IsWalkedFor}
+use Rattle.wkt_read.specs.Messages.{message_number}
+use Rattle.wkt_read.proofs.Refusals.{with_bad}
+use Rattle.wkt_calls.specs.Answer.{RefusesText}
+use Rattle.wkt_read.specs.declared.messages.Message.TheVariants as message
+
+-- What stands behind a NUL is in no front.
 
 front-nul : (at : ℕ) (text more : List ℕ) → front at (text ++ (0 ∷ more)) ≡ front at text
 unfolding front class_of
@@ -101,3 +107,32 @@ module _ (text near : List ℕ) (room : length text + 32 ≤ length near) (zeros
 -- the front of bytes that is all of ASCII
 pub front-utf8 : (xs ys : List ℕ) (n : ℕ) → n ≡ length xs → IsAscii (take n (xs ++ ys)) → IsUtf8 xs
 front-utf8 xs ys n e h = IsUtf8-from_ascii xs (subst IsAscii (ap (λ k. take k (xs ++ ys)) e ∙ take-append_seam xs ys) h)
+
+-- The status of a refused text is the number of its message.
+
+bad-number : (m : Message) → message_number m ≡ 13 → m ≡ message.BadNumber
+bad-number message.Format e = absurd (omega (arith, e))
+bad-number message.NonAscii e = absurd (omega (arith, e))
+bad-number message.Kind e = absurd (omega (arith, e))
+bad-number message.Word e = absurd (omega (arith, e))
+bad-number message.End e = absurd (omega (arith, e))
+bad-number message.Open e = absurd (omega (arith, e))
+bad-number message.Close e = absurd (omega (arith, e))
+bad-number message.X e = absurd (omega (arith, e))
+bad-number message.Y e = absurd (omega (arith, e))
+bad-number message.Z e = absurd (omega (arith, e))
+bad-number message.M e = absurd (omega (arith, e))
+bad-number message.Member e = absurd (omega (arith, e))
+bad-number message.BadNumber e = refl
+
+pub refused-with : {N : Type 0} (read : List ℕ → Option N) (text : List ℕ) (m : Message) (status : ℕ) → HasNoFront read text → IsRefusedWith read text m →
+    status ≡ message_number m → 1 ≤ status → status ≤ 13 → RefusesText read text status
+refused-with read text m status none reported is least most =
+    record {
+      no_front = λ _ _. none;
+      message = λ _ _. (m, is, reported);
+      bad = λ k. with_bad read text m reported (bad-number m (sym is ∙ k));
+      not_utf8 = λ k _. omega (arith, k, most);
+      others = inl (omega (arith, most));
+      some = least;
+    }

@@ -1,17 +1,25 @@
--- Lines that are answered piece by piece.
-use Rattle.std.proofs.Common.{◌≡◌, ◌+◌, ◌-◌, ◌<◌, ◌≤◌, ◌++◌, ◌⊎◌, inl, inr, ℕ, zero, suc, List, [], ◌∷◌, Option, Bool, length, take, drop, get_or, refl, sym, ap, ◌∙◌, subst, arith, append_assoc, length-take, length-drop, length-append}
+-- Bytes that are copied and lines that are answered piece by piece.
+use Rattle.std.proofs.Common.{◌≡◌, ◌+◌, ◌-◌, ◌<◌, ◌≤◌, ◌++◌, ◌⊎◌, inl, inr, ℕ, zero, suc, List, [], ◌∷◌, Option, Bool, length, take, drop, get_or, refl, sym, ap, ◌∙◌, subst, arith, append_assoc, length-drop, length-append, ◌%◌, ◌^◌, replicate, cond, map, w8, nat_lt, drop-cons, IsUtf8}
 use Rattle.std.specs.Prelude.{◌==◌, if◌then◌else◌, true, false}
-use Rattle.std.proofs.lemmas.List.{append-nil, take_all}
+use Rattle.std.proofs.lemmas.List.{length-take, append-nil, take_all, length-map, get_or-take, get_or_past, drop_all, take-append-drop}
 use Rattle.std.proofs.lemmas.Bool.Decides.{eqb_tells}
-use Rattle.std.proofs.Math.Seq.{take-add}
+use Rattle.std.proofs.Math.Seq.{take-add, take-append_seam}
+use Rattle.std.specs.Str.{IsAscii}
+use Rattle.std.proofs.lemmas.Simd.{length-chunk, tops_compared, zip2_splat_left, mask_l-mod, none_from_empty_mask}
+use Rattle.std.proofs.lemmas.Str.{IsUtf8-from_ascii}
+use Rattle.std.proofs.lemmas.Slice.{take-put_mid, drop-put_mid, drop-append-drop}
+use borrow.Author.Tests.{ltb-false}
+use lib.Lanes.{zip2, chunk, mask_l, top}
+use mir.Val.{bits, hbits}
+use borrow.Rule.Slice.PartMut.{put_mid}
 use Rattle.wkt_lines.specs.Laws.{IsWholeLines, OutputOfParts}
-use Rattle.wkt_lines.specs.Output.{IsOutput}
-use Rattle.wkt_lines.specs.Lines.{input_lines}
+use Rattle.wkt_lines.specs.Output.{IsOutput, IsAnswer}
+use Rattle.wkt_lines.specs.Lines.{input_lines, before_feed, after_feed}
 use Rattle.wkt_lines.specs.Replies.{AreReplies}
-use Rattle.wkt_lines.specs.Splitting.{before_feed, after_feed}
-use Rattle.wkt_lines.proofs.FirstLineAndRest.{lines_step}
-use Rattle.wkt_lines.specs.Output.{IsAnswer}
-use Rattle.wkt_calls.specs.Chunks.{AreWholeLines}
+use Rattle.wkt_lines.proofs.OutputOfParts.{lines_step}
+use Rattle.wkt_calls.specs.Calls.{AreWholeLines}
+
+-- Lines that are answered piece by piece.
 
 -- the output for a piece more
 pub more_output : {N : Type 0} (read : List ℕ → Option N) (num : N → List ℕ) → OutputOfParts read num → (input : List ℕ) (taken piece : ℕ) (x v : List ℕ) →
@@ -190,3 +198,59 @@ module _ (last : Bool) (input : List ℕ) (at : ℕ) where
 -- nothing is the output for nothing
 pub no-output : {N : Type 0} (read : List ℕ → Option N) (num : N → List ℕ) (input x : List ℕ) → IsOutput read num (take 0 input) x → x ≡ []
 no-output read num input x h = h
+
+-- A window of bytes of which none is above 127.
+
+high-mask : (xs : List ℕ) → length xs ≡ 32 → mask_l (map (top (hbits w8)) (zip2 (λ a b. cond (nat_lt a b) (2 ^ bits w8 - 1) 0) (replicate 32 127) xs)) % 2 ^ 64 ≡ mask_l (map (λ x. nat_lt 127 x) xs)
+high-mask xs long =
+    ap (λ ms. mask_l ms % 2 ^ 64) (tops_compared w8 nat_lt (replicate 32 127) xs ∙ zip2_splat_left nat_lt 127 32 xs long)
+    ∙ mask_l-mod (map (λ x. nat_lt 127 x) xs) 64 (omega (arith, length-map xs (λ x. nat_lt 127 x), long))
+
+pub window-below : (bs : List ℕ) (at : ℕ) → at + 32 ≤ length bs → ((k : ℕ) → k < at → get_or bs k 0 < 128)
+    → mask_l (map (top (hbits w8)) (zip2 (λ a b. cond (nat_lt a b) (2 ^ bits w8 - 1) 0) (replicate 32 127) (chunk at 32 bs))) % 2 ^ 64 ≡ 0
+    → (k : ℕ) → k < at + 32 → get_or bs k 0 < 128
+window-below bs at room before e k less = elim (less-or k at) [
+  | inl h ↦ before k h
+  | inr h ↦
+      let none = sym (high-mask (chunk at 32 bs) (length-chunk at 32 bs room)) ∙ e in
+      let le : get_or bs k 0 ≤ 127 = ltb-false 127 (get_or bs k 0) (none_from_empty_mask (λ x. nat_lt 127 x) bs at 32 0 room none k h less) in
+      omega (arith, le)
+]
+
+-- the first of some bytes that are below
+pub front-below : (bs : List ℕ) (n at : ℕ) → n ≤ at → ((k : ℕ) → k < at → get_or bs k 0 < 128) → IsAscii (take n bs)
+front-below bs n at le below = λ i. elim (less-or i n) [
+  | inl h ↦ omega (arith, get_or-take n bs i 0 h, below i (omega (arith, h, le)))
+  | inr h ↦ omega (arith, get_or_past (take n bs) i 0 (omega (arith, h, length-take n bs)))
+]
+
+-- The last byte of a text, where it is of ASCII, is text.
+
+single : (b : ℕ) → b < 128 → IsAscii (b ∷ [])
+single b low zero = low
+single b low (suc i) = omega arith
+
+pub last-ascii : (text : List ℕ) (end : ℕ) → end + 1 ≡ length text → get_or text end 0 < 128 → IsUtf8 (drop end text)
+last-ascii text end long low =
+    let inside : end < length text = omega (arith, long) in
+    let over : length text ≤ suc end = omega (arith, long) in
+    let one : drop end text ≡ get_or text end 0 ∷ [] = drop-cons text end 0 inside ∙ ap (λ (l : List ℕ). get_or text end 0 ∷ l) (drop_all (suc end) text over) in
+    subst IsUtf8 (sym one) (IsUtf8-from_ascii (get_or text end 0 ∷ []) (single (get_or text end 0) low))
+
+-- A list that is copied piece by piece.
+
+-- one piece more
+pub copied-piece : {A : Type 0} (at end : ℕ) (list old out ys : List A) → at ≤ end → end ≤ length list → length list ≤ length old → out ≡ take at list ++ drop at old →
+    ys ≡ take (end - at) (drop at list) → put_mid at (end - at) out ys ≡ take end list ++ drop end old
+copied-piece at end list old out ys order within fits e f =
+    let before : length (take at list) ≡ at = omega (arith, length-take at list, order, within) in
+    let long : length out ≡ length old = omega (arith, ap length e, length-append (take at list) (drop at old), before, length-drop at old, order, within, fits) in
+    let piece : length ys ≡ end - at = omega (arith, ap length f, length-take (end - at) (drop at list), length-drop at list, order, within) in
+    let seam : take at (take at list ++ drop at old) ≡ take at list =
+    ap (λ n. take n (take at list ++ drop at old)) {x = at} {y = length (take at list)} (omega (arith, before)) ∙ take-append_seam (take at list) (drop at old) in
+    let front : take end (put_mid at (end - at) out ys) ≡ take end list =
+    take-put_mid at (end - at) out ys end (omega (arith, piece, order)) (omega (arith, long, order, within, fits))
+    ∙ ap (λ l. take at l ++ ys) e ∙ ap (λ l. l ++ ys) seam ∙ ap (λ l. take at list ++ l) f ∙ sym (take-add at (end - at) list) ∙ ap (λ n. take n list) {x = at + (end - at)} {y = end} (omega (arith, order)) in
+    let back : drop end (put_mid at (end - at) out ys) ≡ drop end old =
+    drop-put_mid at (end - at) out ys end (omega (arith, order)) (omega (arith, long, order, within, fits)) piece ∙ ap (λ l. drop end l) e ∙ drop-append-drop at old (take at list) end order before in
+    sym (take-append-drop end (put_mid at (end - at) out ys)) ∙ ap (λ l. l ++ drop end (put_mid at (end - at) out ys)) front ∙ ap (λ l. take end list ++ l) back

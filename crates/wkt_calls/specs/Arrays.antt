@@ -1,12 +1,18 @@
--- A value as flat arrays.
-use Rattle.std.specs.Prelude.{◌≡◌, ◌⊎◌, ℕ, ℤ, List, Some, None, IsUtf8, Bool}
+-- A value as flat arrays, handed to the buffers of the caller.
+use Rattle.std.specs.Prelude.{◌≡◌, ◌⊎◌, ℕ, ℤ, List, Some, None, IsUtf8, Bool, [], ◌∷◌, ◌<◌, length, ◌≢◌, ◌≤◌}
 use Rattle.wkt_num.specs.Decimal.{IsUnits}
 use Rattle.wkt_access.specs.Values.{Value}
 use Rattle.wkt_access.specs.WellFormed.{IsWellFormed}
 use Rattle.wkt_read.specs.Front.{Front}
 use Rattle.wkt_read.specs.Kinds.{kind_of, dim_of}
+use Rattle.wkt_calls.specs.Answer.{read_at, kind_number, dimension_number, HasNoPlaces, RefusesText, HasMore, with_front, places_in, asks_whole, EndsAsAsked}
+use Rattle.wkt_machine.specs.declared.points.FastPoint.{FastPoint}
+use Rattle.wkt_fill.specs.Filled.{view}
+use Rattle.wkt_calls.specs.declared.flat.Flat.{Flat}
+use Rattle.wkt_calls.specs.declared.sizes.WktSizes.{WktSizes}
 pub use Rattle.wkt_fill.specs.Arrays.{parts_of, joined, offsets, numbers_in, HasLarge, HasLargeNumber}
-use Rattle.wkt_calls.specs.Answer.{read_at, kind_number, dimension_number, HasNoPlaces, RefusesText, HasMore}
+
+-- A value as flat arrays.
 
 -- The arrays of a value: its kind, its dimension, all its numbers in order, where each ring begins among the coordinates, and where each polygon begins among the rings, with the end of the last.
 pub record AreArrays {N : Type 0} (value : Value N) (kind dimension : ℕ) (numbers : List N) (rings polygons : List ℕ) : Type 0 where
@@ -40,3 +46,49 @@ HasMoreAt places whole text end = HasMore (read_at places) whole text end
 -- Why a text has no arrays: there are no numbers of so many places, its front is a collection, a number has more units than 64 bits hold, or the text is refused.
 abbrev pub IsNotFlat : ℕ → List ℕ → ℕ → Type 0
 IsNotFlat places text status = HasNoPlaces places status ⊎ (IsNoArrays places text status ⊎ RefusesText (read_at places) text status)
+
+-- What is known of flat arrays.
+
+-- They are those of the text's front.
+abbrev pub IsFlat : ℕ → List ℕ → Flat → Type 0
+IsFlat places text f = AreOf places text f.end f.kind f.dimension (view f.arrays).flat.numbers (view f.arrays).flat.rings (view f.arrays).flat.polygons
+
+-- They are those of a point of two numbers, which is the text's front.
+abbrev pub IsFlatPoint : ℕ → List ℕ → FastPoint → Type 0
+IsFlatPoint places text p = AreOf places text p.end 0 0 (p.x ∷ p.y ∷ []) (0 ∷ 1 ∷ []) (0 ∷ 1 ∷ [])
+
+-- Arrays handed to the caller's buffers.
+
+-- The arrays of the text's front, and the sizes that are returned.
+pub record AreReported (places : ℕ) (text : List ℕ) (s : WktSizes) : Type 0 where
+  pub ns : List ℤ
+  pub rs : List ℕ
+  pub ps : List ℕ
+  pub arrays : AreOf places text s.end s.kind s.dimension ns rs ps
+  pub numbers : s.numbers ≡ length ns
+  pub rings : s.rings ≡ length rs
+  pub polygons : s.polygons ≡ length ps
+
+-- They stand at the fronts of the buffers.
+pub record AreHandedOut (places : ℕ) (text : List ℕ) (s : WktSizes) (numbers numbers' : List ℤ) (rings rings' polygons polygons' : List ℕ) : Type 0 where
+  pub reported : AreReported places text s
+  pub numbers_in : numbers' ≡ with_front reported.ns numbers
+  pub rings_in : rings' ≡ with_front reported.rs rings
+  pub polygons_in : polygons' ≡ with_front reported.ps polygons
+
+-- A buffer has no room for its array.
+pub record HaveNoRoom (places : ℕ) (text : List ℕ) (s : WktSizes) (numbers : List ℤ) (rings polygons : List ℕ) : Type 0 where
+  pub reported : AreReported places text s
+  pub small : (length numbers < length reported.ns) ⊎ ((length rings < length reported.rs) ⊎ (length polygons < length reported.ps))
+
+-- What a call for the arrays of a text returns.
+
+-- By its status, what a call says of a text, and what is in the buffers then.
+pub record AnswersArrays (asked : ℕ) (text : List ℕ) (status : ℕ) (sizes sizes' : WktSizes) (numbers numbers' : List ℤ) (rings rings' polygons polygons' : List ℕ) : Type 0 where
+  pub filled : status ≡ 0 → AreHandedOut (places_in asked) text sizes' numbers numbers' rings rings' polygons polygons'
+  pub small : status ≡ 21 → HaveNoRoom (places_in asked) text sizes' numbers rings polygons
+  pub as_asked : (status ≡ 0) ⊎ (status ≡ 21) → EndsAsAsked (asks_whole asked) text sizes'.end
+  pub more : status ≡ 30 → HasMoreAt (places_in asked) (asks_whole asked) text sizes'.end
+  pub others : 1 ≤ status → status ≢ 21 → status ≢ 30 → IsNotFlat (places_in asked) text status
+  pub kept : 1 ≤ status → (numbers' ≡ numbers) × (rings' ≡ rings) × (polygons' ≡ polygons)
+  pub sizes_kept : 1 ≤ status → status ≢ 21 → status ≢ 30 → sizes' ≡ sizes

@@ -1,11 +1,16 @@
--- What the calls for canonical texts answer.
-use Rattle.std.specs.Prelude.{◌≡◌, ◌≢◌, ◌≤◌, ◌+◌, ◌*◌, ◌++◌, ◌⊎◌, ℕ, List, ◌∷◌, length, take, Option, Result, Ok, Err, MatchResult}
+-- What the calls for canonical texts answer, and the answers to some lines at the front of an input.
+use Rattle.std.specs.Prelude.{◌≡◌, ◌≢◌, ◌≤◌, ◌+◌, ◌*◌, ◌++◌, ◌⊎◌, ℕ, List, ◌∷◌, length, take, Option, Result, Ok, Err, MatchResult, ◌-◌, ◌<◌, zero, suc, Bool, true, false, drop}
 use Rattle.wkt_read.specs.Front.{HasNoFront}
 use Rattle.wkt_read.specs.Refusal.{IsRefusedWith}
 use Rattle.wkt_read.specs.declared.messages.Message.{Message}
 use Rattle.wkt_canonical.specs.Canonical.{IsCanonicalTo}
 use Rattle.wkt_calls.specs.Answer.{read_at, print_at, places_in, asks_whole, EndsAsAsked, IsCanonicalOf, HasMore, Compares, RefusesText, IsHandedOut, HasNoRoom}
 use Rattle.wkt_calls.specs.declared.canonical.Compared.{Compared}
+use Rattle.wkt_lines.specs.Laws.{IsWholeLines}
+use Rattle.wkt_lines.specs.Output.{IsOutput}
+use Rattle.wkt_lines.specs.Lines.{before_feed}
+
+-- What the calls for canonical texts answer.
 
 -- The bytes are the text, or the text, a NUL and more. Only private contracts cite this.
 abbrev pub IsWalkedFor : List ℕ → List ℕ → Type 0
@@ -41,3 +46,34 @@ pub record AnswersCanonical (asked : ℕ) (text : List ℕ) (status : ℕ) (out 
 -- Two texts were compared.
 abbrev pub AreCompared : ℕ → List ℕ → List ℕ → Compared → Type 0
 AreCompared asked one other c = Compares (read_at (places_in asked)) (print_at (places_in asked)) one other c.end c.other_end c.same
+
+-- The answers to some lines at the front of an input.
+
+-- So many bytes at the front are whole lines, or all of the input, where it ends here.
+abbrev pub AreWholeLines : Bool → List ℕ → ℕ → Type 0
+AreWholeLines last input n = IsWholeLines (take n input) ⊎ ((last ≡ true) × (n ≡ length input))
+
+-- So many bytes are the first line with its feed, or all of the input, where that ends here and has no feed.
+abbrev pub IsFirstLine : Bool → List ℕ → ℕ → Type 0
+IsFirstLine last input n =
+    ((n ≡ length (before_feed input) + 1) × (n ≤ length input)) ⊎ ((last ≡ true) × (n ≡ length input) × (before_feed input ≡ input))
+
+-- There is no whole line, or a buffer of that size may have no room for the answer to the first.
+abbrev pub IsChunkStuck : Bool → List ℕ → ℕ → Type 0
+IsChunkStuck last input room =
+    (length input ≡ 0) ⊎ (((last ≡ false) × (before_feed input ≡ input)) ⊎ ((n : ℕ) × IsFirstLine last input n × (room < 2 * n + 65)))
+
+module _ {N : Type 0} (read : List ℕ → Option N) (num : N → List ℕ) where
+  -- So many bytes of the input are taken, which are whole lines, and the first `written` bytes of the buffer are the answers to them.
+  pub record AnswersSure (last : Bool) (input : List ℕ) (taken written : ℕ) (out : List ℕ) : Type 0 where
+    pub within : taken ≤ length input
+    pub lines : AreWholeLines last input taken
+    pub fits : written ≤ length out
+    pub answers : IsOutput read num (take taken input) (take written out)
+    -- What is left has no whole line at its front, or the first may have no room.
+    pub stuck : IsChunkStuck last (drop taken input) (length out - written)
+
+-- Whether the input ends here.
+abbrev pub ends_here : ℕ → Bool
+ends_here zero = false
+ends_here (suc n) = true

@@ -1,10 +1,7 @@
 //! The arrays of one text, for a caller's buffers.
 ghost use Rattle.std.specs.Prelude.{◌≡◌, ◌≤◌, ◌≢◌, ◌⊎◌};
 ghost use Rattle.wkt_calls.specs.Answer.{places_in, asks_whole, EndsAsAsked};
-ghost use Rattle.wkt_calls.specs.Arrays.{IsNotFlat, HasMoreAt};
-ghost use Rattle.wkt_calls.specs.ArraysCall.{AnswersArrays};
-ghost use Rattle.wkt_calls.specs.Flat.{IsFlatPoint};
-ghost use Rattle.wkt_calls.specs.Sizes.{AreHandedOut, HaveNoRoom};
+ghost use Rattle.wkt_calls.specs.Arrays.{IsNotFlat, HasMoreAt, AnswersArrays, IsFlatPoint, AreHandedOut, HaveNoRoom};
 
 use crate::asked::ends_as_asked;
 use crate::fill::{copy_to_front, put_two};

@@ -2,8 +2,7 @@
 ghost use Rattle.std.specs.Prelude.{◌≡◌, ◌≤◌, ◌↔◌, IsTrue, IsUtf8, IfSome, MatchResult, length, drop, true};
 ghost use Rattle.wkt_read.specs.Front.{HasNoFront};
 ghost use Rattle.wkt_calls.specs.Answer.{places_in, read_at, RefusesText};
-ghost use Rattle.wkt_calls.specs.Flat.{IsFlat, IsFlatPoint};
-ghost use Rattle.wkt_calls.specs.Arrays.{IsNotFlat};
+ghost use Rattle.wkt_calls.specs.Arrays.{IsFlat, IsFlatPoint, IsNotFlat};
 
 use crate::asked::places_of;
 use crate::at_places;

@@ -1,10 +1,10 @@
 //! Many lines answered at once.
 ghost use Rattle.std.specs.Prelude.{◌≡◌, ◌⊎◌, ◌≤◌, ◌+◌, ◌*◌, ◌-◌, length, take, drop};
-ghost use Rattle.wkt_lines.specs.InRoom.{AnswersBehind};
-ghost use Rattle.wkt_lines.specs.Splitting.{before_feed};
+ghost use Rattle.wkt_lines.specs.First.{AnswersBehind};
+ghost use Rattle.wkt_lines.specs.Lines.{before_feed};
 ghost use Rattle.wkt_lines.specs.Output.{IsOutput};
 ghost use Rattle.wkt_calls.specs.Answer.{read_at, print_at};
-ghost use Rattle.wkt_calls.specs.Chunks.{AnswersSure, AreWholeLines, IsChunkStuck, ends_here};
+ghost use Rattle.wkt_calls.specs.Calls.{AnswersSure, AreWholeLines, IsChunkStuck, ends_here};
 
 use crate::at_places;
 use crate::whole::whole_within;

@@ -1,7 +1,7 @@
 //! Whole lines at the front of an input.
 ghost use Rattle.std.specs.Prelude.{◌≡◌, ◌⊎◌, ◌≤◌, true, false, length};
-ghost use Rattle.wkt_lines.specs.Splitting.{before_feed};
-ghost use Rattle.wkt_calls.specs.Chunks.{AreWholeLines, IsFirstLine};
+ghost use Rattle.wkt_lines.specs.Lines.{before_feed};
+ghost use Rattle.wkt_calls.specs.Calls.{AreWholeLines, IsFirstLine};
 
 use wkt_lines::line_end;
 

@@ -1,10 +1,3 @@
-pub mod Adding
-pub mod Polygons
 pub mod Texts
-pub mod AfterStore
-pub mod Shortest
-pub mod PenNumbers
-pub mod Utf8Texts
-pub mod PenOutput
 pub mod ShortTexts
-pub mod Told
+pub mod PenOutput

@@ -1,23 +1,27 @@
--- The text of a decimal, and of a whole number, is shorter than twice any run that it is read from.
-use Rattle.std.proofs.Common.{◌≡◌, ◌≢◌, ℕ, zero, suc, ◌+◌, ◌-◌, ◌*◌, ◌/◌, ◌%◌, ◌^◌, ◌<◌, ◌≤◌, Bool, true, false, cond, ◌&&◌, ◌==◌, nat_lt, nat_le, if◌then◌else◌, List, [], ◌∷◌, ◌++◌, length, drop, pos, neg_ℤ, Option, Some, None, IfSome, inl, inr, refl, sym, ap, subst, ◌∙◌, arith, length-append}
+-- The shortest run of a number, and texts that are shorter than twice any run that they are read from.
+use Rattle.std.proofs.Common.{◌≡◌, ◌≢◌, ℕ, zero, suc, ◌+◌, ◌-◌, ◌*◌, ◌/◌, ◌%◌, ◌^◌, ◌<◌, ◌≤◌, Bool, true, false, cond, ◌&&◌, ◌==◌, nat_lt, nat_le, if◌then◌else◌, List, [], ◌∷◌, ◌++◌, length, drop, pos, neg_ℤ, Option, Some, None, IfSome, inl, inr, refl, sym, ap, subst, ◌∙◌, arith, length-append, get_or, slice_range}
 use Rattle.std.specs.Fmt.{decimal, signed_decimal, sign_text}
 use Rattle.std.specs.Str.Parse.{IsNumeral, digits_value, starts_with_minus, without_leading_plus, without_leading_sign}
 use Rattle.std.proofs.lemmas.Fmt.{length-decimal-le_wide}
 use Rattle.std.proofs.lemmas.Int.Digits.{digits_value-lt}
 use Rattle.std.proofs.lemmas.Nat.{div-add-mod', pow-add}
-use Rattle.std.proofs.lemmas.Bool.{cases_lt, eq-eqb}
+use Rattle.std.proofs.lemmas.Bool.{cases_lt, eq-eqb, cases_eq, ne_eqb}
 use Rattle.std.proofs.Math.Nat.{mul-le-mul_right, pow-le-pow_right, pow-suc, mod-lt, div-le_self}
+use Rattle.std.proofs.lemmas.List.Edits.{length-between, get_or-between}
 use borrow.Author.Tests.{eqb-true, ltb-true, leb-true}
 use Rattle.wkt_num.specs.Whole.{is_numeral, keep_if, read_signed, read_unsigned}
 use Rattle.wkt_num.specs.WholeLaws.{both_true}
-use Rattle.wkt_num.proofs.Numerals.{numeral_from}
+use Rattle.wkt_num.proofs.ReadNumbers.{numeral_from}
 use Rattle.wkt_num.specs.Decimal.{before_point, after_point, units_of, read_magnitude, read_decimal, with_sign, and_then, fraction_digits, fraction_text, magnitude_text, decimal_text}
-use Rattle.wkt_num.specs.DecimalLaws.{not_negative}
-use Rattle.wkt_num.specs.Fraction.{fraction-none}
-use Rattle.wkt_num.specs.Units.{ten_pos, keep_some}
-use Rattle.wkt_num.specs.ReadDecimal.{magnitude-small}
+use Rattle.wkt_num.specs.DecimalLaws.{not_negative, fraction-none, ten_pos, keep_some, magnitude-small}
 use Rattle.wkt_read.specs.Lexemes.{without_plus}
 use Rattle.wkt_canonical.specs.LongTexts.{HasLongText}
+use Rattle.wkt_num.specs.Number.{begins_number, IsNumberText}
+use Rattle.wkt_events.specs.Numbers.{plus_len}
+use Rattle.wkt_events.proofs.Runs.{behind-plus}
+use Rattle.wkt_machine.specs.Room.{shortest}
+
+-- The text of a decimal, and of a whole number, is shorter than twice any run that it is read from.
 
 -- What is over of equal products, when a part is taken off both.
 over : (f q P Q v r : ℕ) → f ≡ q * P + r → f * Q ≡ v * P → 0 < P → r * Q ≡ (v - q * Q) * P
@@ -281,3 +285,70 @@ pub none-long : {N : Type 0} (read : List ℕ → Option N) (num : N → List �
 none-long read num law h =
     let less : length (num h.number) < 2 * length h.run = subst (λ o. IfSome o (λ x. length (num x) < 2 * length h.run)) h.reads (law h.run h.some) in
     omega (arith, less, h.long)
+
+-- The shortest run that is the lexeme of a number.
+
+shortest-plain : (r : List ℕ) → 0 < length r → get_or r 0 0 ≢ 43 → shortest r ≡ r
+shortest-plain [] some other = absurd (omega (arith, some))
+shortest-plain (b ∷ bs) some other = ap (λ t. cond t (43 ∷ b ∷ bs) (b ∷ bs)) (ne_eqb b 43 other)
+
+-- behind a plus that stands alone, or before another
+behind-whole : (bs : List ℕ) → (0 < length bs → get_or bs 0 0 ≡ 43) → 43 ∷ bs ≡ shortest bs
+behind-whole [] h = refl
+behind-whole (b ∷ bs) h = sym (ap (λ t. cond t (43 ∷ b ∷ bs) (b ∷ bs)) (eq-eqb b 43 (h (omega arith))))
+
+whole-shortest : (l : List ℕ) → 0 < length l → (get_or l 0 0 ≡ 43 → 1 < length l → get_or l 1 0 ≡ 43) → l ≡ shortest (without_plus l)
+whole-shortest [] some h = absurd (omega (arith, some))
+whole-shortest (b ∷ bs) some h = elim (cases_eq b 43) [
+  | inl e ↦ ap (λ c. c ∷ bs) e ∙ behind-whole bs (λ more. h e (omega (arith, more))) ∙ ap shortest (sym (ap (λ t. cond t bs (b ∷ bs)) (eq-eqb b 43 e)))
+  | inr n ↦ sym (shortest-plain (b ∷ bs) some n) ∙ ap shortest (sym (ap (λ t. cond t bs (b ∷ bs)) (ne_eqb b 43 n)))
+]
+
+-- a number's run in a text, from behind its plus on, or with it
+module _ (text : List ℕ) (at end : ℕ) (order : at < end) (inside : end ≤ length text) where
+  pub past-one : get_or text at 0 ≡ 43 → at + 1 < end → get_or text (at + 1) 0 ≢ 43 → slice_range text (at + 1) end ≡ shortest (without_plus (slice_range text at end))
+  past-one plus more other =
+      let is : at + 1 ≡ at + plus_len (get_or text at 0) = ap (λ b. at + plus_len b) (sym plus) in
+      let (a, b, same) = behind-plus text at end (at + 1) order inside is in
+      let first : get_or (slice_range text (at + 1) end) 0 0 ≡ get_or text (at + 1) 0 = get_or-between text (at + 1) end 0 0 (omega arith) ∙ ap (λ (i : ℕ). get_or text i 0) (omega arith) in
+      sym (shortest-plain (slice_range text (at + 1) end) (omega (arith, length-between text (at + 1) end inside)) (λ e. other (sym first ∙ e))) ∙ ap shortest same
+
+  pub past-none : (get_or text at 0 ≡ 43 → at + 1 < end → get_or text (at + 1) 0 ≡ 43) → slice_range text at end ≡ shortest (without_plus (slice_range text at end))
+  past-none h =
+      let long = length-between text at end inside in
+      let first : get_or (slice_range text at end) 0 0 ≡ get_or text at 0 = get_or-between text at end 0 0 (omega arith) ∙ ap (λ (i : ℕ). get_or text i 0) (omega arith) in
+      whole-shortest (slice_range text at end) (omega (arith, long))
+      (λ e more. get_or-between text at end 1 0 (omega (arith, long, more)) ∙ h (sym first ∙ e) (omega (arith, long, more)))
+
+-- it is some bytes, and a number's text no longer
+pub shortest-longer : (r : List ℕ) → length r ≤ length (shortest r)
+shortest-longer [] = omega arith
+shortest-longer (b ∷ bs) = elim (cases_eq b 43) [
+  | inl e ↦ omega (arith, ap (λ t. length (cond t (43 ∷ b ∷ bs) (b ∷ bs))) (eq-eqb b 43 e))
+  | inr n ↦ omega (arith, ap (λ t. length (cond t (43 ∷ b ∷ bs) (b ∷ bs))) (ne_eqb b 43 n))
+]
+
+pub plain : (bs : List ℕ) → IsNumberText bs → (0 < length bs) × (without_plus bs ≡ bs)
+plain [] h = absurd h
+plain (b ∷ bs) h = (
+  omega arith,
+  elim (cases_eq b 43) [
+    | inl e ↦ let f : false ≡ true = sym (ap begins_number e) ∙ h.0 in cc
+    | inr n ↦ ap (λ t. cond t bs (b ∷ bs)) (ne_eqb b 43 n)
+  ],
+)
+
+-- read back
+pub without-shortest : (r : List ℕ) → without_plus (shortest r) ≡ r
+without-shortest [] = refl
+without-shortest (b ∷ bs) = elim (cases_eq b 43) [
+  | inl e ↦ ap (λ t. without_plus (cond t (43 ∷ b ∷ bs) (b ∷ bs))) (eq-eqb b 43 e)
+  | inr n ↦ ap (λ t. without_plus (cond t (43 ∷ b ∷ bs) (b ∷ bs))) (ne_eqb b 43 n) ∙ ap (λ t. cond t bs (b ∷ bs)) (ne_eqb b 43 n)
+]
+
+pub shortest-some : (r : List ℕ) → shortest r ≢ []
+shortest-some [] = λ e. cc
+shortest-some (b ∷ bs) = elim (cases_eq b 43) [
+  | inl e ↦ λ q. let clash : 43 ∷ b ∷ bs ≡ [] = sym (ap (λ t. cond t (43 ∷ b ∷ bs) (b ∷ bs)) (eq-eqb b 43 e)) ∙ q in cc
+  | inr n ↦ λ q. let clash : b ∷ bs ≡ [] = sym (ap (λ t. cond t (43 ∷ b ∷ bs) (b ∷ bs)) (ne_eqb b 43 n)) ∙ q in cc
+]

@@ -1,20 +1,226 @@
 -- The events of a value write its canonical text.
-use Rattle.std.proofs.Common.{◌≡◌, ℕ, List, [], ◌∷◌, ◌++◌, take, map, sym, refl, ap, ap₂, ◌∙◌, append_assoc, Option, Some, None}
-use Rattle.std.specs.Prelude.{codes, flat_map, option_map, option_to_list}
+use Rattle.std.proofs.Common.{◌≡◌, ℕ, zero, suc, ◌+◌, ◌<◌, List, [], ◌∷◌, ◌++◌, length, map, sym, refl, ap, subst, ◌∙◌, append_assoc, append-nil, arith, take, get_or, ap₂, length-append, Bool, true, false, Option, Some, None}
+use Rattle.std.specs.Prelude.{codes, flat_map, ◌&&◌, ◌==◌, nat_le, option_map, option_to_list}
 use Rattle.std.specs.List.{AllByRecursion}
-use Rattle.std.proofs.Math.Seq.{take-length}
+use Rattle.std.proofs.Math.Seq.{take-append_seam, take-length}
+use Rattle.std.proofs.lemmas.List.{get_or-append-add}
+use Rattle.std.proofs.lemmas.Bool.{le-leb}
 use Rattle.wkt_access.specs.declared.dimensions.Dimension.{Dimension}
+use Rattle.wkt_access.specs.declared.dimensions.Dimension.TheVariants.{XY, XYZ, XYM, XYZM}
+use Rattle.wkt_access.specs.Texts.{separated, space_if_empty, coordinate_text, listed as listed_text, headed, suffix, coordinates_text, polygon_text, text, texts}
 use Rattle.wkt_access.specs.Values.{size, Value, Values}
+use Rattle.wkt_machine.specs.Events.{Event, axis_of, numbers, further, listed, perhaps, events, geometries, members}
+use Rattle.wkt_machine.specs.declared.part.Part.{Part}
+use Rattle.wkt_canonical.specs.PenMaker.{write_append}
+use Rattle.wkt_canonical.specs.Written.{EventsWritten, separator, empty_text, added, write, write_all, is_polygon, is_hollow, opened, closed, polygon_closed, kind_text}
 use Rattle.wkt_access.specs.WellFormed.{CoordFits, LineStringFits, PolygonFits, PointFits, IsWellFormed, AreWellFormed}
 use Rattle.wkt_access.specs.Shapes.{dimension, header_of, polygon_of, rings_of, canon, canons, shape_of, shapes_of}
-use Rattle.wkt_access.specs.Texts.{separated, headed, suffix, space_if_empty, coordinate_text, coordinates_text, polygon_text, text, texts, listed as listed_text}
 use Rattle.wkt_access.proofs.Canonical.{header_back}
-use Rattle.wkt_machine.specs.Events.{Event, numbers, listed, perhaps, events, geometries, members}
-use Rattle.wkt_machine.specs.declared.part.Part.{Part}
 use Rattle.wkt_machine.specs.declared.part.Part.TheVariants as part
-use Rattle.wkt_canonical.specs.Written.{kind_text, empty_text, added}
-use Rattle.wkt_canonical.proofs.Adding.{Adds, Writes, writes_both, writes_added, numbers_add, line_adds, listed_is, items_text, items_inner, items_outer, one, so}
-use Rattle.wkt_canonical.proofs.Polygons.{full, polygon_is}
+
+-- Events that add text.
+
+pub added_twice : (bs cs : List ℕ) (w : EventsWritten) → added cs (added bs w) ≡ added (bs ++ cs) w
+added_twice bs cs w = ap (λ l. record { bytes = l; polygon = w.polygon }) (append_assoc w.bytes bs cs)
+
+added_none : (w : EventsWritten) → w ≡ added [] w
+added_none w = ap (λ l. record { bytes = l; polygon = w.polygon }) (sym (append-nil w.bytes))
+
+-- the axes after the first have a space before them
+later : (d : Dimension) (n : ℕ) → n + 1 < size d → separator (axis_of d n) ≡ codes " "
+later XY zero h = refl
+later XY (suc n) h = absurd (omega (arith, h))
+later XYZ zero h = refl
+later XYZ (suc zero) h = refl
+later XYZ (suc (suc n)) h = absurd (omega (arith, h))
+later XYM zero h = refl
+later XYM (suc zero) h = refl
+later XYM (suc (suc n)) h = absurd (omega (arith, h))
+later XYZM zero h = refl
+later XYZM (suc zero) h = refl
+later XYZM (suc (suc zero)) h = refl
+later XYZM (suc (suc (suc n))) h = absurd (omega (arith, h))
+
+first : (d : Dimension) (n : ℕ) → n + 1 ≡ size d → separator (axis_of d n) ≡ []
+first XY zero h = absurd (omega (arith, h))
+first XY (suc n) h = refl
+first XYZ zero h = absurd (omega (arith, h))
+first XYZ (suc zero) h = absurd (omega (arith, h))
+first XYZ (suc (suc n)) h = refl
+first XYM zero h = absurd (omega (arith, h))
+first XYM (suc zero) h = absurd (omega (arith, h))
+first XYM (suc (suc n)) h = refl
+first XYZM zero h = absurd (omega (arith, h))
+first XYZM (suc zero) h = absurd (omega (arith, h))
+first XYZM (suc (suc zero)) h = absurd (omega (arith, h))
+first XYZM (suc (suc (suc n))) h = refl
+
+module _ {N : Type 0} (num : N → List ℕ) where
+  -- events that add bytes, and leave the polygon's place
+  abbrev pub Adds : List (Event N) → List ℕ → Type 0
+  Adds es bs = (w : EventsWritten) → write_all num es w ≡ added bs w
+
+  -- events that add bytes
+  abbrev pub Writes : List (Event N) → List ℕ → Type 0
+  Writes es bs = (w : EventsWritten) → (write_all num es w).bytes ≡ w.bytes ++ bs
+
+  pub adds_both : (es fs : List (Event N)) (bs cs : List ℕ) → Adds es bs → Adds fs cs → Adds (es ++ fs) (bs ++ cs)
+  adds_both es fs bs cs h k w = write_append num es fs w ∙ ap (write_all num fs) (h w) ∙ k (added bs w) ∙ added_twice bs cs w
+
+  pub writes_both : (es fs : List (Event N)) (bs cs : List ℕ) → Writes es bs → Writes fs cs → Writes (es ++ fs) (bs ++ cs)
+  writes_both es fs bs cs h k w =
+      ap (λ x. x.bytes) (write_append num es fs w) ∙ k (write_all num es w) ∙ ap (λ l. l ++ cs) (h w) ∙ append_assoc w.bytes bs cs
+
+  pub writes_added : (es : List (Event N)) (bs : List ℕ) → Adds es bs → Writes es bs
+  writes_added es bs h w = ap (λ x. x.bytes) (h w)
+
+  pub adds_one : (e : Event N) (bs : List ℕ) → ((w : EventsWritten) → write num e w ≡ added bs w) → Adds (e ∷ []) bs
+  adds_one e bs h w = h w
+
+  number_adds : (d : Dimension) (n : ℕ) (x : N) (bs : List ℕ) → separator (axis_of d n) ≡ bs → Adds (Event.Number (axis_of d n) x ∷ []) (bs ++ num x)
+  number_adds d n x bs e w = ap (λ l. added (l ++ num x) w) e
+
+  more_numbers : (d : Dimension) (xs : List N) → length xs < size d → Adds (numbers d xs) (flat_map (λ u. codes " " ++ u) (map num xs))
+  more_numbers d [] h = added_none
+  more_numbers d (x ∷ xs) h =
+      adds_both (Event.Number (axis_of d (length xs)) x ∷ []) (numbers d xs) (codes " " ++ num x) (flat_map (λ u. codes " " ++ u) (map num xs))
+      (number_adds d (length xs) x (codes " ") (later d (length xs) (omega (arith, h)))) (more_numbers d xs (omega (arith, h)))
+
+  -- a coordinate
+  pub numbers_add : (d : Dimension) (c : List N) → length c ≡ size d → Adds (numbers d c) (coordinate_text num c)
+  unfolding separated
+  numbers_add d [] h = added_none
+  numbers_add d (x ∷ xs) h =
+      adds_both (Event.Number (axis_of d (length xs)) x ∷ []) (numbers d xs) (num x) (flat_map (λ u. codes " " ++ u) (map num xs))
+      (number_adds d (length xs) x [] (first d (length xs) (omega (arith, h)))) (more_numbers d xs (omega (arith, h)))
+
+  -- The text of items, or of none.
+  abbrev pub items_text : Part → List (List ℕ) → List ℕ
+  items_text p [] = empty_text p
+  items_text p (t ∷ ts) = listed_text (t ∷ ts)
+
+  pub items_inner : (p : Part) (ts : List (List ℕ)) → empty_text p ≡ codes "EMPTY" → items_text p ts ≡ listed_text ts
+  unfolding listed_text
+  items_inner p [] e = e
+  items_inner p (t ∷ ts) e = refl
+
+  pub items_outer : (p : Part) (ts : List (List ℕ)) → empty_text p ≡ codes " EMPTY" → items_text p ts ≡ space_if_empty ts ++ listed_text ts
+  unfolding listed_text
+  items_outer p [] e = e
+  items_outer p (t ∷ ts) e = refl
+
+  -- Parts with their items, by a relation that holds of what adds and is kept as events follow each other.
+  module _ (R : List (Event N) → List ℕ → Type 0) (both : (es fs : List (Event N)) (bs cs : List ℕ) → R es bs → R fs cs → R (es ++ fs) (bs ++ cs)) (plain : (es : List (Event N)) (bs : List ℕ) → Adds es bs → R es bs) where
+    pub one : (e : Event N) (fs : List (Event N)) (bs cs : List ℕ) → Adds (e ∷ []) bs → R fs cs → R (e ∷ fs) (bs ++ cs)
+    one e fs bs cs h k = both (e ∷ []) fs bs cs (plain (e ∷ []) bs h) k
+
+    pub so : (es : List (Event N)) (bs cs : List ℕ) → bs ≡ cs → R es bs → R es cs
+    so es bs cs e h = subst (R es) e h
+
+    module _ {A : Type 0} (Good : A → Type 0) (item : A → List (Event N)) (t : A → List ℕ) (each : (x : A) → Good x → R (item x) (t x)) (p : Part)
+        (closes : (w : EventsWritten) → write num (Event.Close p) w ≡ added (codes ")") w) (opens : (w : EventsWritten) → write num (Event.Open p) w ≡ added (codes "(") w) where
+      further_is : (xs : List A) → AllByRecursion Good xs → R (further p item xs) (flat_map (λ u. codes "," ++ u) (map t xs) ++ codes ")")
+      further_is [] g = plain (Event.Close p ∷ []) (codes ")") closes
+      further_is (x ∷ xs) (g, gs) =
+          let ts : List ℕ = flat_map (λ u. codes "," ++ u) (map t xs) in
+          so (further p item (x ∷ xs)) (codes "," ++ (t x ++ (ts ++ codes ")"))) (((codes "," ++ t x) ++ ts) ++ codes ")") (sym (append_assoc (codes "," ++ t x) ts (codes ")")))
+          (one (Event.Comma p) (item x ++ further p item xs) (codes ",") (t x ++ (ts ++ codes ")")) (λ w. refl)
+          (both (item x) (further p item xs) (t x) (ts ++ codes ")") (each x g) (further_is xs gs)))
+
+      -- a part with its items
+      pub listed_is : (xs : List A) → AllByRecursion Good xs → R (listed p item xs) (items_text p (map t xs))
+      unfolding listed_text separated
+      listed_is [] g = plain (Event.Empty p ∷ []) (empty_text p) (λ w. refl)
+      listed_is (x ∷ xs) (g, gs) =
+          let ts : List ℕ = flat_map (λ u. codes "," ++ u) (map t xs) in
+          so (listed p item (x ∷ xs)) (codes "(" ++ (t x ++ (ts ++ codes ")"))) (listed_text (t x ∷ map t xs)) (ap (λ l. 40 ∷ l) (sym (append_assoc (t x) ts (codes ")"))))
+          (one (Event.Open p) (item x ++ further p item xs) (codes "(") (t x ++ (ts ++ codes ")")) opens
+          (both (item x) (further p item xs) (t x) (ts ++ codes ")") (each x g) (further_is xs gs)))
+
+  -- a line, a ring, or a point of a multipoint
+  pub line_adds : {A : Type 0} (Good : A → Type 0) (item : A → List (Event N)) (t : A → List ℕ) → ((x : A) → Good x → Adds (item x) (t x)) → (p : Part)
+      → ((w : EventsWritten) → write num (Event.Close p) w ≡ added (codes ")") w) → ((w : EventsWritten) → write num (Event.Open p) w ≡ added (codes "(") w) → empty_text p ≡ codes "EMPTY"
+      → (xs : List A) → AllByRecursion Good xs → Adds (listed p item xs) (listed_text (map t xs))
+  line_adds {A} Good item t each p closes opens empty xs g =
+      so Adds adds_both (λ es bs h. h) (listed p item xs) (items_text p (map t xs)) (listed_text (map t xs)) (items_inner p (map t xs) empty) (listed_is Adds adds_both (λ es bs h. h) Good item t each p closes opens xs g)
+
+  -- items behind a parenthesis, each after a comma, and what closes
+  pub tail_is : {A : Type 0} (Good : A → Type 0) (item : A → List (Event N)) (t : A → List ℕ) → ((x : A) → Good x → Adds (item x) (t x)) → (p : Part) (xs : List A) (w : EventsWritten) → AllByRecursion Good xs
+      → write_all num (further p item xs) w ≡ write num (Event.Close p) (added (flat_map (λ u. codes "," ++ u) (map t xs)) w)
+  tail_is Good item t each p [] w g = ap (write num (Event.Close p)) (added_none w)
+  tail_is Good item t each p (x ∷ xs) w (g, gs) =
+      let ts : List ℕ = flat_map (λ u. codes "," ++ u) (map t xs) in
+      write_append num (item x) (further p item xs) (added (codes ",") w)
+      ∙ ap (write_all num (further p item xs)) (each x g (added (codes ",") w) ∙ added_twice (codes ",") (t x) w)
+      ∙ tail_is Good item t each p xs (added (codes "," ++ t x) w) gs
+      ∙ ap (write num (Event.Close p)) (added_twice (codes "," ++ t x) ts w)
+
+-- The text of a polygon, which is EMPTY where its first ring is.
+
+-- a polygon's parenthesis, and more behind it
+abbrev begun : List ℕ → List ℕ → EventsWritten
+begun bs more = record { bytes = (bs ++ codes "(") ++ more; polygon = length bs }
+
+behind : (bs more : List ℕ) → get_or ((bs ++ codes "(") ++ more) (length bs + 1) 0 ≡ get_or more 0 0
+behind bs more = ap (λ l. get_or l (length bs + 1) 0) (append_assoc bs (codes "(") more) ∙ get_or-append-add bs (codes "(" ++ more) 1 0
+
+and_false : (b : Bool) → b && false ≡ false
+and_false true = refl
+and_false false = refl
+
+hollow_is : (bs more : List ℕ) → is_hollow (begun bs (codes "EMPTY" ++ more)) ≡ true
+hollow_is bs more =
+    ap₂ (λ a b. a && b == 69)
+    (le-leb (length bs + 6) (length ((bs ++ codes "(") ++ (codes "EMPTY" ++ more))) (omega (arith, length-append (bs ++ codes "(") (codes "EMPTY" ++ more), length-append bs (codes "("))))
+    (behind bs (codes "EMPTY" ++ more))
+
+full_is : (bs more : List ℕ) → is_hollow (begun bs (codes "(" ++ more)) ≡ false
+full_is bs more =
+    ap (λ b. nat_le (length bs + 6) (length ((bs ++ codes "(") ++ (codes "(" ++ more))) && b == 69) (behind bs (codes "(" ++ more))
+    ∙ and_false (nat_le (length bs + 6) (length ((bs ++ codes "(") ++ (codes "(" ++ more))))
+
+taken_back : (bs more : List ℕ) → take (length bs) ((bs ++ codes "(") ++ more) ≡ bs
+taken_back bs more = ap (take (length bs)) (append_assoc bs (codes "(") more) ∙ take-append_seam bs (codes "(" ++ more)
+
+-- the rings that are written
+abbrev pub full : {A : Type 0} → List (List A) → List (List A)
+full [] = []
+full ([] ∷ rs) = []
+full ((c ∷ cs) ∷ rs) = (c ∷ cs) ∷ rs
+
+module _ {N : Type 0} (num : N → List ℕ) {A : Type 0} (Good : List A → Type 0) (item : List A → List (Event N)) (t : A → List ℕ)
+    (each : (x : List A) → Good x → Adds num (item x) (listed_text (map t x))) (p : Part) (is : is_polygon p ≡ true) where
+  abbrev ring : List A → List ℕ
+  ring x = listed_text (map t x)
+
+  -- up to the parenthesis that closes
+  whole_is : (r : List A) (rs : List (List A)) (w : EventsWritten) → Good r → AllByRecursion Good rs
+      → write_all num (listed p item (r ∷ rs)) w ≡ write num (Event.Close p) (begun w.bytes (ring r ++ flat_map (λ u. codes "," ++ u) (map ring rs)))
+  whole_is r rs w g gs =
+      let ts : List ℕ = flat_map (λ u. codes "," ++ u) (map ring rs) in
+      let open_one : EventsWritten = record { bytes = w.bytes ++ codes "("; polygon = length w.bytes } in
+      ap (λ b. write_all num (item r ++ further p item rs) (opened b w)) is
+      ∙ write_append num (item r) (further p item rs) open_one
+      ∙ ap (write_all num (further p item rs)) (each r g open_one)
+      ∙ tail_is num Good item ring each p rs (begun w.bytes (ring r)) gs
+      ∙ ap (write num (Event.Close p)) (added_twice (ring r) ts open_one)
+
+  close_is : (b : Bool) (w : EventsWritten) → is_hollow w ≡ b → write num (Event.Close p) w ≡ polygon_closed b p w
+  close_is b w e = ap (λ b. closed b p w) is ∙ ap (λ b. polygon_closed b p w) e
+
+  pub polygon_is : (rs : List (List A)) → AllByRecursion Good rs → Writes num (listed p item rs) (items_text num p (map ring (full rs)))
+  unfolding listed_text separated
+  polygon_is [] g w = refl
+  polygon_is ([] ∷ rs) (g, gs) w =
+      let ts : List ℕ = flat_map (λ u. codes "," ++ u) (map ring rs) in
+      ap (λ x. x.bytes) (whole_is [] rs w g gs ∙ close_is true (begun w.bytes (codes "EMPTY" ++ ts)) (hollow_is w.bytes ts))
+      ∙ ap (λ l. l ++ empty_text p) (taken_back w.bytes (codes "EMPTY" ++ ts))
+  polygon_is ((c ∷ cs) ∷ rs) (g, gs) w =
+      let ts : List ℕ = flat_map (λ u. codes "," ++ u) (map ring rs) in
+      let inner : List ℕ = separated (codes ",") (map t (c ∷ cs)) ++ codes ")" in
+      ap (λ x. x.bytes) (whole_is (c ∷ cs) rs w g gs ∙ close_is false (begun w.bytes (codes "(" ++ (inner ++ ts))) (full_is w.bytes (inner ++ ts)))
+      ∙ append_assoc (w.bytes ++ codes "(") (ring (c ∷ cs) ++ ts) (codes ")")
+      ∙ append_assoc w.bytes (codes "(") ((ring (c ∷ cs) ++ ts) ++ codes ")")
 
 fused : {A B C : Type 0} (g : B → C) (f : A → B) (xs : List A) → map g (map f xs) ≡ map (λ x. g (f x)) xs
 fused g f [] = refl

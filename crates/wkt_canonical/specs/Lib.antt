@@ -1,9 +1,6 @@
 pub mod Written
-pub mod Laws
 pub mod LongTexts
-pub mod Pens
 pub mod PenMaker
 pub mod Spaces
 pub mod Canonical
 pub mod Through
-pub mod GrowingRooms

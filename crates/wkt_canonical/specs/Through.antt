@@ -1,5 +1,5 @@
--- What a pen that is lent has written.
-use Rattle.std.specs.Prelude.{◌≡◌, ℕ, ◌+◌, ◌*◌, ◌<◌, ◌≤◌, ◌⊎◌, List, length, take, Option, Result, Ok, Err, Bool, false, IsUtf8}
+-- What a pen that is lent has written, and rooms that grow to hold canonical texts.
+use Rattle.std.specs.Prelude.{◌≡◌, ℕ, ◌+◌, ◌*◌, ◌<◌, ◌≤◌, ◌⊎◌, List, length, take, Option, Result, Ok, Err, Bool, false, IsUtf8, Some, None}
 use Rattle.wkt_access.specs.Values.{Value}
 use Rattle.wkt_read.specs.Front.{Front, HasNoFront}
 use Rattle.wkt_read.specs.Refusal.{IsRefusedWith}
@@ -16,6 +16,8 @@ use Rattle.wkt_canonical.specs.declared.canonical.Next.{Next}
 use Rattle.wkt_canonical.specs.declared.canonical.NoRoom.{NoRoom}
 use Rattle.wkt_canonical.specs.declared.canonical.TextWritten.{TextWritten}
 use Rattle.wkt_canonical.specs.declared.canonical.Next.TheVariants as next
+
+-- What a pen that is lent has written.
 
 -- What holds where it was written.
 abbrev pub IfEnds : Next → (ℕ → Type 0) → Type 0
@@ -57,3 +59,11 @@ abbrev pub IfWritten : Result (Result TextWritten Message) NoRoom → (TextWritt
 IfWritten (Ok (Ok w)) P = P w
 IfWritten (Ok (Err m)) P = Unit {0}
 IfWritten (Err e) P = Unit {0}
+
+-- Rooms that grow to hold canonical texts.
+
+-- The canonical text stands at the front of the room; or the text has no front. Nothing is said where memory lacks.
+abbrev pub HoldsCanonical : {N E : Type 0} → (List ℕ → Option N) → (N → List ℕ) → List ℕ → List ℕ → Result (Option TextWritten) E → Type 0
+HoldsCanonical read num text room (Ok (Some w)) = IsCanonicalTo read num text (take w.len room) w.end × (w.len ≤ length room) × IsUtf8 (take w.len room)
+HoldsCanonical read num text room (Ok None) = HasNoFront read text
+HoldsCanonical read num text room (Err e) = Unit {0}

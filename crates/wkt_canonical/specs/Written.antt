@@ -1,11 +1,16 @@
--- What events write.
-use Rattle.std.specs.Prelude.{ℕ, ◌+◌, List, [], ◌∷◌, ◌++◌, length, take, codes, get_or, Bool, true, false, ◌&&◌, ◌==◌, nat_le}
-use Rattle.wkt_access.specs.Texts.{suffix}
-use Rattle.wkt_machine.specs.Events.{Event}
+-- What events write, and those of a value.
+use Rattle.std.specs.Prelude.{ℕ, ◌+◌, List, [], ◌∷◌, ◌++◌, length, take, codes, get_or, Bool, true, false, ◌&&◌, ◌==◌, nat_le, ◌≡◌}
+use Rattle.wkt_access.specs.Texts.{suffix, shape_text}
+use Rattle.wkt_machine.specs.Events.{Event, events}
 use Rattle.wkt_machine.specs.declared.part.Axis.{Axis}
-use Rattle.wkt_machine.specs.declared.part.Axis.TheVariants as axis
 use Rattle.wkt_machine.specs.declared.part.Part.{Part}
+use Rattle.wkt_machine.specs.declared.part.Axis.TheVariants as axis
 use Rattle.wkt_machine.specs.declared.part.Part.TheVariants as part
+use Rattle.wkt_access.specs.Shapes.{shape_of}
+use Rattle.wkt_access.specs.Values.{Value}
+use Rattle.wkt_access.specs.WellFormed.{IsWellFormed}
+
+-- What events write.
 
 -- What is written, and where in it the parenthesis of the last polygon stands.
 pub record EventsWritten : Type 0 where
@@ -81,3 +86,10 @@ module _ {N : Type 0} (num : N → List ℕ) where
   abbrev pub write_all : List (Event N) → EventsWritten → EventsWritten
   write_all [] w = w
   write_all (e ∷ es) w = write_all es (write e w)
+
+-- What the events of a value write.
+
+-- The events of a value whose coordinates fit their headers add its canonical text.
+abbrev pub WritesTexts : {N : Type 0} → (is_value : N → Type 0) → (num : N → List ℕ) → Type 0
+WritesTexts {N} is_value num =
+    (v : Value N) (w : EventsWritten) → IsWellFormed is_value v → (write_all num (events v) w).bytes ≡ w.bytes ++ shape_text num (shape_of v)

@@ -3,7 +3,7 @@ ghost use Rattle.std.specs.Prelude.{ℕ, ◌≤◌};
 ghost use Rattle.std.specs.Fmt.{decimal, signed_decimal};
 ghost use Rattle.wkt_num.specs.Decimal.{read_decimal, decimal_text};
 ghost use Rattle.wkt_num.specs.Whole.{read_signed, read_unsigned};
-ghost use Rattle.wkt_canonical.specs.Laws.{WritesTexts};
+ghost use Rattle.wkt_canonical.specs.Written.{WritesTexts};
 ghost use Rattle.wkt_canonical.specs.LongTexts.{HasLongText};
 
 use wkt_num::WktNum;

@@ -4,8 +4,7 @@ ghost use Rattle.std.specs.Prelude.{◌≡◌, ◌+◌, ◌-◌, ◌*◌, ◌<�
 ghost use Rattle.wkt_read.specs.Lexemes.{without_plus};
 ghost use Rattle.wkt_events.specs.Numbers.{NoNumber};
 ghost use Rattle.wkt_machine.specs.Room.{shortest};
-ghost use Rattle.wkt_canonical.specs.Pens.{HasBytes, WritesNumber};
-ghost use Rattle.wkt_canonical.specs.PenMaker.{Numbered, HasSpace};
+ghost use Rattle.wkt_canonical.specs.PenMaker.{HasBytes, WritesNumber, Numbered, HasSpace};
 
 use crate::pen::Pen;
 use crate::space::Space;

@@ -1,7 +1,7 @@
 //! The pen: what the machine tells is written as it comes.
 ghost use Rattle.std.specs.Prelude.{◌≡◌, ◌+◌, ◌≤◌, ◌∷◌, [], length, take, true};
 ghost use Rattle.wkt_access.specs.Texts.{suffix};
-ghost use Rattle.wkt_canonical.specs.Pens.{HasBytes, Extends, PenBecomes, IsFresh, IsPenStuck, IsWithin, written_of};
+ghost use Rattle.wkt_canonical.specs.PenMaker.{HasBytes, Extends, PenBecomes, IsFresh, IsPenStuck, IsWithin, written_of};
 ghost use Rattle.wkt_canonical.specs.Written.{kind_text, empty_text, separator, is_polygon, is_hollow, opened, closed};
 
 use std::marker::PhantomData;

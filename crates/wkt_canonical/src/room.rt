@@ -1,6 +1,6 @@
 //! Rooms for canonical texts, which grow as longer ones come.
 ghost use Rattle.std.specs.Prelude.{◌≡◌, ◌+◌, ◌*◌, ◌<◌, ◌≤◌, IfSome, OnOk, take, vec_len, true, false};
-ghost use Rattle.wkt_canonical.specs.GrowingRooms.{HoldsCanonical};
+ghost use Rattle.wkt_canonical.specs.Through.{HoldsCanonical};
 
 use crate::canonical::{NoRoom, TextWritten, canonical_into};
 use std::alloc::AllocError;

@@ -7,10 +7,9 @@ use Rattle.wkt_num.specs.Decimal.{decimal_text, read_decimal}
 use Rattle.wkt_access.specs.Shapes.{shape_of}
 use Rattle.wkt_access.specs.Texts.{shape_text}
 use Rattle.wkt_access.specs.Values.{Value}
-use Rattle.wkt_read.proofs.LawLemmas.Fronts.{front_one}
+use Rattle.wkt_read.proofs.LawLemmas.OneForm.{front_one}
 use Rattle.wkt_explain.specs.declared.explanation.Explanation.{Explanation}
-use Rattle.wkt_command.specs.Canon.{IsReadAs, refused_line, Canonizes}
-use Rattle.wkt_command.specs.Verdicts.{IsVerdict}
+use Rattle.wkt_command.specs.Canon.{IsReadAs, refused_line, Canonizes, IsVerdict}
 use Rattle.wkt_command.specs.declared.options.Options.{Options}
 use Rattle.wkt_command.specs.declared.verdict.Verdict.TheVariants.{Read, Refused, Rest}
 

@@ -1,3 +1,2 @@
-pub mod Found
-pub mod InPlace
+pub mod Bytes
 pub mod Canonizing

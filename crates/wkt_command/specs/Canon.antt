@@ -1,16 +1,31 @@
--- What `wkt canon` writes.
-use Rattle.std.specs.Prelude.{◌≡◌, ℕ, ℤ, List, [], ◌∷◌, ◌++◌, drop, min, Option, Some, None, String, string_bytes, Bool, true, ◌⊎◌, IsUtf8}
+-- What becomes of a text, and what `wkt canon` writes.
+use Rattle.std.specs.Prelude.{◌≡◌, ℕ, List, take, drop, Option, Bool, true, false, ◌⊎◌, ℤ, [], ◌∷◌, ◌++◌, min, Some, None, String, string_bytes, IsUtf8}
 use Rattle.std.specs.declared.alloc.Global.{Global}
 use Rattle.std.specs.Io.KnownBytes.{Appends}
 use Rattle.std.specs.Io.Buffered.{writer_contents}
 use Rattle.wkt_num.specs.Bytes.{AllWhite}
+use Rattle.wkt_read.specs.Front.{HasNoFront, Front}
+use Rattle.wkt_canonical.specs.Canonical.{IsCanonicalTo}
+use Rattle.wkt_read.specs.Explained.{IsRefusedAt}
+use Rattle.wkt_command.specs.declared.verdict.Verdict.{Verdict}
+use Rattle.wkt_command.specs.declared.verdict.Verdict.TheVariants.{Read, Refused, Rest}
 use Rattle.wkt_num.specs.Decimal.{decimal_text, read_decimal}
 use Rattle.wkt_access.specs.Values.{Value}
 use Rattle.wkt_access.specs.Shapes.{shape_of}
 use Rattle.wkt_access.specs.Texts.{shape_text}
-use Rattle.wkt_read.specs.Front.{Front}
 use Rattle.wkt_command.specs.declared.options.Options.{Options}
 use Rattle.wkt_command.specs.declared.output.Output.{Output}
+
+-- What becomes of a text.
+
+module _ {N : Type 0} (read : List ℕ → Option N) (num : N → List ℕ) where
+  -- A text is read that has a front with nothing but white space after it, or, where the front alone counts, with whatever. Another is refused where the library refuses it, or for what follows its front.
+  abbrev pub IsVerdict : Bool → List ℕ → List ℕ → Verdict → Type 0
+  IsVerdict front text room (Read len) = (end : ℕ) × IsCanonicalTo read num text (take len room) end × ((front ≡ true) ⊎ AllWhite (drop end text))
+  IsVerdict front text room (Refused why) = (why.text.now ≡ text) × IsRefusedAt read text why.start why.end why.expected × HasNoFront read text
+  IsVerdict front text room (Rest end) = (front ≡ false) × ((len : ℕ) × IsCanonicalTo read num text (take len room) end) × (AllWhite (drop end text) → ⊥)
+
+-- What `wkt canon` writes.
 
 -- What was written, where the writer reveals it.
 abbrev pub out_bytes : {W : Type 0} → (W → Option (List ℕ)) → Output W → Option (List ℕ)

@@ -1,4 +1,3 @@
 pub mod Place
 pub mod Seen
-pub mod Verdicts
 pub mod Canon

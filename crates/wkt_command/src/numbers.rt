@@ -1,7 +1,7 @@
 //! Numbers of so many places, as the caller says at run time.
 ghost use Rattle.std.specs.Prelude.{IfOk, min};
 ghost use Rattle.wkt_num.specs.Decimal.{decimal_text, read_decimal};
-ghost use Rattle.wkt_command.specs.Verdicts.{IsVerdict};
+ghost use Rattle.wkt_command.specs.Canon.{IsVerdict};
 
 use crate::verdict::{Verdict, judge};
 use std::alloc::{AllocError, Global};

@@ -1,6 +1,6 @@
 //! Whether a text is read.
 ghost use Rattle.std.specs.Prelude.{◌≡◌, IfOk, take};
-ghost use Rattle.wkt_command.specs.Verdicts.{IsVerdict};
+ghost use Rattle.wkt_command.specs.Canon.{IsVerdict};
 
 use std::alloc::{AllocError, Global};
 use wkt_canonical::{TextWritten, write_growing};

@@ -1,10 +1,7 @@
-pub mod Outcomes
-pub mod Members
 pub mod Opened
 pub mod OpenedFlat
 pub mod FlatKinds
 pub mod OpenedBack
-pub mod FlatAndBackShapes
 pub mod PlainComesBack
-pub mod ShapeSends
+pub mod FlatAndBackShapes
 pub mod KindTrees

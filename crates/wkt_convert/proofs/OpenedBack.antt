@@ -8,10 +8,9 @@ use Rattle.wkt_flat.specs.Tree.{Flat, flat_tree, flat_members}
 use Rattle.wkt_flat.specs.declared.geometry.Geometry.{Geometry}
 use Rattle.wkt_convert.specs.Back.{back}
 use Rattle.wkt_convert.specs.declared.parts.Open.{Open}
-use Rattle.wkt_convert.proofs.Members.{all_back_members}
-use Rattle.wkt_convert.proofs.Opened.{none-left, falls-by-one}
+use Rattle.wkt_convert.proofs.Opened.{all_back_members, none-left, falls-by-one}
 use Rattle.wkt_flat.specs.Weight.{weight, weights}
-use Rattle.wkt_flat.proofs.Weighing.{at_least_one}
+use Rattle.wkt_flat.proofs.TreeLemmas.{at_least_one}
 
 -- what comes of a collection whose first members became `done`, and of which `rest` is left
 abbrev pub going : {T : Type 0} → List (Tree T) → List (Geometry T) → List (Tree T)

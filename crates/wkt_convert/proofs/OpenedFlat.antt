@@ -11,10 +11,9 @@ use Rattle.wkt_flat.specs.declared.geometry.Geometry.{Geometry}
 use Rattle.wkt_convert.specs.declared.parts.Open.{Open}
 use Rattle.wkt_convert.specs.Flatten.{flat}
 use Rattle.wkt_convert.specs.Outcomes.{outcome_map, outcome_both, outcomes}
-use Rattle.wkt_convert.proofs.Members.{flatten_members}
-use Rattle.wkt_convert.proofs.Opened.{none-left, falls-by-one}
+use Rattle.wkt_convert.proofs.Opened.{flatten_members, none-left, falls-by-one}
 use Rattle.wkt_types.specs.Weight.{weight, weights}
-use Rattle.wkt_types.proofs.Weighing.{at_least_one}
+use Rattle.wkt_types.proofs.TreeLemmas.{at_least_one}
 
 module _ {T : Type 0} (E : flat_coord.Coord T → flat_coord.Coord T → Bool) where
   -- what comes of a collection whose first members became `done`, and of which `rest` is left

@@ -1,8 +1,7 @@
 pub mod Outcomes
 pub mod Flatten
-pub mod Kinds
 pub mod Back
 pub mod Pieces
 pub mod Sent
 pub mod Laws
-pub mod Flattening
+pub mod Kinds

@@ -4,7 +4,7 @@ ghost use Rattle.wkt_types.specs.Outcome.{Answers, refused, mismatched};
 ghost use Rattle.wkt_flat.specs.Equal.{coord_eq};
 ghost use Rattle.wkt_flat.specs.Tree.{flat_tree, flat_trees};
 ghost use Rattle.wkt_convert.specs.Flatten.{flat, flat_collection};
-ghost use Rattle.wkt_convert.specs.Flattening.{AnswersAny, found_name};
+ghost use Rattle.wkt_convert.specs.Kinds.{AnswersAny, found_name};
 
 use wkt_flat::{Geometry, GeometryCollection};
 use wkt_num::WktNum;

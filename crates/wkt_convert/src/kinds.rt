@@ -4,8 +4,7 @@ ghost use Rattle.wkt_types.specs.Outcome.{Outcome, Answers, refused, mismatched}
 ghost use Rattle.wkt_flat.specs.Tree.{Flat, Flats, flat_tree, flat_trees};
 ghost use Rattle.wkt_flat.specs.Equal.{coord_eq};
 ghost use Rattle.wkt_convert.specs.Flatten.{flat, flat_collection};
-ghost use Rattle.wkt_convert.specs.Flattening.{AnswersAny};
-ghost use Rattle.wkt_convert.specs.Kinds.{FlatKind, IsOfKind, only_flat, flat_name, point_kind, line_kind, line_string_kind, polygon_kind, multi_point_kind, multi_line_string_kind, multi_polygon_kind, rect_kind, triangle_kind};
+ghost use Rattle.wkt_convert.specs.Kinds.{AnswersAny, FlatKind, IsOfKind, only_flat, flat_name, point_kind, line_kind, line_string_kind, polygon_kind, multi_point_kind, multi_line_string_kind, multi_polygon_kind, rect_kind, triangle_kind};
 
 use crate::convert::ConvertFrom;
 use crate::flatten;

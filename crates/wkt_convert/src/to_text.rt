@@ -103,7 +103,7 @@ impl<T: WktNum, G: FlatValue<T = T>> ToWkt<T> for G {
     ///
     /// # Errors
     /// `Memory` when out of memory for the string, and no other.
-    #[tactic(auto, using(crate::proofs::ShapeSends::text_of, crate::proofs::ShapeSends::sound_of, crate::proofs::ShapeSends::lawful_of))]
+    #[tactic(auto, using(crate::proofs::FlatAndBackShapes::text_of, crate::proofs::FlatAndBackShapes::sound_of, crate::proofs::FlatAndBackShapes::lawful_of))]
     fn wkt_string(&self, alloc: Global) -> Result<String, Error>
         ensures text { IfOk result (λ s. string_bytes s ≡ wkt_text T.num (G.value self.now)) }
         ensures sound { OnOk result (fault (tree_shape (back (G.value self.now))) ≡ None) }

@@ -1,10 +1,3 @@
-pub mod RemainingLexemes
-pub mod Classes
-pub mod Feeds
-pub mod Legibles
-pub mod RunEnds
-pub mod AsciiRuns
-pub mod RunTexts
 pub mod Runs
-pub mod Numbers
-pub mod Utf8Front
+pub mod RemainingLexemes
+pub mod Utf8Lines

@@ -1,12 +1,20 @@
--- What is left of a text's lexemes behind a byte, a mark or a run.
-use Rattle.std.proofs.Common.{◌≡◌, ◌≢◌, ℕ, suc, ◌+◌, ◌-◌, ◌<◌, ◌≤◌, List, [], ◌∷◌, ◌++◌, length, get_or, drop, slice_range, refl, sym, ap, ◌∙◌, subst, arith, add-one, Bool, true, false, ◌==◌, if◌then◌else◌, ⊎_elim, append_assoc, length-append}
-use Rattle.std.proofs.lemmas.Bool.{cases_lt, ne_eqb}
-use Rattle.std.proofs.lemmas.List.{drop_all, get_or_past, drop_more, length-drop, length-take}
+-- What is left of a text's lexemes, by what a byte is, and the numbers among them.
+use Rattle.std.proofs.Common.{◌≡◌, ◌≢◌, ℕ, suc, ◌+◌, ◌-◌, ◌<◌, ◌≤◌, List, [], ◌∷◌, ◌++◌, length, get_or, drop, slice_range, refl, sym, ap, ◌∙◌, subst, arith, add-one, Bool, true, false, ◌==◌, if◌then◌else◌, ⊎_elim, append_assoc, length-append, ◌↔◌, ◌||◌, IsTrue, nat_le, ◌&&◌, inl, inr, IsUtf8, Option, None}
+use Rattle.std.specs.Prelude.{not}
+use Rattle.std.proofs.lemmas.Bool.{cases_lt, ne_eqb, cases_eq, eq-eqb, cases_Bool, eqb-true, leb-true}
+use Rattle.std.proofs.lemmas.List.{drop_all, get_or_past, drop_more, length-drop, length-take, get_or-drop}
 use Rattle.std.proofs.lemmas.List.Folds.{drop_split}
+use Rattle.std.proofs.lemmas.List.Edits.{length-between, get_or-between}
+use Rattle.std.proofs.lemmas.Str.{IsUtf8-drop, IsCharBoundary-before_ascii}
 use Rattle.wkt_num.specs.Bytes.{Lexeme, Open, Close, Comma, Word, Num, Class, Nul, White, Mark, Run, AllRun, class_of}
 use Rattle.wkt_read.specs.Lexemes.{lexeme_of, IsBoundary, starts_number, without_plus}
 use Rattle.wkt_read.specs.Spanned.{Spanned, lexemes_of, marks, front, after_run, joined, spanned_from, spanned}
-use Rattle.wkt_events.specs.Remaining.{before_feed, line_of, class_in, remaining_spanned, remaining, IsRunEnd, TakesOne}
+use Rattle.wkt_events.specs.Remaining.{before_feed, line_of, class_in, remaining_spanned, remaining, IsRunEnd, TakesOne, Legible, IsMark}
+use Rattle.wkt_read.proofs.LawLemmas.HeaderPlaces.{seam, past_ascii}
+use Rattle.wkt_events.proofs.Utf8Lines.{drop-line}
+use Rattle.wkt_events.specs.Numbers.{IsNumberAt, NoNumber}
+
+-- What is left of a text's lexemes behind a byte, a mark or a run.
 
 -- a byte that is no part of a run
 joined-other : (c : Class) (b at : ℕ) (run : List ℕ) (later : List Spanned) → c ≢ Run → joined c b at run later ≡ ([], marks c (suc at) (after_run (suc at) run later))
@@ -190,3 +198,207 @@ remaining-begins feed text at e =
     let inside = within feed text at Run e (λ e. cc) in
     let b = line-begins feed (get_or text at 0) at (drop (at + 1) text) e in
     (b.0, (b.1.0, ap (λ l. lexemes_of (spanned_from at (line_of feed l))) (drop_more text at 0 inside) ∙ b.1.1))
+
+-- What a byte is in a text, by its number.
+
+-- another byte than LF is the same in each text
+pub class-same : (feed : Bool) (b : ℕ) → b ≢ 10 → class_in feed b ≡ class_of b
+unfolding class_in
+class-same false b h = refl
+class-same true b h = ap (λ t. if t then Nul else class_of b) (ne_eqb b 10 h)
+
+pub class-whole : (n b : ℕ) → n ≡ 0 → class_in (not (n == 0)) b ≡ class_of b
+unfolding class_in
+class-whole n b z = ap (λ t. class_in (not t) b) (eq-eqb n 0 z)
+
+pub class-feed : (n b : ℕ) → n ≢ 0 → b ≡ 10 → class_in (not (n == 0)) b ≡ Nul
+unfolding class_in
+class-feed n b h z = ap (λ t. class_in (not t) b) (ne_eqb n 0 h) ∙ ap (λ t. if t then Nul else class_of b) (eq-eqb b 10 z)
+
+-- a test for white space where another class is the same
+pub reports-white : (t : Bool) (c k : Class) → c ≡ k → IsTrue t ↔ (k ≡ White) → IsTrue t ↔ (c ≡ White)
+reports-white t c k e h = ((λ is. e ∙ h.0 is), (λ is. h.1 (sym e ∙ is)))
+
+pub white-none : (c : Class) → c ≡ Nul → IsTrue false ↔ (c ≡ White)
+white-none c e = ((λ h. cc), (λ is. let q : Nul ≡ White = sym e ∙ is in cc))
+
+-- what stands after a space is no white space
+pub late-byte : (feed : Bool) (b : ℕ) → 32 < b → class_in feed b ≢ White
+unfolding class_of
+late-byte feed b h e =
+    let s : class_of b ≡ White = sym (class-same feed b (λ q. omega (arith, h, q))) ∙ e in
+    let other : class_of b ≢ White = rw (ne_eqb b 0 (λ e. omega arith), ne_eqb b 32 (λ e. omega arith), ne_eqb b 10 (λ e. omega arith), ne_eqb b 13 (λ e. omega arith), ne_eqb b 9 (λ e. omega arith))
+    (⊎_elim (λ q. rw q (λ e. cc)) (λ q. rw (ne_eqb b 40 q) (⊎_elim (λ r. rw r (λ e. cc)) (λ r. rw (ne_eqb b 41 r) (⊎_elim (λ s. rw s (λ e. cc)) (λ s. rw (ne_eqb b 44 s) (λ e. cc)) (cases_eq b 44))) (cases_eq b 41))) (cases_eq b 40)) in
+    other s
+
+pub space : (feed : Bool) (b : ℕ) → b ≡ 32 → class_in feed b ≡ White
+unfolding class_in class_of
+space false b e = ap class_of e
+space true b e = ap (class_in true) e
+
+-- the byte of a mark, and no other
+pub mark-in : (feed : Bool) (b : ℕ) (l : Lexeme) → class_of b ≡ Mark l → class_in feed b ≡ Mark l
+unfolding class_of
+mark-in feed b l h = class-same feed b (λ e. let q : White ≡ Mark l = sym (ap class_of e) ∙ h in cc) ∙ h
+
+not-this : (t : Bool) (x y c : Class) → (if t then x else y) ≡ c → x ≢ c → (t ≡ false) × (y ≡ c)
+not-this true x y c e h = absurd (h e)
+not-this false x y c e h = (refl, e)
+
+pub class-in-mark : (feed : Bool) (b : ℕ) (l : Lexeme) → class_in feed b ≡ Mark l → class_of b ≡ Mark l
+unfolding class_in
+class-in-mark false b l e = e
+class-in-mark true b l e = (not-this (b == 10) Nul (class_of b) (Mark l) e (λ q. cc)).1
+
+pub class-in-run : (feed : Bool) (b : ℕ) → class_in feed b ≡ Run → class_of b ≡ Run
+unfolding class_in
+class-in-run false b e = e
+class-in-run true b e = (not-this (b == 10) Nul (class_of b) Run e (λ q. cc)).1
+
+module _ (feed : Bool) (text : List ℕ) where
+  -- white space is no end
+  pub white-some : (at b : ℕ) → b ≡ get_or text at 0 → class_in feed b ≡ White → class_in feed (get_or text at 0) ≢ Nul
+  white-some at b e w h = let q : White ≡ Nul = sym w ∙ ap (class_in feed) e ∙ h in cc
+
+  -- a step over white space
+  pub past-white : (at b : ℕ) → b ≡ get_or text at 0 → class_in feed b ≡ White → (at + 1 ≤ length text) × (remaining_spanned feed text at ≡ remaining_spanned feed text (at + 1))
+  past-white at b e w =
+      let is : class_in feed (get_or text at 0) ≡ White = ap (class_in feed) (sym e) ∙ w in
+      let inside = within feed text at White is (λ q. cc) in
+      (omega (arith, inside), spanned-white feed text at is)
+
+-- A number's run in a line that is UTF-8 is text.
+
+letter-digit : (b : ℕ) → 65 ≤ b → (nat_le 48 b && nat_le b 57) ≡ false
+letter-digit b h = elim (cases_Bool (nat_le 48 b && nat_le b 57)) [
+  | inl e ↦ absurd (let both = yes_both (nat_le 48 b) (nat_le b 57) e in let low = leb-true b 57 both in omega (arith, low, h))
+  | inr e ↦ e
+]
+  where
+    yes_both : (x y : Bool) → (x && y) ≡ true → y ≡ true
+    yes_both true y e = e
+    yes_both false y e = cc
+
+letter-starts : (b : ℕ) → 65 ≤ b → starts_number b ≡ false
+letter-starts b h = rw (letter-digit b h, ne_eqb b 46 (λ e. omega (arith, e, h)), ne_eqb b 45 (λ e. omega (arith, e, h)), ne_eqb b 43 (λ e. omega (arith, e, h))) refl
+
+number-low : (b : ℕ) → starts_number b ≡ true → b < 128
+number-low b h = elim (cases_lt b 128) [
+  | inl low ↦ low
+  | inr high ↦ let f = letter-starts b (omega (arith, high)) in let q : true ≡ false = sym h ∙ f in cc
+]
+
+-- the run, and what stands behind it in the line
+behind-run : (feed : Bool) (text : List ℕ) (at end : ℕ) → at ≤ length (line_of feed text) → IsRunEnd text at end
+    → (after : List ℕ) × ((drop at (line_of feed text) ≡ slice_range text at end ++ after) × IsBoundary after)
+behind-run false text at end h e = (drop end text, (drop_split text at end e.order, boundary-at text end e.stops))
+behind-run true text at end h e =
+    (before_feed (drop end text), ((drop-line text at h).0 ∙ ap before_feed (drop_split text at end e.order) ∙ run-before_feed (slice_range text at end) (drop end text) e.run, boundary-before_feed (drop end text) (boundary-at text end e.stops)))
+
+first-of : (xs ys : List ℕ) → 0 < length xs → get_or (xs ++ ys) 0 0 ≡ get_or xs 0 0
+first-of [] ys h = absurd (omega (arith, h))
+first-of (x ∷ xs) ys h = refl
+
+run-text : (feed : Bool) (text : List ℕ) (at end : ℕ) → Legible feed text at → IsRunEnd text at end → at < end → get_or text at 0 < 128 → IsUtf8 (slice_range text at end)
+run-text feed text at end l e order low =
+    let b = behind-run feed text at end l.1 e in
+    let line = line_of feed text in
+    let long : length (slice_range text at end) ≡ end - at = length-between text at end e.inside in
+    let count : length line - at ≡ length (slice_range text at end) + length b.0 = sym (length-drop at line) ∙ ap length b.1.0 ∙ length-append (slice_range text at end) b.0 in
+    let inside : at < length line = omega (arith, count, long, order) in
+    let here : get_or line at 0 ≡ get_or text at 0 =
+    ap (λ n. get_or line n 0) {x = at} {y = at + 0} (omega arith) ∙ sym (get_or-drop at line 0 0) ∙ ap (λ l. get_or l 0 0) b.1.0 ∙ first-of (slice_range text at end) b.0 (omega (arith, long, order))
+    ∙ get_or-between text at end 0 0 (omega (arith, order)) ∙ ap (λ (n : ℕ). get_or text n 0) {x = at + 0} {y = at} (omega arith) in
+    let cut = IsCharBoundary-before_ascii line at inside (omega (arith, here, low)) in
+    (seam (slice_range text at end) b.0 b.1.1 (subst IsUtf8 b.1.0 (IsUtf8-drop line at l.0 cut))).0
+
+no-plus : (run : List ℕ) → IsUtf8 run → IsUtf8 (without_plus run)
+no-plus [] u = u
+no-plus (b ∷ bs) u = go (b == 43) refl
+  where
+    go : (t : Bool) → (b == 43) ≡ t → IsUtf8 (if t then bs else b ∷ bs)
+    go true e = past_ascii b bs (let q = eqb-true b 43 e in omega (arith, q)) u
+    go false e = u
+
+pub number-text : (feed : Bool) (text : List ℕ) (at end : ℕ) → Legible feed text at → IsRunEnd text at end → at < end → starts_number (get_or text at 0) ≡ true → IsUtf8 (without_plus (slice_range text at end))
+number-text feed text at end l e order starts = no-plus (slice_range text at end) (run-text feed text at end l e order (number-low (get_or text at 0) starts))
+
+-- What a number in bytes is among the lexemes that are left.
+
+-- a run that begins as a number is one
+number-lexeme : (run : List ℕ) → 0 < length run → IsTrue (starts_number (get_or run 0 0)) → lexeme_of run ≡ Num (without_plus run)
+number-lexeme [] some h = absurd (omega (arith, some))
+number-lexeme (b ∷ bs) some h = ap (λ t. if t then Num (without_plus (b ∷ bs)) else Word (b ∷ bs)) h
+
+word-lexeme : (run : List ℕ) → starts_number (get_or run 0 0) ≡ false → lexeme_of run ≡ Word run
+word-lexeme [] h = refl
+word-lexeme (b ∷ bs) h = ap (λ t. if t then Num (without_plus (b ∷ bs)) else Word (b ∷ bs)) h
+
+-- the class of a byte is that of a mark only at a mark
+abbrev OnMark : Class → Type 0
+OnMark Nul = Unit {0}
+OnMark White = Unit {0}
+OnMark (Mark l) = IsMark l
+OnMark Run = Unit {0}
+
+class-mark : (b : ℕ) → OnMark (class_of b)
+unfolding class_of
+class-mark b = go (b == 0) (b == 32 || b == 10 || b == 13 || b == 9) (b == 40) (b == 41) (b == 44)
+  where
+    go : (n w o c m : Bool) → OnMark (if n then Nul else (if w then White else (if o then Mark Open else (if c then Mark Close else (if m then Mark Comma else Run)))))
+    go true w o c m = tt
+    go false true o c m = tt
+    go false false true c m = tt
+    go false false false true m = tt
+    go false false false false true = tt
+    go false false false false false = tt
+
+number-mark : (feed : Bool) (b : ℕ) → OnMark (class_in feed b)
+unfolding class_in
+number-mark false b = class-mark b
+number-mark true b = go (b == 10)
+  where
+    go : (t : Bool) → OnMark (if t then Nul else class_of b)
+    go true = tt
+    go false = class-mark b
+
+module _ {N : Type 0} (read : List ℕ → Option N) (feed : Bool) (text : List ℕ) (at : ℕ) where
+  first : (end : ℕ) → at < end → get_or (slice_range text at end) 0 0 ≡ get_or text at 0
+  first end order = get_or-between text at end 0 0 (omega arith) ∙ ap (λ (i : ℕ). get_or text i 0) (omega arith)
+
+  -- a number is the lexeme that comes next
+  pub takes-number : (end : ℕ) (x : N) → IsNumberAt read text at end x → TakesOne feed text at (Num (without_plus (slice_range text at end))) end
+  takes-number end x h =
+      let long : length (slice_range text at end) ≡ end - at = length-between text at end h.ends.inside in
+      let is : lexeme_of (slice_range text at end) ≡ Num (without_plus (slice_range text at end)) = number-lexeme (slice_range text at end) (omega (arith, long, h.order)) (subst (λ b. IsTrue (starts_number b)) (sym (first end h.order)) h.begins) in
+      subst (λ l. TakesOne feed text at l end) is (takes-run feed text at end h.ends h.order)
+
+  -- where none is read, none that is read is the lexeme that comes next
+  pub no-number : Legible feed text at → class_in feed (get_or text at 0) ≢ White → NoNumber read text at → (run : List ℕ) (rest : List Lexeme) → remaining feed text at ≡ Num run ∷ rest → read run ≡ None
+  no-number legible other h run rest is = go (class_in feed (get_or text at 0)) refl (number-mark feed (get_or text at 0))
+    where
+      at-run : at < h.end → (t : Bool) → starts_number (get_or text at 0) ≡ t → read run ≡ None
+      at-run order true e =
+          let long : length (slice_range text at h.end) ≡ h.end - at = length-between text at h.end h.ends.inside in
+          let number : lexeme_of (slice_range text at h.end) ≡ Num (without_plus (slice_range text at h.end)) = number-lexeme (slice_range text at h.end) (omega (arith, long, order)) (ap starts_number (first h.end order) ∙ e) in
+          let same : Num (without_plus (slice_range text at h.end)) ∷ remaining feed text h.end ≡ Num run ∷ rest = ap (λ l. l ∷ remaining feed text h.end) (sym number) ∙ sym (takes-remaining feed text at (lexeme_of (slice_range text at h.end)) h.end (takes-run feed text at h.end h.ends order)) ∙ is in
+          let runs : without_plus (slice_range text at h.end) ≡ run = cc in
+          ap read (sym runs) ∙ h.none order e (number-text feed text at h.end legible h.ends order e)
+      at-run order false e =
+          let word : lexeme_of (slice_range text at h.end) ≡ Word (slice_range text at h.end) = word-lexeme (slice_range text at h.end) (ap starts_number (first h.end order) ∙ e) in
+          let same : Word (slice_range text at h.end) ∷ remaining feed text h.end ≡ Num run ∷ rest = ap (λ l. l ∷ remaining feed text h.end) (sym word) ∙ sym (takes-remaining feed text at (lexeme_of (slice_range text at h.end)) h.end (takes-run feed text at h.end h.ends order)) ∙ is in
+          cc
+
+      go : (c : Class) → class_in feed (get_or text at 0) ≡ c → OnMark c → read run ≡ None
+      go Nul e m = let none : [] ≡ Num run ∷ rest = sym (remaining-nul feed text at e) ∙ is in cc
+      go White e m = absurd (other e)
+      go (Mark l) e m =
+          let same : l ∷ remaining feed text (at + 1) ≡ Num run ∷ rest = sym (takes-remaining feed text at l (at + 1) (takes-mark feed text at l e)) ∙ is in
+          let number : l ≡ Num run = cc in
+          absurd (subst IsMark number m)
+      go Run e m = elim (cases_lt at h.end) [
+        | inl order ↦ at-run order (starts_number (get_or text at 0)) refl
+        | inr none ↦
+            let same : h.end ≡ at = omega (arith, none, h.ends.order) in
+            absurd (h.ends.stops (ap (λ (i : ℕ). class_of (get_or text i 0)) same ∙ class-in-run feed (get_or text at 0) e))
+      ]

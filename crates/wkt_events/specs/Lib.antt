@@ -1,4 +1,3 @@
 pub mod Remaining
 pub mod Windows
 pub mod Numbers
-pub mod Plus

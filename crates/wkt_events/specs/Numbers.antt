@@ -1,5 +1,5 @@
 -- A number at a place of a text.
-use Rattle.std.specs.Prelude.{◌≡◌, ℕ, ◌<◌, List, get_or, slice_range, Option, Some, None, IsTrue, IsUtf8}
+use Rattle.std.specs.Prelude.{◌≡◌, ℕ, ◌<◌, List, get_or, slice_range, Option, Some, None, IsTrue, IsUtf8, if◌then◌else◌, ◌==◌}
 use Rattle.wkt_read.specs.Lexemes.{starts_number, without_plus}
 use Rattle.wkt_events.specs.Remaining.{IsRunEnd}
 
@@ -19,3 +19,9 @@ pub record NoNumber {T : Type 0} (read : List ℕ → Option T) (text : List ℕ
   pub end : ℕ
   pub ends : IsRunEnd text at end
   pub none : at < end → IsTrue (starts_number (get_or text at 0)) → IsUtf8 (without_plus (slice_range text at end)) → read (without_plus (slice_range text at end)) ≡ None
+
+-- The plus before a number.
+
+-- How many of a number's bytes stand before its text: the one plus, or none.
+abbrev pub plus_len : ℕ → ℕ
+plus_len b = if b == 43 then 1 else 0

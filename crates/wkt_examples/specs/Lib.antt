@@ -1,5 +1,4 @@
-pub mod Served
 pub mod Ordered
 pub mod Mine
 pub mod Halves
-pub mod Refusal
+pub mod Served

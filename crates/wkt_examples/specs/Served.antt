@@ -1,14 +1,26 @@
--- What the service answers a line with.
-use Rattle.std.specs.Prelude.{◌≡◌, ℕ, List, ◌⊎◌, Option, Some, codes, IsUtf8}
+-- What a text is answered with, and a line by the service.
+use Rattle.std.specs.Prelude.{ℕ, List, Option, string_bytes, ◌≡◌, ◌⊎◌, Some, codes, IsUtf8}
 use Rattle.serde_json.specs.Data.{Data, null, number, string, object, unsigned, member, no_members}
 use Rattle.serde_json.specs.Read.{read as read_json}
 use Rattle.serde_json.specs.Written.{compact_text}
+use Rattle.wkt.specs.Explained.{IsRefusedAt}
+use Rattle.wkt.specs.CanonicalText.{IsCanonical}
+use Rattle.wkt_examples.specs.declared.refusal.Answer.{Answer}
+use Rattle.wkt_examples.specs.declared.refusal.Answer.TheVariants.{Text, Refused}
 use Rattle.wkt.specs.Values.{Value}
 use Rattle.wkt.specs.Shapes.{shape_of}
 use Rattle.wkt.specs.Texts.{shape_text}
 use Rattle.wkt.specs.Front.{Front}
-use Rattle.wkt.specs.Explained.{IsRefusedAt}
 use Rattle.wkt.specs.Expected.{Expected}
+
+-- What a text is answered with.
+
+-- Its one text, or where it is refused and what could stand there.
+abbrev pub IsRefusalAnswer : {N : Type 0} → (List ℕ → Option N) → (N → List ℕ) → List ℕ → Answer → Type 0
+IsRefusalAnswer read num text (Text tidy) = IsCanonical read num text (string_bytes tidy)
+IsRefusalAnswer read num text (Refused start end expected) = IsRefusedAt read text start end expected
+
+-- What the service answers a line with.
 
 -- The line is a JSON document that is this string.
 abbrev pub IsJsonOf : List ℕ → List ℕ → Type 0

@@ -2,7 +2,7 @@
 ghost use Rattle.std.specs.Prelude.{IfOk};
 ghost use Rattle.wkt.specs.Explained.{IsRefusedAt};
 ghost use Rattle.wkt.specs.Front.{HasNoFront};
-ghost use Rattle.wkt_examples.specs.Refusal.{IsRefusalAnswer};
+ghost use Rattle.wkt_examples.specs.Served.{IsRefusalAnswer};
 
 use std::alloc::{AllocError, Global};
 use wkt::{Expected, Explanation, ReadError, WktNum, canonical_text, explain};

@@ -1,4 +1,2 @@
-mod Whites
-mod CharBoundaries
-mod OnePlace
-mod StopsAreRefusals
+pub mod CharBoundaries
+pub mod StopsAreRefusals

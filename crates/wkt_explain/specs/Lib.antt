@@ -1,4 +1,3 @@
 pub mod Hints
 pub mod Problems
-pub mod White
 pub mod Told

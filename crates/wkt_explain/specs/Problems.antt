@@ -1,14 +1,26 @@
--- Whether a text is accepted, and what follows its geometry.
-use Rattle.std.specs.Prelude.{◌≡◌, ◌<◌, ℕ, List, length, drop, Option, Bool, true}
-use Rattle.wkt_num.specs.Bytes.{AllWhite}
+-- White space, whether a text is accepted, and what follows its geometry.
+use Rattle.std.specs.Prelude.{◌≡◌, ℕ, ◌≤◌, List, ◌++◌, length, drop, ◌<◌, Option, Bool, true}
+use Rattle.wkt_num.specs.Bytes.{White, AllWhite}
+use Rattle.wkt_read.specs.Lexemes.{StartsOther}
 use Rattle.wkt_read.specs.Front.{HasNoFront}
 use Rattle.wkt_read.specs.Refusal.{IsRefusedWith}
 use Rattle.wkt_read.specs.Explained.{EndsFront, IsRefusedAt, IsPart}
 use Rattle.wkt_read.specs.Table.{IsReportedAt}
-use Rattle.wkt_explain.specs.White.{IsPastWhite}
 use Rattle.wkt_explain.specs.declared.explanation.Refusal.{Refusal}
 use Rattle.wkt_explain.specs.declared.whole.Problem.{Problem}
 use Rattle.wkt_explain.specs.declared.whole.Problem.TheVariants.{Refused, Rest}
+
+-- White space between lexemes, and behind them.
+
+-- From one place to another the text has white space alone, and at the second none.
+pub record IsPastWhite (text : List ℕ) (from to : ℕ) : Type 0 where
+  pub gap : List ℕ
+  pub within : to ≤ length text
+  pub split : drop from text ≡ gap ++ drop to text
+  pub white : AllWhite gap
+  pub stops : StartsOther White (drop to text)
+
+-- Whether a text is accepted, and what follows its geometry.
 
 module _ {N : Type 0} (read : List ℕ → Option N) where
   -- The text begins with a geometry, which ends there; where whole texts are asked for, white space alone follows it.

@@ -3,9 +3,8 @@ use Rattle.std.specs.Prelude.{◌≡◌, ℕ, ◌≤◌, List, [], ◌∷◌, le
 use Rattle.wkt_read.specs.Spanned.{Spanned}
 use Rattle.wkt_events.specs.Remaining.{remaining, remaining_spanned}
 use Rattle.wkt_machine.specs.BytesView.{IsBetween, IsDark}
-use Rattle.wkt_machine.specs.Expecting.{expected_at}
+use Rattle.wkt_machine.specs.Refusing.{expected_at, refused}
 use Rattle.wkt_machine.specs.Machines.{state_of}
-use Rattle.wkt_machine.specs.Refusing.{refused}
 use Rattle.wkt_machine.specs.declared.machine.Machine.{Machine}
 use Rattle.wkt_explain.specs.declared.explanation.Refusal.{Refusal}
 

@@ -4,7 +4,7 @@ ghost use Rattle.wkt_read.specs.Front.{HasNoFront};
 ghost use Rattle.wkt_read.specs.Refusal.{IsRefusedWith};
 ghost use Rattle.wkt_read.specs.Explained.{EndsFront, IsRefusedAt, IsPart};
 ghost use Rattle.wkt_read.specs.Table.{IsReportedAt};
-ghost use Rattle.wkt_explain.specs.White.{IsPastWhite};
+ghost use Rattle.wkt_explain.specs.Problems.{IsPastWhite};
 ghost use Rattle.wkt_explain.specs.Told.{EndsLexeme, IsTold};
 ghost use Rattle.wkt_events.specs.Remaining.{remaining_spanned};
 ghost use Rattle.wkt_machine.specs.BytesView.{IsDark};

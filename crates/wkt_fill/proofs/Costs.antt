@@ -11,10 +11,9 @@ use Rattle.wkt_machine.specs.Events.{Event, numbers, further, listed, perhaps, e
 use Rattle.wkt_machine.specs.Makers.{Maker}
 use Rattle.wkt_machine.specs.declared.part.Part.{Part}
 use Rattle.wkt_machine.specs.declared.part.Part.TheVariants as part
-use Rattle.wkt_fill.specs.Arrays.{parts_of, joined, numbers_in}
-use Rattle.wkt_fill.specs.Given.{IsGiven, events_cost}
+use Rattle.wkt_fill.specs.Arrays.{parts_of, joined, numbers_in, IsGiven, events_cost}
 use Rattle.wkt_fill.specs.declared.given.Given.{Given}
-use Rattle.wkt_fill.proofs.Inverse.{offsets-length}
+use Rattle.wkt_fill.proofs.Between.{offsets-length}
 use Rattle.wkt_fill.proofs.Owing.{cost-append}
 
 positive : (d : Dimension) → 1 ≤ size d

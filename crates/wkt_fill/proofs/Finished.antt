@@ -1,22 +1,39 @@
--- The arrays of the front of a text.
-use Rattle.std.proofs.Common.{◌≡◌, ◌≢◌, ◌⊎◌, inl, inr, ◌++◌, ℕ, suc, zero, ℤ, List, [], refl, sym, ap, ◌∙◌, subst, arith, Option, Some, Bool, true, false, IfSome}
+-- The arrays of the front of a text, and a number that stands there.
+use Rattle.std.proofs.Common.{ℕ, ℤ, ◌+◌, ◌-◌, ◌≤◌, List, [], length, take, drop, refl, sym, subst, ◌∙◌, to_z, of_z, w64, ◌≡◌, ◌≢◌, ◌⊎◌, inl, inr, ◌++◌, suc, zero, ap, arith, Option, Some, Bool, true, false, IfSome}
 use Rattle.std.specs.Prelude.{IsUtf8}
+use Rattle.std.proofs.lemmas.List.{take_rest, append-nil}
 use Rattle.std.specs.List.{Contains}
-use Rattle.std.proofs.lemmas.List.{append-nil}
 use Rattle.wkt_num.specs.Decimal.{read_decimal, IsUnits}
+use Rattle.wkt_num.specs.DigitParts.{BeginsUnits}
+use Rattle.wkt_num.proofs.NumberInWindow.{held-is}
+use Rattle.wkt_events.proofs.Runs.{kept-there}
+use Rattle.wkt_machine.specs.Makers.{MakesNumber}
+use Rattle.wkt_machine.specs.declared.part.Axis.{Axis}
+use Rattle.wkt_fill.specs.Filled.{put, on, Headed, is_collection, steps, arrays_of, FillerBecomes, filler_maker, view, Fills, FillerBegins, RefusesCollection, HoldsAll, FillsFront}
+use Rattle.wkt_fill.specs.declared.filler.Filler.{Filler}
 use Rattle.wkt_num.specs.DecimalLaws.{decimal_reads_values}
-use Rattle.wkt_num.proofs.OnlyAscii.{decimal_utf8}
+use Rattle.wkt_num.proofs.ReadNumbers.{decimal_utf8}
 use Rattle.wkt_access.specs.Values.{Value}
 use Rattle.wkt_read.specs.Front.{Front}
-use Rattle.wkt_read.proofs.LawLemmas.Fits.{geometry_fits}
-use Rattle.wkt_events.proofs.Utf8Front.{text-with-front, text-behind-front}
+use Rattle.wkt_read.proofs.LawLemmas.OneForm.{geometry_fits}
+use Rattle.wkt_events.proofs.Utf8Lines.{text-with-front, text-behind-front}
 use Rattle.wkt_machine.specs.Events.{events}
 use Rattle.wkt_fill.specs.Arrays.{joined, numbers_in, offsets, HasLarge, IsUnheld}
-use Rattle.wkt_fill.specs.Filling.{Headed, is_collection, steps, arrays_of}
-use Rattle.wkt_fill.specs.Filled.{Fills, view, FillerBegins, RefusesCollection}
-use Rattle.wkt_fill.specs.Fronts.{HoldsAll, FillsFront}
-use Rattle.wkt_fill.specs.declared.filler.Filler.{Filler}
-use Rattle.wkt_fill.proofs.Outcome.{IsHeld, IsCollected, outcome}
+use Rattle.wkt_fill.proofs.EventsToArrays.{IsHeld, IsCollected, outcome}
+
+-- A number that is read from its first bytes stands there.
+
+pub makes-fast : (D : ℕ) (text : List ℕ) (at : ℕ) (axis : Axis) (end : ℕ) (units : ℤ) (s t : Filler) → at ≤ length text → BeginsUnits D (take (length text - at) (drop at text)) units end
+    → FillerBecomes s (on (λ k. put k axis (to_z w64 (of_z w64 units))) (view s)) t → MakesNumber (read_decimal 127 36 D) filler_maker s text at axis t (at + end)
+makes-fast D text at axis end units s t inside b does =
+    let k : BeginsUnits D (drop at text) units end = subst (λ l. BeginsUnits D l units end) (take_rest text at) b in
+    record {
+      number = k.keeps.number;
+      there = kept-there (read_decimal 127 36 D) (λ (u : ℤ). []) text at end 0 (at + end) inside refl k.keeps;
+      makes = subst (λ u. FillerBecomes s (on (λ k. put k axis u) (view s)) t) (held-is units b.fits ∙ sym k.is) does;
+    }
+
+-- The arrays of the front of a text.
 
 is-zero : (n : ℕ) → (n ≡ 0) ⊎ (n ≢ 0)
 is-zero zero = inl refl

@@ -1,14 +1,6 @@
-pub mod ArraysGrow
 pub mod EventsToArrays
-pub mod PolygonArrays
-pub mod Outcome
 pub mod Finished
-pub mod FastNumbers
-pub mod Owing
-pub mod Between
-pub mod Inverse
 pub mod Whole
-pub mod Coordinates
-pub mod Bounds
-pub mod Headed
+pub mod Between
+pub mod Owing
 pub mod Costs

@@ -1,12 +1,182 @@
--- What a filler has filled.
-use Rattle.std.specs.Prelude.{◌≡◌, ◌≢◌, ℕ, ℤ, ◌+◌, ◌⊎◌, List, [], ◌++◌, take, true, false}
-use Rattle.std.proofs.Common.{inl, inr, refl, sym, ◌∙◌, ap, subst, arith, zero, suc}
+-- Flat arrays, as the events of a geometry fill them, and those of the front of a text.
+use Rattle.std.proofs.Common.{refl, sym, subst, inl, inr, ◌∙◌, ap, arith, zero, suc}
+use Rattle.std.specs.Prelude.{ℕ, ℤ, ◌+◌, List, [], ◌∷◌, ◌++◌, Bool, true, false, if◌then◌else◌, ◌≡◌, ◌≢◌, ◌⊎◌, take, ◌↔◌, ◌≤◌, length, drop, Option, Some, None, IsUtf8}
+use Rattle.std.specs.List.{Contains}
+use Rattle.std.proofs.lemmas.List.Elements.{Contains-append_left}
+use Rattle.wkt_access.specs.declared.dimensions.Dimension.{Dimension}
+use Rattle.wkt_types.specs.declared.geometry_type.GeometryType.{GeometryType}
+use Rattle.wkt_machine.specs.declared.part.Axis.{Axis}
+use Rattle.wkt_machine.specs.declared.part.Part.{Part}
 use Rattle.wkt_machine.specs.Events.{Event}
+use Rattle.wkt_access.specs.declared.dimensions.Dimension.TheVariants as dim
+use Rattle.wkt_types.specs.declared.geometry_type.GeometryType.TheVariants as kind
+use Rattle.wkt_machine.specs.declared.part.Axis.TheVariants as axis
+use Rattle.wkt_machine.specs.declared.part.Part.TheVariants as part
+use Rattle.wkt_fill.specs.Arrays.{HasLarge, parts_of, joined, offsets, numbers_in, IsUnheld}
 use Rattle.wkt_machine.specs.Makers.{Maker}
-use Rattle.wkt_fill.specs.Arrays.{HasLarge}
-use Rattle.wkt_fill.specs.Filling.{FlatArrays, Headed, steps, unheaded, is_collection}
 use Rattle.wkt_fill.specs.declared.filler.Filler.{Filler}
-use Rattle.wkt_fill.specs.Growing.{large-on, steps-append}
+use Rattle.wkt_num.specs.Decimal.{read_decimal, IsUnits}
+use Rattle.wkt_access.specs.Values.{Value}
+use Rattle.wkt_access.specs.WellFormed.{IsWellFormed}
+use Rattle.wkt_read.specs.Front.{Front, HasNoFront}
+use Rattle.wkt_read.specs.Kinds.{kind_of, dim_of}
+use Rattle.wkt_fill.specs.declared.fill.Filled.{Filled}
+
+-- Flat arrays, as the events of a geometry fill them.
+
+-- All numbers in order; where each ring begins among the coordinates and each polygon among the rings, with the end of the last; and how many coordinates and rings there are.
+pub record FlatArrays : Type 0 where
+  pub numbers : List ℤ
+  pub rings : List ℕ
+  pub polygons : List ℕ
+  pub coordinates : ℕ
+  pub ring_count : ℕ
+
+-- Arrays, and the header of their geometry.
+pub record Headed : Type 0 where
+  pub kind : GeometryType
+  pub dimension : Dimension
+  pub flat : FlatArrays
+
+-- Nothing yet: each list of offsets begins with 0.
+abbrev pub nothing : FlatArrays
+nothing = record { numbers = []; rings = 0 ∷ []; polygons = 0 ∷ []; coordinates = 0; ring_count = 0 }
+
+abbrev pub unheaded : Headed
+unheaded = record { kind = kind.Point; dimension = dim.XY; flat = nothing }
+
+-- A ring ends where the last coordinate does.
+abbrev pub end_ring : FlatArrays → FlatArrays
+end_ring a = record { numbers = a.numbers; rings = a.rings ++ (a.coordinates ∷ []); polygons = a.polygons; coordinates = a.coordinates; ring_count = a.ring_count + 1 }
+
+-- A polygon ends where the last ring does.
+abbrev pub end_polygon : FlatArrays → FlatArrays
+end_polygon a = record { numbers = a.numbers; rings = a.rings; polygons = a.polygons ++ (a.ring_count ∷ []); coordinates = a.coordinates; ring_count = a.ring_count }
+
+-- The first number begins a coordinate.
+abbrev pub counted : Axis → ℕ → ℕ
+counted axis.X n = n + 1
+counted a n = n
+
+abbrev pub push : Axis → ℤ → FlatArrays → FlatArrays
+push a x f = record { numbers = f.numbers ++ (x ∷ []); rings = f.rings; polygons = f.polygons; coordinates = counted a f.coordinates; ring_count = f.ring_count }
+
+-- The kind of a whole geometry.
+abbrev pub kind_of_part : Part → GeometryType
+kind_of_part part.LineString = kind.LineString
+kind_of_part part.Polygon = kind.Polygon
+kind_of_part part.MultiPoint = kind.MultiPoint
+kind_of_part part.MultiLineString = kind.MultiLineString
+kind_of_part part.MultiPolygon = kind.MultiPolygon
+kind_of_part part.Collection = kind.GeometryCollection
+kind_of_part p = kind.Point
+
+-- What the end of a part ends: a point and a line string are a ring, and each whole geometry but a multipolygon is one polygon.
+abbrev pub end_part : Part → FlatArrays → FlatArrays
+end_part part.Point a = end_polygon (end_ring a)
+end_part part.LineString a = end_polygon (end_ring a)
+end_part part.Polygon a = end_polygon a
+end_part part.MultiPoint a = end_polygon a
+end_part part.MultiLineString a = end_polygon a
+end_part part.MultiPolygon a = a
+end_part part.Collection a = a
+end_part part.Area a = end_polygon a
+end_part p a = end_ring a
+
+-- Nothing of a collection is held.
+abbrev pub is_collection : GeometryType → Bool
+is_collection kind.Point = false
+is_collection kind.LineString = false
+is_collection kind.Polygon = false
+is_collection kind.MultiPoint = false
+is_collection kind.MultiLineString = false
+is_collection kind.MultiPolygon = false
+is_collection kind.GeometryCollection = true
+
+abbrev pub put : GeometryType → Axis → ℤ → FlatArrays → FlatArrays
+put k a x f = if is_collection k then f else push a x f
+
+abbrev pub ended : GeometryType → Part → FlatArrays → FlatArrays
+ended k p f = if is_collection k then f else end_part p f
+
+-- Arrays of this kind are changed.
+abbrev pub on : (GeometryType → FlatArrays → FlatArrays) → Headed → Headed
+on f w = record { kind = w.kind; dimension = w.dimension; flat = f w.kind w.flat }
+
+-- The headers of a collection's members don't count.
+abbrev pub headed : GeometryType → Dimension → Headed → Headed
+headed k d w = if is_collection w.kind then w else record { kind = k; dimension = d; flat = w.flat }
+
+-- What an event adds.
+abbrev pub step : Event ℤ → Headed → Headed
+step (Event.Header p d) w = headed (kind_of_part p) d w
+step (Event.Open p) w = w
+step (Event.Comma p) w = w
+step (Event.Close p) w = on (λ k. ended k p) w
+step (Event.Empty p) w = on (λ k. ended k p) w
+step (Event.Number a x) w = on (λ k. put k a x) w
+
+-- The arrays after some events.
+abbrev pub steps : List (Event ℤ) → Headed → Headed
+steps [] w = w
+steps (e ∷ es) w = steps es (step e w)
+
+-- The arrays of events.
+abbrev pub arrays_of : List (Event ℤ) → Headed
+arrays_of es = steps es unheaded
+
+-- What is filled stays, and events after others.
+
+pub steps-append : (es fs : List (Event ℤ)) (w : Headed) → steps (es ++ fs) w ≡ steps fs (steps es w)
+steps-append [] fs w = refl
+steps-append (e ∷ es) fs w = steps-append es fs (step e w)
+
+-- Each number that was there is there.
+abbrev KeepsNumbers : FlatArrays → FlatArrays → Type 0
+KeepsNumbers a b = (x : ℤ) → Contains a.numbers x → Contains b.numbers x
+
+either : (t : Bool) (a b : FlatArrays) → KeepsNumbers a b → KeepsNumbers a (if t then a else b)
+either true a b h x c = c
+either false a b h x c = h x c
+
+put-keeps : (k : GeometryType) (place : Axis) (y : ℤ) (a : FlatArrays) → KeepsNumbers a (put k place y a)
+put-keeps k place y a = either (is_collection k) a (push place y a) (λ x c. Contains-append_left a.numbers (y ∷ []) x c)
+
+part-keeps : (p : Part) (a : FlatArrays) → KeepsNumbers a (end_part p a)
+part-keeps part.Point a x c = c
+part-keeps part.LineString a x c = c
+part-keeps part.Polygon a x c = c
+part-keeps part.MultiPoint a x c = c
+part-keeps part.MultiLineString a x c = c
+part-keeps part.MultiPolygon a x c = c
+part-keeps part.Collection a x c = c
+part-keeps part.Area a x c = c
+part-keeps p a x c = c
+
+ended-keeps : (k : GeometryType) (p : Part) (a : FlatArrays) → KeepsNumbers a (ended k p a)
+ended-keeps k p a = either (is_collection k) a (end_part p a) (part-keeps p a)
+
+headed-keeps : (t : Bool) (w v : Headed) → v.flat ≡ w.flat → KeepsNumbers w.flat (if t then w else v).flat
+headed-keeps true w v e x c = c
+headed-keeps false w v e x c = subst (λ (f : FlatArrays). Contains f.numbers x) (sym e) c
+
+step-keeps : (e : Event ℤ) (w : Headed) → KeepsNumbers w.flat (step e w).flat
+step-keeps (Event.Header p d) w = headed-keeps (is_collection w.kind) w (record { kind = kind_of_part p; dimension = d; flat = w.flat }) refl
+step-keeps (Event.Open p) w = λ x c. c
+step-keeps (Event.Comma p) w = λ x c. c
+step-keeps (Event.Close p) w = ended-keeps w.kind p w.flat
+step-keeps (Event.Empty p) w = ended-keeps w.kind p w.flat
+step-keeps (Event.Number a y) w = put-keeps w.kind a y w.flat
+
+steps-keep : (es : List (Event ℤ)) (w : Headed) → KeepsNumbers w.flat (steps es w).flat
+steps-keep [] w x c = c
+steps-keep (e ∷ es) w x c = steps-keep es (step e w) x (step-keeps e w x c)
+
+-- A number that is too large stays among them.
+pub large-on : (es : List (Event ℤ)) (w : Headed) → HasLarge w.flat.numbers → HasLarge (steps es w).flat.numbers
+large-on es w h = record { number = h.number; held = steps-keep es w h.number h.held; large = h.large }
+
+-- What a filler has filled.
 
 -- The arrays of a filler: the first places of its room.
 abbrev pub view : Filler → Headed
@@ -71,3 +241,29 @@ pub record RefusesCollection (s t : Filler) : Type 0 where
   pub same : view t ≡ view s
   pub held : t.status ≡ 0 → (s.status ≡ 0) × (is_collection s.kind ≡ false)
   pub unheld : t.status ≢ 0 → ((t.status ≡ s.status) × (s.status ≢ 0)) ⊎ ((t.status ≡ 24) × (s.status ≡ 0) × (is_collection s.kind ≡ true))
+
+-- The flat arrays of a text's front.
+
+-- The arrays of a value: its kind, its dimension, all its numbers in order, where each ring begins among the coordinates, and where each polygon begins among the rings, with the end of the last.
+pub record HoldsAll (f : Filler) (value : Value ℤ) : Type 0 where
+  pub parts : List (List (List (List ℤ)))
+  pub flat : parts_of value ≡ Some parts
+  pub kind_is : f.kind ≡ kind_of value
+  pub dimension_is : f.dimension ≡ dim_of value
+  pub numbers_are : (view f).flat.numbers ≡ numbers_in (joined parts)
+  pub rings_are : (view f).flat.rings ≡ offsets 0 (joined parts)
+  pub polygons_are : (view f).flat.polygons ≡ offsets 0 parts
+
+-- The bytes have a front that ends there, and are UTF-8 if and only if those behind it are; each of its coordinates has as many numbers as its dimension says; and the arrays are those of its value, or the status says why it has none.
+pub record FillsFront (places : ℕ) (text : List ℕ) (f : Filler) (end : ℕ) : Type 0 where
+  pub value : Value ℤ
+  pub front : Front (read_decimal 127 36 places) text value end
+  pub within : end ≤ length text
+  pub utf8 : IsUtf8 text ↔ IsUtf8 (drop end text)
+  pub fits : IsWellFormed (IsUnits places) value
+  pub holds : f.status ≡ 0 → HoldsAll f value
+  pub unheld : f.status ≢ 0 → IsUnheld value f.status
+
+abbrev pub FillsFrontIfAny : ℕ → List ℕ → Option Filled → Type 0
+FillsFrontIfAny places text (Some r) = FillsFront places text r.arrays r.end
+FillsFrontIfAny places text None = IsUtf8 text → HasNoFront (read_decimal 127 36 places) text

@@ -1,5 +1,5 @@
 //! The flat arrays of the geometry that a text begins with.
-ghost use Rattle.wkt_fill.specs.Fronts.{FillsFrontIfAny};
+ghost use Rattle.wkt_fill.specs.Filled.{FillsFrontIfAny};
 
 use crate::filler::{Filler, Room};
 use wkt_machine::drive::drive;

@@ -3,8 +3,7 @@ ghost use Rattle.std.specs.Prelude.{◌≡◌, ◌≢◌, ◌⊎◌, ◌≤◌, 
 ghost use Rattle.wkt_num.specs.Decimal.{read_decimal};
 ghost use Rattle.wkt_events.specs.Numbers.{NoNumber};
 ghost use Rattle.wkt_machine.specs.Makers.{MakesNumber};
-ghost use Rattle.wkt_fill.specs.Filling.{is_collection, kind_of_part, end_ring, end_polygon, end_part, ended, put, headed, on};
-ghost use Rattle.wkt_fill.specs.Filled.{filler_maker, view, FillerBecomes, FillerBegins, RefusesCollection, with_flat};
+ghost use Rattle.wkt_fill.specs.Filled.{is_collection, kind_of_part, end_ring, end_polygon, end_part, ended, put, headed, on, filler_maker, view, FillerBecomes, FillerBegins, RefusesCollection, with_flat};
 
 use crate::status::{FILLER_NOT_FLAT, FILLER_TOO_LARGE, FULL};
 use wkt_events::number_there;

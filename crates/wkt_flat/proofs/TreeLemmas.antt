@@ -1,6 +1,11 @@
--- The tree of a geometry, kind by kind.
-use Rattle.std.proofs.Common.{◌≡◌, refl, ap, sym, ◌∙◌, List, Bool}
-use Rattle.wkt_flat.proofs.Compared.{IsItemwise}
+-- The tree of a geometry, kind by kind, and lists of members, compared, copied, closed and weighed.
+use Rattle.std.proofs.Common.{◌≡◌, ℕ, ◌<◌, ◌≤◌, ◌+◌, ◌-◌, ap, sym, ◌∙◌, List, [], ◌∷◌, drop, length, get_or, Bool, true, false, ◌&&◌, nat_eq, add-one, arith, eq-eqb, length-drop, refl, map, zero, suc, take, subst, ◌++◌, slice_set, Result, Ok, Err, ◌↔◌, IsTrue, ap₂, Some, slice_get}
+use Rattle.std.specs.Prelude.{OnOk}
+use Rattle.std.proofs.lemmas.Bool.Decides.{nat_tests}
+use Rattle.std.proofs.Math.Seq.{drop-cons}
+use Rattle.std.proofs.lemmas.List.{drop_all, map-append, append_assoc, map_more}
+use Rattle.std.specs.List.{AllByRecursion}
+use Rattle.std.specs.Result.{IsOk}
 use Rattle.wkt_flat.specs.Trees.{flat_eq, flats_eq}
 use Rattle.wkt_flat.specs.Tree.{point, line, line_string, polygon, multi_point, multi_line_string, multi_polygon, collection, rect, triangle, Flat, Flats, flat_tree, flat_trees, flat_members, geometry_step, flats_step}
 use Rattle.wkt_flat.specs.Corners.{Corners}
@@ -13,39 +18,94 @@ use Rattle.wkt_flat.specs.declared.geometry.GeometryCollection.{GeometryCollecti
 use Rattle.wkt_flat.specs.declared.geometry.Geometry.TheViews as views
 use Rattle.wkt_flat.specs.declared.geometry.Geometry.TheVariants as variants
 use Rattle.wkt_flat.specs.declared.geometry.Geometry.TheFolds as folds
-use Rattle.wkt_flat.specs.declared.geometry.Geometry.TheOpen as opened
+use Rattle.wkt_flat.specs.declared.geometry.Geometry.TheOpen as opens
+use Rattle.wkt_access.specs.declared.dimensions.Dimensions.TheVariants.{Xy}
+use Rattle.wkt_access.specs.Shapes.{Shape, Shapes}
+use Rattle.wkt_access.specs.Parts.{collection_of, gathered}
+use Rattle.wkt_flat.specs.Shape.{flat_shape, flat_shapes}
+use Rattle.wkt_flat.specs.declared.geometry.Geometry.{Geometry}
+use Rattle.wkt_flat.specs.Closed.{HasClosedRings, HaveClosedRings}
+use Rattle.wkt_flat.specs.Weight.{total, flat_inside, inside, flats_weight, weight, weights, IsOneMore}
+use Rattle.wkt_flat.specs.Exact.{IsExact, exactly}
+
+-- Two lists compared item by item, by a loop over the first.
+
+-- The test of two lists is that of their items in order.
+pub record IsItemwise {A : Type 0} (all : List A → List A → Bool) (one : A → A → Bool) : Type 0 where
+  pub none : all [] [] ≡ true
+  pub shorter : (y : A) (ys : List A) → all [] (y ∷ ys) ≡ false
+  pub more : (x y : A) (xs ys : List A) → all (x ∷ xs) (y ∷ ys) ≡ (one x y && all xs ys)
+
+differ : (n m : ℕ) → n < m → nat_eq n m ≡ false
+differ n m h = grind (arith, nat_tests)
+
+-- Two lists are alike before a place: what is left decides the test.
+pub record AreAlikeTo {A : Type 0} (all : List A → List A → Bool) (as' bs : List A) (i : ℕ) : Type 0 where
+  pub within : i ≤ length bs
+  pub left : all as' bs ≡ all (drop i as') (drop i bs)
+
+module _ {A : Type 0} {all : List A → List A → Bool} {one : A → A → Bool} (itemwise : IsItemwise all one) {as' bs : List A} {i : ℕ} (before : AreAlikeTo all as' bs i) where
+  step : (x y : A) {r b : Bool} → i < length as' → x ≡ get_or as' i x → i < length bs → y ≡ get_or bs i y → r ≡ one x y → r ≡ b →
+      all as' bs ≡ (b && all (drop (i + 1) as') (drop (i + 1) bs))
+  step x y h e lt f tested is =
+      let left = λ (k : ℕ). all (drop k as') (drop k bs) in
+      let next : left i ≡ (one x y && left (i + 1)) = rw (drop-cons as' i x h, drop-cons bs i y lt, ← e, ← f, add-one) (itemwise.more x y _ _) in
+      before.left ∙ (next ∙ ap (λ t. t && left (i + 1)) (sym tested ∙ is))
+
+  -- the items at the place differ
+  pub stopped : (x y : A) {r : Bool} → i < length as' → x ≡ get_or as' i x → i < length bs → y ≡ get_or bs i y → r ≡ one x y → r ≡ false →
+      false ≡ all as' bs
+  stopped x y h e lt f tested is = sym (step x y h e lt f tested is)
+
+  -- they are the same
+  pub went_on : (x y : A) {r : Bool} → i < length as' → x ≡ get_or as' i x → i < length bs → y ≡ get_or bs i y → r ≡ one x y → r ≡ true →
+      AreAlikeTo all as' bs (i + 1)
+  went_on x y h e lt f tested is = record { within = omega arith; left = step x y h e lt f tested is }
+
+  rest : (n m : ℕ) (ys : List A) → length ys ≡ m - n → n ≤ m → nat_eq n m ≡ all [] ys
+  rest n m [] h k = eq-eqb n m (omega (arith, h)) ∙ sym itemwise.none
+  rest n m (y ∷ ys) h k = differ n m (omega (arith, h)) ∙ sym (itemwise.shorter y ys)
+
+  -- the first list has ended
+  pub ended : length as' ≤ i → i ≤ length as' → nat_eq (length as') (length bs) ≡ all as' bs
+  ended h k =
+      rw (drop_all i as' h)
+      (rest (length as') (length bs) (drop i bs) (length-drop i bs ∙ ap (λ n. length bs - n) (omega arith)) (omega (arith, before.within)))
+      ∙ sym before.left
+
+-- The tree of a geometry, kind by kind.
 
 pub flat-point : {T : Type 0} (p : Point T) → flat_tree (variants.Point p) ≡ point p
-flat-point {T} p = ap flat_tree (sym (variants.rolls-Point p)) ∙ folds.fold-roll-Geometry T (Flat T) (Flats T) geometry_step flats_step (opened.Geometry-F.Point p)
+flat-point {T} p = ap flat_tree (sym (variants.rolls-Point p)) ∙ folds.fold-roll-Geometry T (Flat T) (Flats T) geometry_step flats_step (opens.Geometry-F.Point p)
 
 pub flat-line : {T : Type 0} (l : Line T) → flat_tree (variants.Line l) ≡ line l
-flat-line {T} l = ap flat_tree (sym (variants.rolls-Line l)) ∙ folds.fold-roll-Geometry T (Flat T) (Flats T) geometry_step flats_step (opened.Geometry-F.Line l)
+flat-line {T} l = ap flat_tree (sym (variants.rolls-Line l)) ∙ folds.fold-roll-Geometry T (Flat T) (Flats T) geometry_step flats_step (opens.Geometry-F.Line l)
 
 pub flat-line_string : {T : Type 0} (l : List (Coord T)) → flat_tree (variants.LineString l) ≡ line_string l
-flat-line_string {T} l = ap flat_tree (sym (variants.rolls-LineString l)) ∙ folds.fold-roll-Geometry T (Flat T) (Flats T) geometry_step flats_step (opened.Geometry-F.LineString l)
+flat-line_string {T} l = ap flat_tree (sym (variants.rolls-LineString l)) ∙ folds.fold-roll-Geometry T (Flat T) (Flats T) geometry_step flats_step (opens.Geometry-F.LineString l)
 
 pub flat-polygon : {T : Type 0} (y : Rings (Coord T)) → flat_tree (variants.Polygon y) ≡ polygon y
-flat-polygon {T} y = ap flat_tree (sym (variants.rolls-Polygon y)) ∙ folds.fold-roll-Geometry T (Flat T) (Flats T) geometry_step flats_step (opened.Geometry-F.Polygon y)
+flat-polygon {T} y = ap flat_tree (sym (variants.rolls-Polygon y)) ∙ folds.fold-roll-Geometry T (Flat T) (Flats T) geometry_step flats_step (opens.Geometry-F.Polygon y)
 
 pub flat-multi_point : {T : Type 0} (m : List (Point T)) → flat_tree (variants.MultiPoint m) ≡ multi_point m
-flat-multi_point {T} m = ap flat_tree (sym (variants.rolls-MultiPoint m)) ∙ folds.fold-roll-Geometry T (Flat T) (Flats T) geometry_step flats_step (opened.Geometry-F.MultiPoint m)
+flat-multi_point {T} m = ap flat_tree (sym (variants.rolls-MultiPoint m)) ∙ folds.fold-roll-Geometry T (Flat T) (Flats T) geometry_step flats_step (opens.Geometry-F.MultiPoint m)
 
 pub flat-multi_line_string : {T : Type 0} (m : List (List (Coord T))) → flat_tree (variants.MultiLineString m) ≡ multi_line_string m
-flat-multi_line_string {T} m = ap flat_tree (sym (variants.rolls-MultiLineString m)) ∙ folds.fold-roll-Geometry T (Flat T) (Flats T) geometry_step flats_step (opened.Geometry-F.MultiLineString m)
+flat-multi_line_string {T} m = ap flat_tree (sym (variants.rolls-MultiLineString m)) ∙ folds.fold-roll-Geometry T (Flat T) (Flats T) geometry_step flats_step (opens.Geometry-F.MultiLineString m)
 
 pub flat-multi_polygon : {T : Type 0} (m : List (Rings (Coord T))) → flat_tree (variants.MultiPolygon m) ≡ multi_polygon m
-flat-multi_polygon {T} m = ap flat_tree (sym (variants.rolls-MultiPolygon m)) ∙ folds.fold-roll-Geometry T (Flat T) (Flats T) geometry_step flats_step (opened.Geometry-F.MultiPolygon m)
+flat-multi_polygon {T} m = ap flat_tree (sym (variants.rolls-MultiPolygon m)) ∙ folds.fold-roll-Geometry T (Flat T) (Flats T) geometry_step flats_step (opens.Geometry-F.MultiPolygon m)
 
 pub flat-rect : {T : Type 0} (r : Corners T) → flat_tree (variants.Rect r) ≡ rect r
-flat-rect {T} r = ap flat_tree (sym (variants.rolls-Rect r)) ∙ folds.fold-roll-Geometry T (Flat T) (Flats T) geometry_step flats_step (opened.Geometry-F.Rect r)
+flat-rect {T} r = ap flat_tree (sym (variants.rolls-Rect r)) ∙ folds.fold-roll-Geometry T (Flat T) (Flats T) geometry_step flats_step (opens.Geometry-F.Rect r)
 
 pub flat-triangle : {T : Type 0} (t : Triangle T) → flat_tree (variants.Triangle t) ≡ triangle t
-flat-triangle {T} t = ap flat_tree (sym (variants.rolls-Triangle t)) ∙ folds.fold-roll-Geometry T (Flat T) (Flats T) geometry_step flats_step (opened.Geometry-F.Triangle t)
+flat-triangle {T} t = ap flat_tree (sym (variants.rolls-Triangle t)) ∙ folds.fold-roll-Geometry T (Flat T) (Flats T) geometry_step flats_step (opens.Geometry-F.Triangle t)
 
 pub flat-collection : {T : Type 0} (c : GeometryCollection T) → flat_tree (views.GeometryCollection c) ≡ collection (flat_trees c)
 flat-collection {T} c =
     ap flat_tree (sym (variants.rolls-GeometryCollection c))
-    ∙ folds.fold-roll-Geometry T (Flat T) (Flats T) geometry_step flats_step (opened.Geometry-F.GeometryCollection c)
+    ∙ folds.fold-roll-Geometry T (Flat T) (Flats T) geometry_step flats_step (opens.Geometry-F.GeometryCollection c)
 
 -- Two lists of geometries are compared member by member.
 pub itemwise : {T : Type 0} (E : T → T → Bool) →
@@ -54,3 +114,116 @@ itemwise E = record { none = refl; shorter = λ y ys. refl; more = λ x y xs ys.
 
 pub flat-members : {T : Type 0} (c : GeometryCollection T) → flat_trees c ≡ flat_members c.0.items
 flat-members {T} c = folds.fold-roll-GeometryCollection T (Flat T) (Flats T) geometry_step flats_step (record { 0 = c.0 })
+
+-- The shape of a collection, by its members.
+
+abbrev pub member_shape : {T : Type 0} → Geometry T → Shape T
+member_shape g = flat_shape (flat_tree g)
+
+gathered_members : {T : Type 0} (gs : List (Geometry T)) → flat_shapes (flat_members gs) ≡ gathered (map member_shape gs)
+gathered_members [] = refl
+gathered_members (g ∷ gs) = ap (λ ss. Shapes.more_shapes (member_shape g) ss) (gathered_members gs)
+
+module _ {T : Type 0} (c : GeometryCollection T) (gs : List (Geometry T)) (h : flat_trees c ≡ flat_members gs) where
+  pub collection_is : flat_shape (collection (flat_trees c)) ≡ collection_of Xy (map member_shape gs)
+  collection_is = ap (λ ts. flat_shape (collection ts)) h ∙ ap (λ ss. Shape.collection Xy ss) (gathered_members gs)
+
+  -- a geometry that is this collection
+  pub geometry_is : (w : Geometry T) → w ≡ views.GeometryCollection c → member_shape w ≡ collection_of Xy (map member_shape gs)
+  geometry_is w k = ap (λ g. member_shape g) k ∙ (ap flat_shape (flat-collection c) ∙ collection_is)
+
+-- Facts of each item of a list, gathered one by one.
+
+module _ {X : Type 0} (P : X → Type 0) where
+  next : (xs : List X) (i : ℕ) (x : X) → i < length xs → x ≡ get_or xs i x → AllByRecursion P (take i xs) → P x → AllByRecursion P (take (suc i) xs)
+  next [] i x h e all p = absurd (omega arith)
+  next (y ∷ ys) zero x h e all p = (subst P e p, tt)
+  next (y ∷ ys) (suc i) x h e all p = (all.0, next ys i x (omega arith) e all.1 p)
+
+  pub all-next : (xs : List X) (i : ℕ) (x : X) → i < length xs → x ≡ get_or xs i x → AllByRecursion P (take i xs) → P x → AllByRecursion P (take (i + 1) xs)
+  all-next xs i x h e all p = rw add-one (next xs i x h e all p)
+
+have : {T : Type 0} (gs : List (Geometry T)) → AllByRecursion (λ g. HasClosedRings (flat_tree g)) gs → HaveClosedRings (flat_members gs)
+have [] h = tt
+have (g ∷ gs) h = (h.0, have gs h.1)
+
+pub collection-closed : {T : Type 0} (c : GeometryCollection T) → (gs : List (Geometry T)) → c.0.items ≡ gs →
+    AllByRecursion (λ g. HasClosedRings (flat_tree g)) gs → HaveClosedRings (flat_trees c)
+collection-closed {T} c gs is h = subst (λ (ts : Flats T). HaveClosedRings ts) (sym (flat-members c ∙ ap flat_members is)) (have gs h)
+
+-- A geometry whose tree is this one.
+pub closed-as : {T : Type 0} (g h : Geometry T) {t : Flat T} → g ≡ h → flat_tree h ≡ t → HasClosedRings t → HasClosedRings (flat_tree g)
+closed-as {T} g h same is closed = subst (λ (t : Flat T). HasClosedRings t) (sym (ap flat_tree same ∙ is)) closed
+
+-- How the weight of a list changes as its geometries are dropped.
+
+pub at_least_one : {T : Type 0} (g : Geometry T) → 0 < weight g
+at_least_one g = omega arith
+
+-- The total of a list is what its members weigh as those of a collection.
+totalled : {T : Type 0} (gs : List (Geometry T)) → total inside gs ≡ weights gs
+totalled [] = refl
+totalled (g ∷ gs) = ap (λ n. 1 + inside g + n) (totalled gs)
+
+pub opened : {T : Type 0} (g : Geometry T) (c : GeometryCollection T) (gs : List (Geometry T)) →
+    g ≡ views.GeometryCollection c → flat_trees c ≡ flat_members gs → inside g ≡ total inside gs
+opened g c gs is holds = ap (λ g. inside g) is ∙ (ap flat_inside (flat-collection c) ∙ (ap flats_weight holds ∙ sym (totalled gs)))
+
+module _ {A : Type 0} (inside : A → ℕ) where
+  pub popped : (xs : List A) (x : A) → total inside (xs ++ x ∷ []) ≡ total inside xs + (1 + inside x)
+  popped [] x = omega arith
+  popped (y ∷ ys) x = let e : total inside (ys ++ x ∷ []) ≡ total inside ys + (1 + inside x) = popped ys x in omega (arith, e)
+
+  pub exchanged : (xs : List A) (first other : A) → 0 < length xs → first ≡ get_or xs 0 first →
+      total inside (slice_set xs 0 other) + inside first ≡ total inside xs + inside other
+  exchanged [] first other some is = absurd (omega arith)
+  exchanged (x ∷ xs) first other some is = let e : inside first ≡ inside x = ap inside is in omega (arith, e)
+
+  pub first_within : (xs : List A) (first : A) → 0 < length xs → first ≡ get_or xs 0 first → inside first < total inside xs
+  first_within [] first some is = absurd (omega arith)
+  first_within (x ∷ xs) first some is = let e : inside first ≡ inside x = ap inside is in omega (arith, e)
+
+-- A list that grows by a copy of a collection, whose members were copied before.
+
+-- `see` is what a geometry holds, and `whole` the collection of what its members hold.
+module _ {A B E : Type 0} (see : A → B) (whole : List B → B) where
+  pub copied-in : (r filled : Result (Unit {0}) E) (olds news start copies all : List A) (made w : B) →
+      OnOk r (IsOk filled) → start ≡ [] → OnOk filled (map see copies ≡ map see start ++ map see all) →
+      made ≡ whole (map see copies) → w ≡ whole (map see all) →
+      OnOk r (IsOneMore (λ x. see x ≡ made) olds news) → OnOk r (map see news ≡ map see olds ++ w ∷ [])
+  copied-in (Ok u) (Ok v) olds news start copies all made w o empty same is was more =
+      let each = same ∙ ap (λ l. map see l ++ map see all) empty in
+      ap (map see) more.grown
+      ∙ (map-append see olds (more.member ∷ []) ∙ ap (λ t. map see olds ++ t ∷ []) (more.is ∙ (is ∙ (ap whole each ∙ sym was))))
+  copied-in (Ok u) (Err e) olds news start copies all made w o empty same is was more = cc
+  copied-in (Err e) filled olds news start copies all made w o empty same is was more = tt
+
+-- What follows from the answer of an exact test.
+
+pub reported : {K : Type 0} {E : K → K → Bool} → IsExact E → (x y : K) (b : Bool) → b ≡ E x y → IsTrue b ↔ (x ≡ y)
+reported e x y b h = let p = exactly e x y in ((λ t. p.0 (sym h ∙ t)), (λ q. h ∙ p.1 q))
+
+-- A member of a list, seen through a function; and a list that grows by what each member of another becomes.
+
+pub get_map : {X Y : Type 0} (f : X → Y) (xs : List X) (i : ℕ) (x : X) → slice_get xs i ≡ Some x → slice_get (map f xs) i ≡ Some (f x)
+get_map f [] i x h = cc
+get_map f (y ∷ ys) zero x h = let e : y ≡ x = cc in ap (λ z. Some (f z)) e
+get_map f (y ∷ ys) (suc i) x h = get_map f ys i x h
+
+pub got : {X : Type 0} (xs : List X) (i : ℕ) (x : X) → i < length xs → x ≡ get_or xs i x → slice_get xs i ≡ Some x
+got [] i x h e = absurd (omega arith)
+got (y ∷ ys) zero x h e = ap (λ z. Some z) (sym e)
+got (y ∷ ys) (suc i) x h e = got ys i x (omega arith) e
+
+module _ {X Y : Type 0} (f : X → Y) where
+  -- behind a list, what each of the first members of another becomes, with one more
+  pub grown_after : (first : List Y) (xs : List X) (i : ℕ) (x : X) (all new : List Y) (y : Y) → i < length xs → x ≡ get_or xs i x →
+      all ≡ first ++ map f (take i xs) → y ≡ f x → new ≡ all ++ y ∷ [] → new ≡ first ++ map f (take (i + 1) xs)
+  grown_after first xs i x all new y lt e h k n =
+      n
+      ∙ (ap₂ (λ l z. l ++ z ∷ []) h (k ∙ ap f e)
+      ∙ (append_assoc first (map f (take i xs)) (f (get_or xs i x) ∷ []) ∙ ap (λ l. first ++ l) (sym (map_more f xs i x lt))))
+
+  pub grown : (xs : List X) (i : ℕ) (x : X) (all new : List Y) (y : Y) → i < length xs → x ≡ get_or xs i x →
+      all ≡ map f (take i xs) → y ≡ f x → new ≡ all ++ y ∷ [] → new ≡ map f (take (i + 1) xs)
+  grown xs i x all new y lt e h k n = grown_after [] xs i x all new y lt e h k n

@@ -1,7 +1,9 @@
--- How many geometries there are to drop. Only private contracts cite these words.
-use Rattle.std.specs.Prelude.{ℕ, ◌+◌, List, [], ◌∷◌}
+-- How many geometries there are to drop, and a list that grows. Only private contracts cite these words.
+use Rattle.std.specs.Prelude.{ℕ, ◌+◌, List, [], ◌∷◌, ◌≡◌, ◌++◌}
 use Rattle.wkt_flat.specs.declared.geometry.Geometry.{Geometry}
 use Rattle.wkt_flat.specs.Tree.{Flat, Flats, collection, no_flats, more_flats, flat_tree, flat_members}
+
+-- How many geometries there are to drop. Only private contracts cite these words.
 
 -- How many geometries a list has, with those inside its members.
 abbrev pub total : {A : Type 0} → (A → ℕ) → List A → ℕ
@@ -33,3 +35,11 @@ weight g = flat_weight (flat_tree g)
 -- How many those of a list are.
 abbrev pub weights : {T : Type 0} → List (Geometry T) → ℕ
 weights gs = flats_weight (flat_members gs)
+
+-- A list that grows. Only private contracts cite these words.
+
+-- The new list has one more member at its end, of which the fact holds.
+pub record IsOneMore {A : Type 0} (P : A → Type 0) (old new : List A) : Type 0 where
+  pub member : A
+  pub is : P member
+  pub grown : new ≡ old ++ member ∷ []

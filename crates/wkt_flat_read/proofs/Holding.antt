@@ -14,11 +14,10 @@ use Rattle.wkt_machine.specs.Events.{Event}
 use Rattle.wkt_machine.specs.Growing.{Frame, Growing, coord, headed, rest, members_of, joined, opened as grown_open, with_coord, with_line, with_point, ended, grow, shut, HasMember, HasNumbers, HasPoint, MayCome, MayEnd, MayOpen}
 use Rattle.wkt_machine.specs.declared.part.Part.{Part}
 use Rattle.wkt_machine.specs.declared.part.Part.TheVariants as part
-use Rattle.wkt_flat_read.specs.Plain.{flat_line, flat_area, flat_point, flat_points, plain, plains, is_empty, some_empty, holds_empty}
-use Rattle.wkt_flat_read.specs.Trees.{coord_by, coord_of, point_at, members, opened, frames, frames_hold, some_holds, FlatHasOnly, FlatIsLost, FlatHoldsParts, FlatHoldsEnded, FlatHoldsWhole, FlatHoldsBy, FlatHolds, FlatBecomes, FlatGrew, FlatGives, FlatGivesLast, GivesMembers, FlatJoins}
+use Rattle.wkt_flat_read.specs.Trees.{flat_line, flat_area, flat_point, flat_points, plain, plains, is_empty, some_empty, holds_empty, coord_by, coord_of, point_at, members, opened, frames, frames_hold, some_holds, FlatHasOnly, FlatIsLost, FlatHoldsParts, FlatHoldsEnded, FlatHoldsWhole, FlatHoldsBy, FlatHolds, FlatBecomes, FlatGrew, FlatGives, FlatGivesLast, GivesMembers, FlatJoins}
 use Rattle.wkt_flat_read.specs.declared.tree.FlatEnded.TheVariants as last
 use Rattle.wkt_flat_read.specs.declared.tree.FlatTree.{FlatTree}
-use Rattle.wkt_flat_read.proofs.Lists.{or_false, or_true, or_assoc, unmap-last, none-last, line-append, points-append, empty-last, holds-last, members-hold, members-plain, hand_line, hand_point, hand_empty}
+use Rattle.wkt_flat_read.proofs.Ended.{or_false, or_true, or_assoc, unmap-last, none-last, line-append, points-append, empty-last, holds-last, members-hold, members-plain, hand_line, hand_point, hand_empty}
 
 some_none : {A : Type 0} (o : Option A) → o ≡ None → IsSome o → ⊥
 some_none None e h = cc

@@ -1,4 +1,2 @@
-pub mod Plain
 pub mod Trees
-pub mod Growers
 pub mod Read

@@ -7,7 +7,7 @@ use Rattle.wkt_read.specs.Answered.{IsFront}
 use Rattle.wkt_read.specs.declared.error.ReadError.{ReadError}
 use Rattle.wkt_read.specs.declared.error.ReadError.TheVariants.{Text, Memory}
 use Rattle.wkt_flat.specs.declared.coord.Coord.{Coord}
-use Rattle.wkt_convert.specs.Flattening.{IsFlattened}
+use Rattle.wkt_convert.specs.Kinds.{IsFlattened}
 use Rattle.wkt_convert.specs.declared.flattened.Flattened.{Flattened}
 use Rattle.wkt_machine.specs.Values.{IsRead}
 use Rattle.wkt_machine.specs.View.{View}

@@ -1,25 +1,97 @@
--- What a flat tree holds of what has grown.
-use Rattle.std.specs.Prelude.{◌≡◌, ◌⊎◌, List, [], ◌∷◌, ◌++◌, map, Option, Some, None, IfSome, Bool, true, false, ◌||◌, Vec}
+-- What a flat tree holds of what has grown, also where it is lent, and the flat value that it stands for.
+use Rattle.std.proofs.Common.{sym, subst, inl, inr}
+use Rattle.std.specs.Prelude.{List, [], ◌∷◌, ◌++◌, map, Option, Some, None, Bool, true, false, ◌||◌, ◌≡◌, ◌⊎◌, IfSome, Vec}
 use Rattle.std.specs.declared.alloc.Global.{Global}
-use Rattle.wkt_access.specs.declared.dimensions.Dimension.{Dimension}
+use Rattle.std.specs.Borrow.{MutBor}
 use Rattle.wkt_access.specs.Values.{Value, Values}
+use Rattle.wkt_flat.specs.Rings.{Rings, at}
+use Rattle.wkt_flat.specs.Tree.{Flat, Flats, flat_tree}
+use Rattle.wkt_flat.specs.declared.coord.Coord.{Coord}
+use Rattle.wkt_flat.specs.declared.point.Point.{Point}
+use Rattle.wkt_convert.specs.Flatten.{first_outside}
+use Rattle.wkt_access.specs.declared.dimensions.Dimension.{Dimension}
 use Rattle.wkt_types.specs.Tree.{Tree}
 use Rattle.wkt_types.specs.Values.{value_of}
-use Rattle.wkt_flat.specs.Rings.{Rings, at}
-use Rattle.wkt_flat.specs.Tree.{Flat, flat_tree}
-use Rattle.wkt_flat.specs.declared.coord.Coord.{Coord}
 use Rattle.wkt_flat.specs.declared.geometry.Geometry.{Geometry}
-use Rattle.wkt_flat.specs.declared.point.Point.{Point}
-use Rattle.wkt_convert.specs.Flattening.{IsFlattened}
+use Rattle.wkt_convert.specs.Kinds.{IsFlattened}
 use Rattle.wkt_convert.specs.declared.flattened.Flattened.{Flattened}
 use Rattle.wkt_convert.specs.declared.flattened.Found.{Found}
-use Rattle.wkt_convert.specs.declared.flattened.Found.TheVariants as found
 use Rattle.wkt_machine.specs.Events.{Event}
-use Rattle.wkt_machine.specs.Growing.{Frame, Growing, grow_all, joined, members_of, MayAll}
-use Rattle.wkt_flat_read.specs.Plain.{flat_line, flat_area, flat_point, flat_points, points_at, plain, holds_empty, some_empty}
+use Rattle.wkt_machine.specs.Growing.{Frame, Growing, grow_all, joined, members_of, MayAll, grow}
 use Rattle.wkt_flat_read.specs.declared.tree.FlatEnded.{FlatEnded}
-use Rattle.wkt_flat_read.specs.declared.tree.FlatEnded.TheVariants as ended
 use Rattle.wkt_flat_read.specs.declared.tree.FlatTree.{FlatTree}
+use Rattle.wkt_convert.specs.declared.flattened.Found.TheVariants as found
+use Rattle.wkt_flat_read.specs.declared.tree.FlatEnded.TheVariants as ended
+use Rattle.wkt_machine.specs.Trees.{grow_append}
+use Rattle.wkt_machine.specs.Makers.{Maker}
+use Rattle.wkt_flat_read.specs.declared.grower.FlatGrower.{FlatGrower}
+
+-- The flat value of what is read, but for the empty points of multipoints: these aren't flat, and are left out.
+
+-- x and y of the numbers of a coordinate
+abbrev pub flat_coord : {T : Type 0} → List T → List (Coord T)
+flat_coord (x ∷ y ∷ zs) = at x y ∷ []
+flat_coord zs = []
+
+abbrev pub flat_line : {T : Type 0} → List (List T) → List (Coord T)
+flat_line [] = []
+flat_line (c ∷ cs) = flat_coord c ++ flat_line cs
+
+abbrev pub flat_area : {T : Type 0} → (Coord T → Coord T → Bool) → List (List (List T)) → Rings (Coord T)
+flat_area E rs = first_outside E (map flat_line rs)
+
+-- a point at each coordinate
+abbrev pub points_at : {T : Type 0} → List (Coord T) → List (Point T)
+points_at cs = map (λ c. record { 0 = c }) cs
+
+abbrev pub flat_point : {T : Type 0} → Option (List T) → List (Point T)
+flat_point None = []
+flat_point (Some c) = points_at (flat_coord c)
+
+abbrev pub flat_points : {T : Type 0} → List (Option (List T)) → List (Point T)
+flat_points [] = []
+flat_points (p ∷ ps) = flat_point p ++ flat_points ps
+
+-- a point alone; where there is none, an empty multipoint
+abbrev pub alone : {T : Type 0} → List (Point T) → Flat T
+alone [] = Flat.multi_point []
+alone (p ∷ ps) = Flat.point p
+
+abbrev mutual
+  pub plain : {T : Type 0} → (Coord T → Coord T → Bool) → Value T → Flat T
+  plain E (Value.point d c) = alone (flat_point c)
+  plain E (Value.line_string d cs) = Flat.line_string (flat_line cs)
+  plain E (Value.polygon d rs) = Flat.polygon (flat_area E rs)
+  plain E (Value.multi_point d ps) = Flat.multi_point (flat_points ps)
+  plain E (Value.multi_line_string d ls) = Flat.multi_line_string (map flat_line ls)
+  plain E (Value.multi_polygon d ys) = Flat.multi_polygon (map (flat_area E) ys)
+  plain E (Value.collection d vs) = Flat.collection (plains E vs)
+
+  pub plains : {T : Type 0} → (Coord T → Coord T → Bool) → Values T → Flats T
+  plains E Values.no_values = Flats.no_flats
+  plains E (Values.more_values v vs) = Flats.more_flats (plain E v) (plains E vs)
+
+-- whether one of the points is empty
+abbrev pub is_empty : {A : Type 0} → Option A → Bool
+is_empty None = true
+is_empty (Some c) = false
+
+abbrev pub some_empty : {A : Type 0} → List (Option A) → Bool
+some_empty [] = false
+some_empty (p ∷ ps) = is_empty p || some_empty ps
+
+-- whether an empty point stands in a multipoint of the value
+abbrev mutual
+  pub holds_empty : {T : Type 0} → Value T → Bool
+  holds_empty (Value.multi_point d ps) = some_empty ps
+  holds_empty (Value.collection d vs) = hold_empty vs
+  holds_empty v = false
+
+  pub hold_empty : {T : Type 0} → Values T → Bool
+  hold_empty Values.no_values = false
+  hold_empty (Values.more_values v vs) = holds_empty v || hold_empty vs
+
+-- What a flat tree holds of what has grown.
 
 -- the coordinate of an x and a y, if both came
 abbrev pub coord_by : {T : Type 0} → Option T → Option T → Option (Coord T)
@@ -163,3 +235,41 @@ module _ {T : Type 0} (E : Coord T → Coord T → Bool) where
   pub record FlatJoins (t : FlatTree T) (g : Geometry T) (u : FlatTree T) : Type 0 where
     pub stays : FlatIsLost t → FlatIsLost u
     pub joins : (f : Frame T) (o : List (Frame T)) (v : Value T) → t.is_lost ≡ false → t.is_refused ≡ (frames_hold (f ∷ o) || holds_empty v) → FlatHasOnly t [] [] [] [] → opened t ≡ frames E (f ∷ o) → flat_tree g ≡ plain E v → FlatHolds u (joined (f ∷ o) (Some v)) ⊎ FlatIsLost u
+
+-- What is made where a flat tree grows that is lent.
+
+-- the tree that is lent
+abbrev pub tree_of : {T : Type 0} → FlatGrower T → MutBor (FlatTree T)
+tree_of g = g.tree
+
+may_front : {N : Type 0} (es fs : List (Event N)) (s : Growing N) → MayAll (es ++ fs) s → MayAll es s × MayAll fs (grow_all es s)
+may_front [] fs s h = (tt, h)
+may_front (e ∷ es) fs s (h, hs) = let (k, ks) = may_front es fs (grow e s) hs in ((h, k), ks)
+
+module _ {T : Type 0} (E : Coord T → Coord T → Bool) where
+  pub grew_none : (t : FlatTree T) → FlatGrew E t [] t
+  grew_none t = record { stays = λ h. h; holds = λ w h k. inl h }
+
+  pub grew_more : (t u v : FlatTree T) (es fs : List (Event T)) → FlatGrew E t es u → FlatGrew E u fs v → FlatGrew E t (es ++ fs) v
+  grew_more t u v es fs a b = record {
+    stays = λ h. b.stays (a.stays h);
+    holds = λ w h may. let (one, two) = may_front es fs w may in first w two (a.holds w h one);
+  }
+    where
+      second : (w : Growing T) → FlatHolds E v (grow_all fs (grow_all es w)) ⊎ FlatIsLost v → FlatHolds E v (grow_all (es ++ fs) w) ⊎ FlatIsLost v
+      second w (inl h) = inl (subst (FlatHolds E v) (sym (grow_append es fs w)) h)
+      second w (inr l) = inr l
+
+      first : (w : Growing T) → MayAll fs (grow_all es w) → FlatHolds E u (grow_all es w) ⊎ FlatIsLost u → FlatHolds E v (grow_all (es ++ fs) w) ⊎ FlatIsLost v
+      first w two (inl h) = second w (b.holds (grow_all es w) h two)
+      first w two (inr l) = inr (b.stays l)
+
+  abbrev pub tree_maker : Maker T (FlatGrower T)
+  tree_maker = record {
+    makes = λ g es h. FlatGrew E (tree_of g).now es (tree_of h).now;
+    fits = λ s n. Unit {0};
+    takes = λ x. 0;
+    none = λ g. grew_none (tree_of g).now;
+    more = λ g h i es fs. grew_more (tree_of g).now (tree_of h).now (tree_of i).now es fs;
+    less = λ s m n order h. tt;
+  }

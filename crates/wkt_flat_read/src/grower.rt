@@ -13,7 +13,7 @@ pub struct FlatGrower<'a, T> {
 }
 
 impl<'a, T: WktNum> FlatGrower<'a, T> {
-    ghost use Rattle.wkt_flat_read.specs.Growers.{tree_of};
+    ghost use Rattle.wkt_flat_read.specs.Trees.{tree_of};
 
     #[inline(always)]
     pub fn new(tree: &'a mut FlatTree<T>) -> Self
@@ -33,7 +33,7 @@ impl<'a, T: WktNum> FlatGrower<'a, T> {
 
 impl<T: WktNum> Builder<T> for FlatGrower<'_, T> {
     ghost use Rattle.wkt_flat.specs.Equal.{coord_eq};
-    ghost use Rattle.wkt_flat_read.specs.Growers.{tree_maker};
+    ghost use Rattle.wkt_flat_read.specs.Trees.{tree_maker};
 
     ghost maker = { tree_maker (coord_eq T.eq) };
 

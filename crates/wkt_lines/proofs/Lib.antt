@@ -1,13 +1,5 @@
-pub mod LineEnds
-pub mod InRoom
-pub mod FirstLineAndRest
-pub mod Answering
-pub mod Adding
-pub mod FirstLineAnswers
 pub mod OutputOfParts
-pub mod OneOutput
-pub mod AnswerPrefixes
-pub mod Feeding
+pub mod Answering
 pub mod Outcomes
 pub mod Lining
 pub mod OutputBuffering

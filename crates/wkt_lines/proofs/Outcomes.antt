@@ -4,17 +4,16 @@ use Rattle.std.proofs.lemmas.List.{append-nil}
 use Rattle.std.specs.Io.KnownBytes.{Consumes, Keeps, IsAtEnd}
 use Rattle.std.proofs.KnownBytes.{Appends-nil, Appends-trans, Keeps-refl, Consumes-nil, Consumes-trans, Consumes-kept, Consumes-whole}
 use Rattle.wkt_bytes.specs.Sinks.{SinkOfBytes}
-use Rattle.wkt_lines.specs.Lines.{input_lines}
+use Rattle.wkt_lines.specs.Lines.{input_lines, HasNoFeed}
 use Rattle.wkt_lines.specs.Laws.{IsWholeLines}
 use Rattle.wkt_lines.specs.Replies.{AreReplies, AllReplied, FirstReplied, RepliesBefore, BeforeReplied, PartReplied}
 use Rattle.std.specs.declared.io.Error.{Error}
 use Rattle.std.specs.declared.alloc.AllocError.{AllocError}
 use Rattle.wkt_num.specs.Sink.{next_count}
-use Rattle.wkt_lines.specs.OutputBuffers.{AnswersAll}
+use Rattle.wkt_lines.specs.Buffers.{AnswersAll}
 use Rattle.wkt_lines.specs.declared.lines.RunError.{RunError}
 use Rattle.wkt_lines.specs.declared.lines.RunError.TheVariants as run
 use Rattle.wkt_lines.proofs.OutputOfParts.{lines_of_parts, replies_append, all_replies_append}
-use Rattle.wkt_lines.specs.Feeds.{HasNoFeed}
 use Rattle.wkt_lines.specs.Streaming.{TakenReplied, AllTaken, LinesTaken, RunLeaves, Streams}
 
 if_map : (a : Option (List ℕ)) (P Q : List ℕ → Type 0) → IfSome a P → ((x : List ℕ) → P x → Q x) → IfSome a Q

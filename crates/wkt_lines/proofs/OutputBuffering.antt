@@ -6,16 +6,14 @@ use Rattle.std.specs.Io.KnownBytes.{Appends}
 use Rattle.wkt_num.specs.Sink.{next_count}
 use Rattle.wkt_bytes.specs.Sinks.{SinkOfBytes}
 use Rattle.wkt_events.specs.Remaining.{before_feed}
-use Rattle.wkt_lines.specs.Splitting.{after_feed}
-use Rattle.wkt_lines.specs.Lines.{input_lines}
+use Rattle.wkt_lines.specs.Lines.{after_feed, input_lines}
 use Rattle.wkt_lines.specs.Replies.{AreReplies, AllReplied, BeforeReplied, PartReplied}
-use Rattle.wkt_lines.specs.OutputBuffers.{Drained, Stopped, PutsOut, AnswersAll}
+use Rattle.wkt_lines.specs.Buffers.{Drained, Stopped, PutsOut, AnswersAll}
 use Rattle.std.specs.declared.io.Error.{Error}
 use Rattle.wkt_lines.specs.Output.{OnRunMemory}
 use Rattle.wkt_lines.specs.declared.lines.RunError.{RunError}
 use Rattle.wkt_lines.specs.declared.lines.RunError.TheVariants as run
-use Rattle.wkt_lines.proofs.Answering.{one_more, next_line, one_reply}
-use Rattle.wkt_lines.proofs.AnswerPrefixes.{part_out, no_answers}
+use Rattle.wkt_lines.proofs.Answering.{one_more, next_line, one_reply, part_out, no_answers}
 
 some-left : (at : ℕ) (input : List ℕ) → at < length input → drop at input ≢ []
 some-left at input inside e = let n = ap length e in omega (arith, n, length-drop at input, inside)

@@ -1,11 +1,45 @@
--- The output for an input that is cut after line feeds.
-use Rattle.std.proofs.Common.{◌≡◌, ℕ, List, [], ◌∷◌, ◌++◌, ◌==◌, if◌then◌else◌, true, false, refl, sym, ap, ◌∙◌, subst, append_assoc, inl, inr, Option}
+-- The output for an input that is cut after line feeds, and beginnings of it. There is one at most.
+use Rattle.std.proofs.Common.{◌≡◌, ℕ, List, [], ◌∷◌, ◌==◌, if◌then◌else◌, true, false, refl, inl, inr, sym, ◌∙◌, ap, subst, ◌++◌, append_assoc, Option}
+use Rattle.std.specs.Prelude.{◌⊎◌}
 use Rattle.std.proofs.lemmas.List.{append-nil}
-use Rattle.wkt_lines.specs.Lines.{onto_first, pieces, without_last_empty, input_lines}
+use Rattle.wkt_lines.specs.Lines.{onto_first, pieces, without_last_empty, input_lines, before_feed, after_feed}
 use Rattle.wkt_lines.specs.Replies.{AreReplies}
-use Rattle.wkt_lines.specs.Output.{IsAnswer, AreAnswers, IsOutput}
+use Rattle.wkt_lines.specs.Output.{IsAnswer, AreAnswers, IsOutput, IsText, IsRefusedLine}
 use Rattle.wkt_lines.specs.Laws.{IsWholeLines, AreWhole, joined, AreOutputs}
-use Rattle.wkt_lines.proofs.FirstLineAndRest.{pieces_some, two_pieces}
+use Rattle.wkt_access.specs.Shapes.{shape_of}
+use Rattle.wkt_access.specs.Texts.{shape_text}
+use Rattle.wkt_read.specs.Laws.{OneFront}
+
+-- The lines of an input are its first line and those of what follows its line feed.
+
+pieces_split : (bs : List ℕ) → (pieces bs ≡ before_feed bs ∷ pieces (after_feed bs)) ⊎ ((pieces bs ≡ bs ∷ []) × (after_feed bs ≡ []) × (before_feed bs ≡ bs))
+pieces_split [] = inr (refl, refl, refl)
+pieces_split (b ∷ bs) = elim (b == 10) as (λ t.
+    ((if t then [] ∷ pieces bs else onto_first b (pieces bs)) ≡ (if t then [] else b ∷ before_feed bs) ∷ pieces (if t then bs else after_feed bs))
+    ⊎ (((if t then [] ∷ pieces bs else onto_first b (pieces bs)) ≡ (b ∷ bs) ∷ []) × ((if t then bs else after_feed bs) ≡ []) × ((if t then [] else b ∷ before_feed bs) ≡ b ∷ bs))) [
+      | true ↦ inl refl
+      | false ↦ elim (pieces_split bs) [ inl h ↦ inl (ap (λ ps. onto_first b ps) h) | inr h ↦ inr (ap (λ ps. onto_first b ps) h.0, h.1, ap (λ xs. b ∷ xs) h.2) ]
+    ]
+
+pub pieces_some : (bs : List ℕ) → (p : List ℕ) × ((ps : List (List ℕ)) × (pieces bs ≡ p ∷ ps))
+pieces_some bs = elim (pieces_split bs) [ inl h ↦ (before_feed bs, (pieces (after_feed bs), h)) | inr h ↦ (bs, ([], h.0)) ]
+
+pub two_pieces : (p q : List ℕ) (qs : List (List ℕ)) → without_last_empty (p ∷ q ∷ qs) ≡ p ∷ without_last_empty (q ∷ qs)
+two_pieces [] q qs = refl
+two_pieces (b ∷ bs) q qs = refl
+
+more_pieces : (p : List ℕ) (bs : List ℕ) → without_last_empty (p ∷ pieces bs) ≡ p ∷ input_lines bs
+more_pieces p bs = let e = pieces_some bs in
+    subst (λ (ps : List (List ℕ)). without_last_empty (p ∷ ps) ≡ p ∷ without_last_empty ps) (sym e.1.1) (two_pieces p e.0 e.1.0)
+
+-- the first line, and the lines after it
+pub lines_step : (b : ℕ) (bs : List ℕ) → input_lines (b ∷ bs) ≡ before_feed (b ∷ bs) ∷ input_lines (after_feed (b ∷ bs))
+lines_step b bs = elim (pieces_split (b ∷ bs)) [
+  | inl h ↦ ap without_last_empty h ∙ more_pieces (before_feed (b ∷ bs)) (after_feed (b ∷ bs))
+  | inr h ↦ ap without_last_empty h.0 ∙ (ap (λ xs. xs ∷ []) (sym h.2) ∙ ap (λ xs. before_feed (b ∷ bs) ∷ input_lines xs) (sym h.1))
+]
+
+-- The output for an input that is cut after line feeds.
 
 onto_append : (b : ℕ) (ps qs : List (List ℕ)) (p : List ℕ) (rest : List (List ℕ)) → ps ≡ p ∷ rest → onto_first b (ps ++ qs) ≡ onto_first b ps ++ qs
 onto_append b [] qs p rest e = absurd (cc)
@@ -85,3 +119,22 @@ module _ {N : Type 0} (read : List ℕ → Option N) (num : N → List ℕ) wher
       let (x, y, e, hx, hy) = output_cut p (joined ps last) z w h in
       let (os, o, f, ho, hl) = parts_of ps last y ws hy in
       (x ∷ os, o, e ∙ ap (λ zs. x ++ zs) f, (x, os, refl, hx, ho), hl)
+
+-- An input has one output at most.
+
+module _ {N : Type 0} (read : List ℕ → Option N) (num : N → List ℕ) (law : OneFront read) where
+  text_refused : (P : Type 0) (line x y : List ℕ) → IsText read num line x → IsRefusedLine read num line y → P
+  text_refused P line x y t r = elim r.cause [ inl n ↦ absurd (n t.utf8) | inr n ↦ absurd (n t.value t.end t.front) ]
+
+  same_answer : (line x y : List ℕ) → IsAnswer read num line x → IsAnswer read num line y → x ≡ y
+  same_answer line x y (inl t) (inl u) =
+      t.text ∙ (ap (λ v. shape_text num (shape_of v)) (law line t.value u.value t.end u.end t.front u.front).0 ∙ sym u.text)
+  same_answer line x y (inl t) (inr r) = text_refused (x ≡ y) line x y t r
+  same_answer line x y (inr r) (inl t) = text_refused (x ≡ y) line y x t r
+  same_answer line x y (inr r) (inr s) = r.refused ∙ sym s.refused
+
+  pub same_answers : (ls : List (List ℕ)) (x y : List ℕ) → AreAnswers read num ls x → AreAnswers read num ls y → x ≡ y
+  same_answers [] x y h k = h ∙ sym k
+  same_answers (l ∷ ls) x y (b, rest, e, is, more) (c, left, f, js, others) =
+      e ∙ (ap (λ (z : List ℕ). (z ++ 10 ∷ []) ++ rest) (same_answer l b c is js)
+      ∙ (ap (λ (z : List ℕ). (c ++ 10 ∷ []) ++ z) (same_answers ls rest left more others) ∙ sym f))

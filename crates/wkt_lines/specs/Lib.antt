@@ -1,14 +1,9 @@
-pub mod Lines
-pub mod Splitting
 pub mod Numbers
-pub mod Replies
 pub mod Output
-pub mod InRoom
 pub mod Laws
-pub mod Answer
+pub mod Replies
 pub mod First
-pub mod InputBuffers
-pub mod Feeds
+pub mod Lines
 pub mod Streaming
 pub mod Reading
-pub mod OutputBuffers
+pub mod Buffers

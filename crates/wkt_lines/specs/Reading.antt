@@ -2,7 +2,7 @@
 use Rattle.std.specs.Prelude.{◌≡◌, ℕ, List, ◌∷◌, ◌++◌, Option, None, Some, take, drop, length, ⊤}
 use Rattle.std.specs.Io.KnownBytes.{Consumes, IsAtEnd, prepend_known}
 use Rattle.wkt_lines.specs.Lines.{input_lines}
-use Rattle.wkt_lines.specs.InputBuffers.{unanswered}
+use Rattle.wkt_lines.specs.Buffers.{unanswered}
 use Rattle.wkt_lines.specs.declared.reading.Lines.{Lines}
 
 module _ {R : Type 0} where

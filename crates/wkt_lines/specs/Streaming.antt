@@ -7,7 +7,7 @@ use Rattle.wkt_num.specs.Sink.{next_count}
 use Rattle.wkt_lines.specs.Replies.{AllReplied, IsAllReplied, IsFirstReplied, IsBeforeReplied, IsPartReplied}
 use Rattle.wkt_lines.specs.Output.{OnRunRead, OnRunWrite, OnRunMemory, UnlessRunRead, UnlessRunWrite}
 use Rattle.wkt_lines.specs.declared.lines.RunError.{RunError}
-use Rattle.wkt_lines.specs.Feeds.{HasNoFeed}
+use Rattle.wkt_lines.specs.Lines.{HasNoFeed}
 
 -- The source gave all bytes that it had, and this holds of them.
 abbrev pub AllTaken : Option (List ℕ) → Option (List ℕ) → (List ℕ → Type 0) → Type 0

@@ -1,6 +1,6 @@
 //! The answer to one line.
 ghost use Rattle.std.specs.Prelude.{◌≡◌, OnOk, codes};
-ghost use Rattle.wkt_lines.specs.Answer.{PutsAnswer, OnSink, OnAnswerMemory};
+ghost use Rattle.wkt_lines.specs.Replies.{PutsAnswer, OnSink, OnAnswerMemory};
 ghost use Rattle.wkt_lines.specs.Output.{AddsAnswer, BreaksAnswer};
 
 use crate::first::put;

@@ -2,7 +2,7 @@
 ghost use Rattle.std.specs.Prelude.{◌≡◌, ◌<◌, [], OnOk};
 ghost use Rattle.wkt_bytes.specs.Sinks.{PutsAll};
 ghost use Rattle.wkt_lines.specs.Output.{OnRunMemory};
-ghost use Rattle.wkt_lines.specs.OutputBuffers.{output_text, HasRoomFor, PutsOut, AnswersAll};
+ghost use Rattle.wkt_lines.specs.Buffers.{output_text, HasRoomFor, PutsOut, AnswersAll};
 
 use crate::into_output::Answers;
 use crate::lines::RunError;

@@ -2,7 +2,7 @@
 ghost use Rattle.std.specs.Prelude.{◌≡◌, ◌≤◌, ◌+◌, ◌==◌, not, length, take, drop};
 ghost use Rattle.std.specs.List.{prefix_len};
 ghost use Rattle.std.specs.Simd.Lanes.{chunk};
-ghost use Rattle.wkt_lines.specs.Splitting.{before_feed, after_feed, EndsTextIfAny};
+ghost use Rattle.wkt_lines.specs.Lines.{before_feed, after_feed, EndsTextIfAny};
 
 use std::simd::prelude::*;
 use wkt_events::byte_at;

@@ -2,8 +2,7 @@
 ghost use Rattle.std.specs.Prelude.{◌≡◌, ◌+◌, ◌≤◌, IfOk, length, take, vec_len, IsUtf8};
 ghost use Rattle.wkt_events.specs.Remaining.{before_feed};
 ghost use Rattle.wkt_lines.specs.Output.{IsAnswer};
-ghost use Rattle.wkt_lines.specs.Replies.{RepliesLine};
-ghost use Rattle.wkt_lines.specs.Answer.{PutsAnswer};
+ghost use Rattle.wkt_lines.specs.Replies.{RepliesLine, PutsAnswer};
 ghost use Rattle.wkt_lines.specs.First.{AnswersFirst, EndsLine};
 
 use crate::answer::AnswerError;

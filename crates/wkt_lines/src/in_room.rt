@@ -1,7 +1,7 @@
 //! The answer to the first line, behind what a room holds.
 ghost use Rattle.std.specs.Prelude.{◌≡◌, ◌+◌, ◌*◌, ◌≤◌, ◌++◌, ◌<◌, length, take, drop, codes};
-ghost use Rattle.wkt_lines.specs.InRoom.{AnswersIfRoom, TestsFrom, IfAnswered};
-ghost use Rattle.wkt_lines.specs.Splitting.{before_feed, after_feed};
+ghost use Rattle.wkt_lines.specs.First.{AnswersIfRoom, TestsFrom, IfAnswered};
+ghost use Rattle.wkt_lines.specs.Lines.{before_feed, after_feed};
 
 use crate::ends::{line_end, text_end};
 use wkt_canonical::{NoRoom, write_front};

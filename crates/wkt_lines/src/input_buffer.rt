@@ -3,7 +3,7 @@ ghost use Rattle.std.specs.Prelude.{◌≡◌, ◌≢◌, ℕ, List, ◌≤◌, 
 ghost use Rattle.std.specs.Io.KnownBytes.{Consumes, Keeps, IsAtEnd};
 ghost use Rattle.wkt_num.specs.Sink.{next_count};
 ghost use Rattle.wkt_lines.specs.Laws.{IsWholeLines};
-ghost use Rattle.wkt_lines.specs.Feeds.{HasNoFeed};
+ghost use Rattle.wkt_lines.specs.Lines.{HasNoFeed};
 
 use crate::ends::line_end;
 use std::alloc::{AllocError, Global};
@@ -64,7 +64,7 @@ pub struct InputBuffer {
 }
 
 impl InputBuffer {
-    ghost use Rattle.wkt_lines.specs.InputBuffers.{unanswered, has_room};
+    ghost use Rattle.wkt_lines.specs.Buffers.{unanswered, has_room};
 
     /// An input buffer that holds nothing and has no room yet.
     pub fn new(alloc: Global) -> InputBuffer

@@ -1,6 +1,6 @@
 //! What the lines of a block are answered with, into an output buffer.
 ghost use Rattle.std.specs.Prelude.{◌≡◌, ℕ, List, length};
-ghost use Rattle.wkt_lines.specs.OutputBuffers.{output_text, HasRoomFor, RepliesNext};
+ghost use Rattle.wkt_lines.specs.Buffers.{output_text, HasRoomFor, RepliesNext};
 
 use crate::answer::AnswerError;
 use crate::ends::line_end;
@@ -67,7 +67,7 @@ pub(crate) struct ByReply<'a, A> {
 }
 
 impl<A: Reply> Answers for ByReply<'_, A> {
-    ghost use Rattle.wkt_lines.specs.OutputBuffers.{reply_of};
+    ghost use Rattle.wkt_lines.specs.Buffers.{reply_of};
 
     ghost answers = { λ s. A.answers (reply_of s) };
 

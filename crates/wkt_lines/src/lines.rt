@@ -2,7 +2,7 @@
 ghost use Rattle.std.specs.Prelude.{◌≡◌, ◌≤◌, ◌+◌, length, drop};
 ghost use Rattle.wkt_lines.specs.Numbers.{read_line, print_line};
 ghost use Rattle.wkt_lines.specs.Output.{IsAnswer};
-ghost use Rattle.wkt_lines.specs.OutputBuffers.{AnswersAll};
+ghost use Rattle.wkt_lines.specs.Buffers.{AnswersAll};
 ghost use Rattle.wkt_lines.specs.Streaming.{Runs};
 
 use crate::buffered::answer_block;

@@ -30,7 +30,7 @@ pub struct OutputBuffer {
 }
 
 impl OutputBuffer {
-    ghost use Rattle.wkt_lines.specs.OutputBuffers.{output_text, output_failures, HasRoomFor, AnswersNext};
+    ghost use Rattle.wkt_lines.specs.Buffers.{output_text, output_failures, HasRoomFor, AnswersNext};
 
     /// An output buffer with no room yet, which is put out when it holds 64 KiB, by one write.
     pub fn of_blocks(alloc: Global) -> OutputBuffer
@@ -196,7 +196,7 @@ impl OutputBuffer {
 
 /// Text that is written to an output buffer. It fails where there is no memory for it.
 impl TextSink for OutputBuffer {
-    ghost use Rattle.wkt_lines.specs.OutputBuffers.{output_text, output_failures};
+    ghost use Rattle.wkt_lines.specs.Buffers.{output_text, output_failures};
     ghost use Rattle.wkt_num.specs.Sink.{revealing};
 
     ghost sink = { revealing output_text output_failures };

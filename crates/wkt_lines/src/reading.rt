@@ -4,7 +4,7 @@ ghost use Rattle.std.specs.Io.KnownBytes.{Keeps, IsAtEnd};
 ghost use Rattle.wkt_num.specs.Sink.{next_count};
 ghost use Rattle.wkt_bytes.specs.ReadAll.{OnRead, UnlessRead};
 ghost use Rattle.wkt_lines.specs.First.{EndsLine};
-ghost use Rattle.wkt_lines.specs.InputBuffers.{unanswered};
+ghost use Rattle.wkt_lines.specs.Buffers.{unanswered};
 
 use crate::ends::line_end;
 use crate::input_buffer::InputBuffer;

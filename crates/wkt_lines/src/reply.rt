@@ -1,8 +1,7 @@
 //! Answers of any kind to the lines of an input.
 ghost use Rattle.std.specs.Prelude.{◌≡◌, ℕ, List, OnOk};
-ghost use Rattle.wkt_lines.specs.Answer.{OnSink, OnAnswerMemory};
+ghost use Rattle.wkt_lines.specs.Replies.{OnSink, OnAnswerMemory, AddsReply, BreaksReply, RepliesLine, RepliesAll};
 ghost use Rattle.wkt_lines.specs.Output.{IsAnswer};
-ghost use Rattle.wkt_lines.specs.Replies.{AddsReply, BreaksReply, RepliesLine, RepliesAll};
 
 use crate::answer::{AnswerError, write_answer};
 use crate::ends::line_end;

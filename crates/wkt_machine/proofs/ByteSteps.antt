@@ -1,36 +1,61 @@
--- Numbers, commas and parentheses of coordinates in bytes, as steps of the machine.
-use Rattle.std.proofs.Common.{◌≡◌, ℕ, ◌+◌, ◌-◌, ◌<◌, List, [], ◌∷◌, length, length-append, get_or, Option, Some, None, Bool, true, false, refl, sym, ap, ◌∙◌, subst, arith}
+-- Kind words, numbers, commas and parentheses in bytes, as steps of the machine.
+use Rattle.std.proofs.Common.{◌≡◌, ℕ, ◌+◌, ◌-◌, ◌<◌, List, [], ◌∷◌, length, length-append, get_or, Option, Some, None, Bool, true, false, refl, sym, ap, ◌∙◌, subst, arith, ◌≢◌, ◌≤◌, take, drop, slice_range, if◌then◌else◌, IfSome, codes, ℤ, ◌++◌, inl, IsUtf8, to_z, of_z}
 use Rattle.std.specs.Prelude.{Ok}
-use Rattle.wkt_num.specs.Bytes.{Lexeme, Open, Close, Comma, Word, Num, Mark, class_of}
+use Rattle.std.specs.Int.{w64, to_le_bytes}
+use Rattle.std.proofs.lemmas.List.{take_rest}
+use Rattle.wkt_num.specs.Bytes.{Lexeme, Open, Close, Comma, Word, Num, Mark, class_of, Run, AllRun}
 use Rattle.wkt_access.specs.declared.dimensions.Dimension.{Dimension}
-use Rattle.wkt_read.specs.Spanned.{Spanned}
-use Rattle.wkt_events.specs.Remaining.{Legible, remaining_spanned}
-use Rattle.wkt_events.specs.Numbers.{NoNumber}
+use Rattle.wkt_read.specs.Spanned.{Spanned, AreEnds}
+use Rattle.wkt_events.specs.Remaining.{Legible, remaining_spanned, class_in, IsRunEnd, TakesOne}
+use Rattle.wkt_events.specs.Numbers.{NoNumber, IsNumberAt}
 use Rattle.wkt_machine.specs.Action.{Action}
 use Rattle.wkt_machine.specs.Action as act
 use Rattle.wkt_machine.specs.BytesView.{IsBetween, IsDark, bytes_view, has_coordinates}
 use Rattle.wkt_machine.specs.Events.{Event}
 use Rattle.wkt_machine.specs.Goes.{Stays, MakesOneNumber, IsUnread, IsStuck, Goes, Refuses, closes}
-use Rattle.wkt_machine.specs.Machine.{at, numbers_after, inside, outside, last_place, number_step, said, moved, move}
+use Rattle.wkt_machine.specs.Machine.{at, numbers_after, inside, outside, last_place, number_step, said, moved, move, kind_step, joined_step, part_of}
 use Rattle.wkt_machine.specs.Machines.{state_of, place_of, after_third, state_for, next_after, is_single, HasNext, IsSound}
 use Rattle.wkt_machine.specs.Makers.{Maker}
 use Rattle.wkt_machine.specs.Place.{State}
 use Rattle.wkt_machine.specs.Place as place
-use Rattle.wkt_machine.specs.Sight.{seen_of, sight}
+use Rattle.wkt_machine.specs.View.{seen_of, sight}
 use Rattle.wkt_machine.specs.declared.bytes.Bytes.{Bytes}
 use Rattle.wkt_machine.specs.declared.machine.Machine.{Machine}
-use Rattle.wkt_machine.specs.declared.machine.Seen.TheVariants as seen
 use Rattle.wkt_machine.specs.declared.machine.State.{State as Next}
-use Rattle.wkt_machine.specs.declared.machine.State.TheVariants as next
 use Rattle.wkt_machine.specs.declared.part.Axis.{Axis}
-use Rattle.wkt_machine.specs.declared.part.Axis.TheVariants as axis
 use Rattle.wkt_machine.specs.declared.part.Part.{Part}
-use Rattle.wkt_machine.specs.declared.part.Part.TheVariants as part
 use Rattle.wkt_machine.specs.declared.source.At.{At}
-use Rattle.wkt_machine.proofs.ByteViews as bytes
 use Rattle.wkt_machine.proofs.WaysJoin.{goes_on_to}
-use Rattle.wkt_machine.proofs.Numbering.{over_number, inner_number, last_number}
-use Rattle.wkt_machine.proofs.Stepping.{skipped, several}
+use Rattle.wkt_machine.proofs.NextLexeme.{over_number, inner_number, closes_number}
+use Rattle.wkt_machine.proofs.Stepping.{skipped, several, goes_one}
+use Rattle.wkt_machine.specs.declared.machine.Seen.TheVariants as seen
+use Rattle.wkt_machine.specs.declared.machine.State.TheVariants as next
+use Rattle.wkt_machine.specs.declared.part.Axis.TheVariants as axis
+use Rattle.wkt_machine.specs.declared.part.Part.TheVariants as part
+use Rattle.wkt_machine.proofs.ByteViews.{close_mark}
+use Rattle.wkt_machine.proofs.ByteViews as bytes
+use Rattle.wkt_access.specs.declared.dimensions.Dimension.TheVariants.{XY}
+use Rattle.wkt_read.specs.Grammar.{kind_word, kind_words, DimPart, Header, StandFor}
+use Rattle.wkt_read.specs.Lexemes.{lexeme_of, starts_number, without_plus}
+use Rattle.wkt_events.proofs.RemainingLexemes.{space, spanned-white, takes-mark, takes-run, takes-after, mark-in, remaining-all, takes-number}
+use Rattle.wkt_events.proofs.RemainingLexemes as classes
+use Rattle.wkt_events.proofs.Utf8Lines.{legible-one, text-with-front, text-behind-front}
+use Rattle.wkt_machine.specs.LexemesAhead.{IsKindName, EndsWord, StandsHead}
+use Rattle.wkt_num.specs.Decimal.{read_decimal}
+use Rattle.wkt_num.specs.DigitParts.{BeginsUnits}
+use Rattle.wkt_num.specs.Whole.{IsSigned}
+use Rattle.wkt_num.proofs.NumberInWindow.{held-is}
+use Rattle.wkt_num.proofs.ReadNumbers.{decimal_utf8}
+use Rattle.wkt_access.specs.Values.{Value}
+use Rattle.wkt_types.specs.declared.geometry_type.GeometryType.{GeometryType}
+use Rattle.wkt_read.specs.Front.{Front}
+use Rattle.wkt_read.proofs.LawLemmas.HeaderPlaces.{front-of-lexemes}
+use Rattle.wkt_read.proofs.TokenizerLemmas.Placings.{spanned-ends}
+use Rattle.wkt_events.proofs.Runs.{kept-there}
+use Rattle.wkt_machine.specs.Points.{IsPointFront}
+use Rattle.wkt_types.specs.declared.geometry_type.GeometryType.TheVariants as kind
+
+-- Numbers, commas and parentheses of coordinates in bytes, as steps of the machine.
 
 -- A part with coordinates.
 abbrev HoldsCoordinates : Part → Type 0
@@ -94,7 +119,7 @@ module _ {N B : Type 0} (read : List ℕ → Option N) (maker : Maker N B) {n : 
           let plain = holds m.part has in
           let there : state_of k ≡ at m.depth (last_place m.part m.dim) = ap state_of is ∙ ap (λ x. at m.depth (place_of x m.part m.dim)) e ∙ ap (at m.depth) (sym (plain.1 m.dim)) in
           let sound_k : IsSound k = subst IsSound (sym is) (subst (λ x. HasNext x m.dim) (sym e) tt) in
-          last_number read (bytes_view feed) maker m s t b c a at_a sound h (Ok (record { source = t; machine = k; builder = c })) e
+          closes_number read (bytes_view feed) maker m s t b c a at_a sound h (Ok (record { source = t; machine = k; builder = c })) e
           (refl, there, sound_k, subst (λ es. maker.makes c es c) (sym (never_closes N m.part has)) (maker.none c))
       go next.Kind e = inner (λ i. let clash : next.Kind ≡ next.Item = sym e ∙ i in cc)
       go next.Dimension e = inner (λ i. let clash : next.Dimension ≡ next.Item = sym e ∙ i in cc)
@@ -172,3 +197,199 @@ module _ {N B : Type 0} (read : List ℕ → Option N) (maker : Maker N B) {n : 
   goes_less m s b to h =
       let count = ap length h.split ∙ length-append h.given (h.last ∷ remaining_spanned feed to.source.text.now to.source.at) in
       omega (arith, count)
+
+-- Kind words in bytes, and the machine over them.
+
+-- the names
+pub point_name : IsKindName part.Point (codes "POINT")
+unfolding kind_word kind_words class_of
+point_name = record { row = _; names = refl; kind = refl; joined = refl; letters = (refl, (refl, (refl, (refl, (refl, tt))))); begins = refl }
+
+pub polygon_name : IsKindName part.Polygon (codes "POLYGON")
+unfolding kind_word kind_words class_of
+polygon_name = record { row = _; names = refl; kind = refl; joined = refl; letters = (refl, (refl, (refl, (refl, (refl, (refl, (refl, tt))))))); begins = refl }
+
+pub line_string_name : IsKindName part.LineString (codes "LINESTRING")
+unfolding kind_word kind_words class_of
+line_string_name = record { row = _; names = refl; kind = refl; joined = refl; letters = (refl, (refl, (refl, (refl, (refl, (refl, (refl, (refl, (refl, (refl, tt)))))))))); begins = refl }
+
+pub multi_point_name : IsKindName part.MultiPoint (codes "MULTIPOINT")
+unfolding kind_word kind_words class_of
+multi_point_name = record { row = _; names = refl; kind = refl; joined = refl; letters = (refl, (refl, (refl, (refl, (refl, (refl, (refl, (refl, (refl, (refl, tt)))))))))); begins = refl }
+
+pub multi_polygon_name : IsKindName part.MultiPolygon (codes "MULTIPOLYGON")
+unfolding kind_word kind_words class_of
+multi_polygon_name = record { row = _; names = refl; kind = refl; joined = refl; letters = (refl, (refl, (refl, (refl, (refl, (refl, (refl, (refl, (refl, (refl, (refl, (refl, tt)))))))))))); begins = refl }
+
+pub multi_line_string_name : IsKindName part.MultiLineString (codes "MULTILINESTRING")
+unfolding kind_word kind_words class_of
+multi_line_string_name = record { row = _; names = refl; kind = refl; joined = refl; letters = (refl, (refl, (refl, (refl, (refl, (refl, (refl, (refl, (refl, (refl, (refl, (refl, (refl, (refl, (refl, tt))))))))))))))); begins = refl }
+
+pub collection_name : IsKindName part.Collection (codes "GEOMETRYCOLLECTION")
+unfolding kind_word kind_words class_of
+collection_name = record { row = _; names = refl; kind = refl; joined = refl; letters = (refl, (refl, (refl, (refl, (refl, (refl, (refl, (refl, (refl, (refl, (refl, (refl, (refl, (refl, (refl, (refl, (refl, (refl, tt)))))))))))))))))); begins = refl }
+
+open_no_run : class_of 40 ≢ Run
+unfolding class_of
+open_no_run e = cc
+
+space_no_run : class_of 32 ≢ Run
+unfolding class_of
+space_no_run e = cc
+
+module _ (feed : Bool) (text : List ℕ) (at : ℕ) where
+  -- a parenthesis behind a word
+  pub ends_open : get_or text at 0 ≡ 40 → EndsWord feed text at (at + 1)
+  ends_open e = record {
+    stops = λ r. open_no_run (ap class_of (sym e) ∙ r);
+    opens = takes-mark feed text at Open (ap (class_in feed) e ∙ classes.mark-in feed 40 Open bytes.open_mark);
+  }
+
+  -- the same behind a space
+  pub ends_spaced : get_or text at 0 ≡ 32 → get_or text (at + 1) 0 ≡ 40 → EndsWord feed text at (at + 2)
+  ends_spaced e f = record {
+    stops = λ r. space_no_run (ap class_of (sym e) ∙ r);
+    opens =
+        let there : TakesOne feed text (at + 1) Open (at + 1 + 1) = takes-mark feed text (at + 1) Open (ap (class_in feed) f ∙ classes.mark-in feed 40 Open bytes.open_mark) in
+        let two : at + 1 + 1 ≡ at + 2 = omega arith in
+        takes-after feed text at (at + 1) Open (at + 2) (omega arith) (spanned-white feed text at (space feed (get_or text at 0) e)) (subst (TakesOne feed text (at + 1) Open) two there);
+  }
+
+  word_lexeme : (run : List ℕ) → starts_number (get_or run 0 0) ≡ false → lexeme_of run ≡ Word run
+  word_lexeme [] h = refl
+  word_lexeme (b ∷ bs) h = ap (λ t. if t then Num (without_plus (b ∷ bs)) else Word (b ∷ bs)) h
+
+  -- a word that ends so
+  pub head_stands : (part : Part) (word : List ℕ) (n end : ℕ) → IsKindName part word → at + n ≤ length text → take n (drop at text) ≡ word → 0 < n → EndsWord feed text (at + n) end → StandsHead feed text at part end
+  head_stands part word n end name inside is some ends =
+      let slice : slice_range text at (at + n) ≡ word = ap (λ (m : ℕ). take m (drop at text)) {x = at + n - at} {y = n} (omega arith) ∙ is in
+      let run : IsRunEnd text at (at + n) = record { order = omega arith; inside = inside; run = subst AllRun (sym slice) name.letters; stops = ends.stops } in
+      let lexeme : lexeme_of (slice_range text at (at + n)) ≡ Word word = ap lexeme_of slice ∙ word_lexeme word name.begins in
+      record {
+        word = word;
+        mid = at + n;
+        name = name;
+        takes = subst (λ l. TakesOne feed text at l (at + n)) lexeme (takes-run feed text at (at + n) run (omega (arith, some)));
+        opens = ends.opens;
+      }
+
+  pub stands_if : (part : Part) (word : List ℕ) (n : ℕ) (end : Option ℕ) → IsKindName part word → at + n ≤ length text → take n (drop at text) ≡ word → 0 < n → IfSome end (EndsWord feed text (at + n)) → IfSome end (StandsHead feed text at part)
+  stands_if part word n None name inside is some ends = tt
+  stands_if part word n (Some end) name inside is some ends = head_stands part word n end name inside is some ends
+
+-- A lexeme that is left is one that a place counts.
+pub head_room : (feed : Bool) (text : List ℕ) (from at : ℕ) (part : Part) (end depth most : ℕ) → remaining_spanned feed text from ≡ remaining_spanned feed text at → StandsHead feed text at part end → depth + length (remaining_spanned feed text from) ≤ most → depth < most
+head_room feed text from at part end depth most same head room =
+    let count = ap length (same ∙ head.takes.next) in
+    omega (arith, count, room)
+
+module _ {N B : Type 0} (read : List ℕ → Option N) (maker : Maker N B) {n : ℕ} (feed : Bool) where
+  -- The machine behind a header and its parenthesis.
+  pub head_goes : (m k : Machine) (s t : Bytes n) (b c : B) (p : Part) (start : ℕ) → m.state ≡ next.Kind → IsBetween feed s.text.now s.at start → (Legible feed s.text.now s.at → Legible feed s.text.now start) → StandsHead feed s.text.now start p t.at → t.text ≡ s.text
+      → state_of k ≡ inside p XY m.depth → IsSound k → maker.makes b (Event.Header p XY ∷ Event.Open p ∷ []) c → Goes read (bytes_view feed) maker m s b (record { source = t; machine = k; builder = c })
+  head_goes m k s t b c p start at_kind between further head text there sound makes =
+      let alone : Machine = record { state = next.Dimension; part = p; dim = m.dim; depth = m.depth } in
+      let mid : Bytes n = record { text = s.text; at = head.mid; end = head.mid } in
+      let word : Spanned = record { lexeme = Word head.word; end = head.mid } in
+      let opens : Spanned = record { lexeme = Open; end = t.at } in
+      let first : move read (state_of m) (Word head.word) ≡ Some (state_of alone, []) =
+      ap (λ x. move read (at m.depth (place_of x m.part m.dim)) (Word head.word)) at_kind
+      ∙ ap (λ o. moved read (kind_step o m.depth) (Some None)) head.name.names
+      ∙ ap (λ q. moved read (Some (joined_step q head.name.row.joined m.depth)) (Some None)) head.name.kind
+      ∙ ap (λ j. moved read (Some (joined_step p j m.depth)) (Some None)) head.name.joined in
+      let second : move read (state_of alone) Open ≡ Some (state_of k, Event.Header p XY ∷ Event.Open p ∷ []) =
+      ap (λ x. Some (x, Event.Header p XY ∷ Event.Open p ∷ [])) (sym there) in
+      let here : remaining_spanned feed s.text.now s.at ≡ word ∷ remaining_spanned feed s.text.now head.mid = between.same ∙ head.takes.next in
+      let behind : remaining_spanned feed s.text.now head.mid ≡ opens ∷ remaining_spanned feed t.text.now t.at = head.opens.next ∙ ap (λ x. opens ∷ remaining_spanned feed x.now t.at) (sym text) in
+      goes_on_to read (bytes_view feed) maker m s b (record { source = mid; machine = alone; builder = b }) (record { source = t; machine = k; builder = c })
+      (goes_one read (bytes_view feed) maker m alone s mid b b word [] here refl (λ j l. (l.0, legible-one feed s.text.now start (Word head.word) head.mid head.takes (further l.1))) first (maker.none b) tt)
+      (goes_one read (bytes_view feed) maker alone k mid t b c opens (Event.Header p XY ∷ Event.Open p ∷ []) behind refl
+      (λ j l. (ap (λ x. x.now) text ∙ l.0, subst (λ x. Legible feed x.now t.at) (sym text) (legible-one feed s.text.now head.mid Open t.at head.opens l.1))) second makes sound)
+
+-- The first eight bytes of a word stand there, as one number.
+pub eight_stand : (text : List ℕ) (at n word : ℕ) → n ≡ word → to_le_bytes w64 n ≡ take 8 (take (length text - at) (drop at text)) → take 8 (drop at text) ≡ to_le_bytes w64 word
+eight_stand text at n word is same = ap (take 8) (sym (take_rest text at)) ∙ sym same ∙ ap (to_le_bytes w64) is
+
+-- A point whose numbers are read in place is the front of its text.
+
+-- the kind whose whole geometries are points
+point_kind : (k : GeometryType) → part_of k ≡ part.Point → k ≡ kind.Point
+point_kind kind.Point e = refl
+point_kind kind.LineString e = cc
+point_kind kind.Polygon e = cc
+point_kind kind.MultiPoint e = cc
+point_kind kind.MultiLineString e = cc
+point_kind kind.MultiPolygon e = cc
+point_kind kind.GeometryCollection e = cc
+
+-- A parenthesis after white space or none.
+pub shuts : (text : List ℕ) (at start b : ℕ) → at ≤ start → remaining_spanned false text at ≡ remaining_spanned false text start → b ≡ get_or text start 0 → b ≡ 41 → TakesOne false text at Close (start + 1)
+shuts text at start b order same byte is = takes-after false text at start Close (start + 1) order same (takes-mark false text start Close (ap (class_in false) (sym byte ∙ is) ∙ mark-in false 41 Close close_mark))
+
+module _ (D : ℕ) (text : List ℕ) where
+  abbrev read : List ℕ → Option ℤ
+  read = read_decimal 127 36 D
+
+  -- a number after white space or none
+  pub number-fast : (at start count : ℕ) (units : ℤ) → at ≤ start → start ≤ length text → remaining_spanned false text at ≡ remaining_spanned false text start
+      → BeginsUnits D (take (length text - start) (drop start text)) units count → (run : List ℕ) × TakesOne false text at (Num run) (start + count) × (read run ≡ Some (to_z w64 (of_z w64 units))) × IsSigned 63 (to_z w64 (of_z w64 units))
+  number-fast at start count units order inside same b =
+      let k : BeginsUnits D (drop start text) units count = subst (λ l. BeginsUnits D l units count) (take_rest text start) b in
+      let there : IsNumberAt read text start (start + count) k.keeps.number = kept-there read (λ (u : ℤ). []) text start count 0 (start + count) inside refl k.keeps in
+      let run : List ℕ = without_plus (slice_range text start (start + count)) in (
+        run,
+        takes-after false text at start (Num run) (start + count) order same (takes-number read false text start (start + count) k.keeps.number there),
+        there.reads ∙ ap Some (k.is ∙ sym (held-is units b.fits)),
+        subst (IsSigned 63) (sym (held-is units b.fits)) b.fits,
+      )
+
+  -- only texts are read as numbers
+  run-text : (run : List ℕ) (x : ℤ) → read run ≡ Some x → IsUtf8 run
+  run-text run x e = subst (λ (o : Option ℤ). IfSome o (λ u. IsUtf8 run)) e (decimal_utf8 D run)
+
+  module _ (opened between behind end : ℕ) (r s : List ℕ) (x y : ℤ)
+      (head : StandsHead false text 0 part.Point opened)
+      (one : TakesOne false text opened (Num r) between) (ex : read r ≡ Some x)
+      (two : TakesOne false text between (Num s) behind) (ey : read s ≡ Some y)
+      (shut : TakesOne false text behind Close end) where
+    abbrev given : List Spanned
+    given =
+        record { lexeme = Word head.word; end = head.mid }
+        ∷ record { lexeme = Open; end = opened }
+        ∷ record { lexeme = Num r; end = between }
+        ∷ record { lexeme = Num s; end = behind }
+        ∷ record { lexeme = Close; end = end }
+        ∷ []
+
+    begins : remaining_spanned false text 0 ≡ given ++ remaining_spanned false text end
+    begins =
+        head.takes.next
+        ∙ ap (λ ps. record { lexeme = Word head.word; end = head.mid } ∷ ps)
+        (head.opens.next ∙ ap (λ ps. record { lexeme = Open; end = opened } ∷ ps)
+        (one.next ∙ ap (λ ps. record { lexeme = Num r; end = between } ∷ ps)
+        (two.next ∙ ap (λ ps. record { lexeme = Num s; end = behind } ∷ ps)
+        shut.next)))
+
+    abbrev value : Value ℤ
+    value = Value.point XY (Some (x ∷ y ∷ []))
+
+    header : Header kind.Point XY (Word head.word ∷ [])
+    header = (head.word, head.name.row, [], refl, head.name.names, point_kind head.name.row.kind head.name.kind, subst (λ o. DimPart o XY []) (sym head.name.joined) (inl (refl, refl)))
+
+    stands : StandFor read (Word head.word ∷ Open ∷ Num r ∷ Num s ∷ Close ∷ []) value
+    stands = (Word head.word ∷ [], Open ∷ Num r ∷ Num s ∷ Close ∷ [], refl, header, (Num r ∷ Num s ∷ [], refl, ((r, Num s ∷ [], refl, ex, (s, [], refl, ey, refl)), refl)))
+
+    front : Front read text value end
+    front = front-of-lexemes read text given (remaining_spanned false text end) value (subst (AreEnds text) (sym (remaining-all text) ∙ begins) (spanned-ends text)) stands
+
+    point-front : IsPointFront D text x y end
+    point-front = record {
+      front = front;
+      within = shut.inside;
+      utf8 = (text-behind-front read run-text text value end front, text-with-front read run-text text value end front);
+    }
+
+    -- the same of numbers as they are held
+    pub point-held : IsSigned 63 x → IsSigned 63 y → IsPointFront D text (to_z w64 (of_z w64 x)) (to_z w64 (of_z w64 y)) end
+    point-held fx fy =
+        subst (λ u. IsPointFront D text u (to_z w64 (of_z w64 y)) end) (sym (held-is x fx)) (subst (λ v. IsPointFront D text x v end) (sym (held-is y fy)) point-front)

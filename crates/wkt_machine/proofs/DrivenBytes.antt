@@ -12,18 +12,16 @@ use Rattle.wkt_read.specs.declared.error.ReadError.TheVariants as reader
 use Rattle.wkt_machine.specs.Drives.{is_over}
 use Rattle.wkt_machine.specs.Events.{events}
 use Rattle.wkt_machine.specs.Goes.{GoesFrom}
-use Rattle.wkt_machine.specs.Growers.{tree_maker, tree_of}
+use Rattle.wkt_machine.specs.Trees.{tree_maker, tree_of, Grew, Holds}
 use Rattle.wkt_machine.specs.Growing.{rest}
 use Rattle.wkt_machine.specs.Machines.{state_of}
-use Rattle.wkt_machine.specs.Trees.{Grew, Holds}
 use Rattle.wkt_machine.specs.Values.{AnswersTree, AnswersReader, TakesValue}
 use Rattle.wkt_machine.specs.View.{View}
 use Rattle.wkt_machine.specs.declared.source.At.{At}
 use Rattle.wkt_machine.specs.declared.tree.Grower.{Grower}
 use Rattle.wkt_machine.specs.declared.tree.Tree.{Tree}
 use Rattle.wkt_machine.specs.declared.value.Unread.TheVariants.{Memory}
-use Rattle.wkt_machine.proofs.FrontValues.{found_in, memory_in}
-use Rattle.wkt_machine.proofs.Valued.{read_off, taken, wants_memory}
+use Rattle.wkt_machine.proofs.FrontValues.{found_in, memory_in, read_off, taken, wants_memory}
 
 -- A tree that holds nothing yet grows over the source, and a value ends.
 module _ {N S : Type 0} (is_value : N → Type 0) (read : List ℕ → Option N) (values : (bs : List ℕ) → IfSome (read bs) is_value) (view : View S)

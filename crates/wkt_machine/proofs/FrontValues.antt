@@ -1,27 +1,203 @@
--- What is read from the place where a text begins is its front, or it has none.
-use Rattle.std.proofs.Common.{◌≡◌, ℕ, List, [], ◌∷◌, ◌++◌, sym, refl, ap, ◌∙◌, subst, append_assoc, Option, Result, Ok, Err, IfOk}
+-- Where a drive over a text ends its front does, and what is read there is its value.
+use Rattle.std.proofs.Common.{◌≡◌, ℕ, List, [], ◌∷◌, ◌++◌, sym, refl, ap, ◌∙◌, subst, append_assoc, append-nil, Option, Some, None, false, true, ◌⊎◌, inl, inr, Result, Ok, Err, IfOk, IfSome, Bool, ◌||◌, option_map}
+use Rattle.std.specs.Borrow.{MutBor}
 use Rattle.std.specs.declared.alloc.AllocError.{AllocError}
-use Rattle.wkt_types.specs.Tree.{tree}
+use Rattle.std.specs.Result.{IsOk}
+use Rattle.wkt_num.specs.Bytes.{Lexeme}
+use Rattle.wkt_access.specs.Values.{Value, Values}
+use Rattle.wkt_read.specs.Begun.{NoneBegins}
+use Rattle.wkt_read.specs.Front.{Front, HasNoFront, NeedsNoMemory}
+use Rattle.wkt_read.specs.Spanned.{Spanned, lexemes_of, end_after, AreEnds, spanned}
+use Rattle.wkt_read.proofs.LawLemmas.Begun.{CutIn, Later, Earlier, cut_in}
+use Rattle.wkt_read.proofs.LawLemmas.OneForm.{taken_begin, geometry_fits, front_one}
+use Rattle.wkt_read.proofs.LawLemmas.HeaderPlaces.{front-of-lexemes}
+use Rattle.wkt_read.proofs.LawLemmas.Splits.{split_one}
+use Rattle.wkt_read.proofs.TokenizerLemmas.Placings.{spanned-split, spanned-ends}
+use Rattle.wkt_machine.specs.Drives.{start, is_over}
+use Rattle.wkt_machine.specs.Events.{Event, events, numbers}
+use Rattle.wkt_machine.specs.Goes.{GoesFrom, RefusesFrom, IsStuck}
+use Rattle.wkt_machine.specs.Machine.{Move, at, move, run}
+use Rattle.wkt_machine.specs.Machines.{state_of}
+use Rattle.wkt_machine.specs.Makers.{Maker}
+use Rattle.wkt_machine.specs.Place.{State}
+use Rattle.wkt_machine.specs.Place as place
+use Rattle.wkt_machine.specs.View.{View}
+use Rattle.wkt_machine.specs.declared.source.At.{At}
+use Rattle.wkt_machine.proofs.Complete.{value_run}
+use Rattle.wkt_machine.proofs.WholeRuns.{exact, goes_on, front_run, stuck, no_front}
+use Rattle.wkt_access.specs.declared.dimensions.Dimension.{Dimension}
+use Rattle.wkt_types.specs.Tree.{tree, wkt_step, collection_step, Tree as Kept}
 use Rattle.wkt_types.specs.declared.geometry.Wkt.{Wkt}
-use Rattle.wkt_read.specs.Answered.{IsFrontTo}
-use Rattle.wkt_read.proofs.LawLemmas.Fronts.{front_one}
+use Rattle.wkt_machine.specs.Trees.{lists_append, tree_maker, tree_of, Grew, Holds, HoldsWhole, IsLost, HoldsEnded, IsPair, coord_by, coord_of}
+use Rattle.wkt_machine.specs.Growing.{Growing, rest, lists_any, rest as nothing}
+use Rattle.wkt_machine.specs.Values.{AnswersTree, IsRead, MachineRefuses, OnMemory, OnRefused, TakesValue, WantsMemory, AnswersReader}
+use Rattle.wkt_machine.specs.declared.machine.Machine.{Machine}
+use Rattle.wkt_machine.specs.declared.tree.Tree.{Tree}
 use Rattle.wkt_machine.specs.declared.value.Unread.{Unread}
 use Rattle.wkt_machine.specs.declared.value.Unread.TheVariants.{Refused, Memory}
-use Rattle.wkt_access.specs.Values.{Value}
-use Rattle.wkt_read.specs.Front.{Front, HasNoFront, NeedsNoMemory}
-use Rattle.wkt_read.specs.Spanned.{Spanned, AreEnds, spanned}
-use Rattle.wkt_read.proofs.LawLemmas.FrontEnds.{front-of-lexemes}
-use Rattle.wkt_read.proofs.TokenizerLemmas.Placings.{spanned-ends}
-use Rattle.wkt_machine.specs.Goes.{RefusesFrom}
-use Rattle.wkt_machine.specs.Makers.{Maker}
-use Rattle.wkt_machine.specs.Values.{TakesValue, IsRead, MachineRefuses, OnMemory, OnRefused, WantsMemory}
-use Rattle.wkt_machine.specs.View.{View}
-use Rattle.wkt_machine.specs.declared.machine.Machine.{Machine}
-use Rattle.wkt_machine.specs.declared.machine.State.TheVariants as state
+use Rattle.wkt_machine.proofs.ValueFromEvents.{value_grows}
 use Rattle.wkt_machine.specs.declared.part.Part.TheVariants as part
+use Rattle.wkt_read.specs.Answered.{IsFrontTo, HasBadNumber, IsFront, OnText, OnMessage}
 use Rattle.wkt_access.specs.declared.dimensions.Dimension.TheVariants.{XY}
-use Rattle.wkt_machine.specs.declared.source.At.{At}
-use Rattle.wkt_machine.proofs.Fronting.{end_last, no_front_there}
+use Rattle.wkt_machine.specs.declared.machine.State.TheVariants as state
+use Rattle.wkt_types.specs.Coords.{numbers_of}
+use Rattle.wkt_types.specs.Held.{HeldPoint}
+use Rattle.wkt_types.specs.Values.{HasDimIfAny, IsWktOf}
+use Rattle.wkt_types.specs.declared.coord.Coord.{Coord}
+use Rattle.wkt_read.specs.Ahead.{remaining, rest as rest_of, end_of}
+use Rattle.wkt_read.specs.Items.{bad_number}
+use Rattle.wkt_read.specs.Messages.{message_text}
+use Rattle.wkt_read.specs.Refusal.{IsTextRefused, IfText}
+use Rattle.wkt_read.specs.Standing.{Standing}
+use Rattle.wkt_read.specs.declared.error.ReadError.{ReadError}
+use Rattle.wkt_read.specs.declared.messages.Message.{Message}
+use Rattle.wkt_read.proofs.ParserLemmas.Answering.{from-front, no-front, split-of}
+use Rattle.wkt_machine.specs.Refusing.{refused as refusal}
+use Rattle.wkt_machine.specs.TokensView.{tokens_view}
+use Rattle.wkt_machine.specs.declared.tokens.OneByOne.{OneByOne}
+use Rattle.wkt_machine.specs.declared.tree.Grower.{Grower}
+use Rattle.wkt_machine.proofs.Reading.{front, memory_free, ok_advances, ok_found, stuck_bad, stuck_none, stuck_refusal}
+use Rattle.wkt_types.specs.declared.geometry.Wkt.TheVariants as variants
+use Rattle.wkt_types.specs.declared.geometry.Wkt.TheFolds as folds
+use Rattle.wkt_types.specs.declared.geometry.Wkt.TheOpen as opened
+use Rattle.wkt_read.specs.declared.error.ReadError.TheVariants as reader
+use Rattle.wkt_machine.specs.declared.tree.Ended.TheVariants as ended
+
+-- Where a drive over a text ends, its front does, or it has none.
+
+lexemes_append : (xs ys : List Spanned) → lexemes_of (xs ++ ys) ≡ lexemes_of xs ++ lexemes_of ys
+lexemes_append [] ys = refl
+lexemes_append (x ∷ xs) ys = ap (λ l. x.lexeme ∷ l) (lexemes_append xs ys)
+
+pub end_last : (at : ℕ) (given : List Spanned) (x : Spanned) → end_after at (given ++ (x ∷ [])) ≡ x.end
+end_last at [] x = refl
+end_last at (y ∷ given) x = end_last y.end given x
+
+module _ {N : Type 0} (read : List ℕ → Option N) where
+  -- no front where the machine stops at a lexeme
+  stopped_none : (before rest : List Lexeme) (fault : Lexeme) (s : State) (es : List (Event N)) → run read start before ≡ Some (s, es) → is_over s ≡ false → move read s fault ≡ None → NoneBegins read (before ++ (fault ∷ rest))
+  stopped_none before rest fault s es e o stops f later v split g = go (cut_in f later (before ++ (fault ∷ [])) rest (sym split ∙ sym (append_assoc before (fault ∷ []) rest)))
+    where
+      go : CutIn f later (before ++ (fault ∷ [])) rest → ⊥
+      go (Later m e1 e2) = no_front read before fault s es e o stops f m v e1 g
+      go (Earlier m e1 e2) =
+          let whole : run read start ((before ++ (fault ∷ [])) ++ m) ≡ Some (at 0 place.Geometry, events v ++ []) = ap (run read start) (sym e1 ∙ sym (append-nil f)) ∙ (value_run read v f 0 g).on [] in
+          let (q, r, first, later, cut) = front_run read (before ++ (fault ∷ [])) m start (at 0 place.Geometry, events v ++ []) whole in
+          let clash : ◌≡◌ {A = Option (Move N)} None (Some q) = sym (stuck read before fault s es e o stops) ∙ first in cc
+
+  module _ {S B : Type 0} (view : View S) (maker : Maker N B) (text : List ℕ) (s : S) (b : B) (to : At S B) (begins : view.remaining s ≡ spanned text) where
+    -- a front, and what was made of it
+    pub front_made : (at : ℕ) → ((end : ℕ) → view.place to.source end → at ≡ end) → GoesFrom read view maker s b to → is_over (state_of to.machine) ≡ true → (v : Value N) × Front read text v at × maker.makes b (events v) to.builder
+    front_made at ends (m, from, h) o =
+        let taken : List Spanned = h.given ++ (h.last ∷ []) in
+        let all : spanned text ≡ taken ++ view.remaining to.source = sym begins ∙ h.split ∙ sym (append_assoc h.given (h.last ∷ []) (view.remaining to.source)) in
+        let ran : run read start (lexemes_of taken) ≡ Some (state_of to.machine, h.events) = ap (λ s. run read s (lexemes_of taken)) (sym from) ∙ h.ran in
+        let (v, g, made_is) = exact read (lexemes_of taken) (state_of to.machine) h.events ran o in (
+          v,
+          subst (Front read text v) (end_last 0 h.given h.last ∙ sym (ends h.last.end h.place))
+              (front-of-lexemes read text taken (view.remaining to.source) v (subst (AreEnds text) all (spanned-ends text)) g),
+          subst (λ es. maker.makes b es to.builder) made_is h.makes,
+        )
+
+    none_in : NoneBegins read (lexemes_of (spanned text)) → HasNoFront read text
+    none_in none v end front =
+        let (more, is) = taken_begin text front.rest front.lexemes front.taken in
+        none front.lexemes more v (split_one text _ _ (spanned-split text) is) front.reads
+
+    pub no_front_there : (j : view.Known) → view.keeps s j → RefusesFrom read view maker s b to → HasNoFront read text
+    no_front_there j keeps (m, from, h) = go (view.remaining to.source) refl
+      where
+        ran : run read start (lexemes_of h.taken) ≡ Some (state_of to.machine, h.events)
+        ran = ap (λ s. run read s (lexemes_of h.taken)) (sym from) ∙ h.ran
+
+        lexemes : lexemes_of (spanned text) ≡ lexemes_of h.taken ++ lexemes_of (view.remaining to.source)
+        lexemes = ap lexemes_of (sym begins ∙ h.split) ∙ lexemes_append h.taken (view.remaining to.source)
+
+        go : (remaining : List Spanned) → view.remaining to.source ≡ remaining → HasNoFront read text
+        go [] e =
+            let none = (goes_on read (lexemes_of h.taken) (state_of to.machine) h.events ran h.is_open).1 in
+            none_in (subst (NoneBegins read) (sym (lexemes ∙ ap (λ ps. lexemes_of h.taken ++ lexemes_of ps) e ∙ append-nil (lexemes_of h.taken))) none)
+        go (p ∷ ps) e =
+            let stops : move read (state_of to.machine) p.lexeme ≡ None = subst (IsStuck read to.machine) e (h.stuck j keeps) in
+            none_in (subst (NoneBegins read) (sym (lexemes ∙ ap (λ ps. lexemes_of h.taken ++ lexemes_of ps) e)) (stopped_none (lexemes_of h.taken) (lexemes_of ps) p.lexeme (state_of to.machine) h.events ran h.is_open stops))
+
+-- What is read where a tree grows over a source.
+
+numbers_list : {N : Type 0} (d : Dimension) (xs : List N) → lists_any (numbers d xs) ≡ false
+numbers_list d [] = refl
+numbers_list d (x ∷ xs) = numbers_list d xs
+
+-- the events of what needs no memory add to no list
+free_lists : {N : Type 0} (v : Value N) → NeedsNoMemory v → lists_any (events v) ≡ false
+free_lists (Value.point d None) h = refl
+free_lists (Value.point d (Some c)) h = lists_append (numbers d c) (Event.Close part.Point ∷ []) ∙ ap (λ b. b || false) (numbers_list d c)
+free_lists (Value.line_string d cs) h = ap (λ cs. lists_any (events (Value.line_string d cs))) h
+free_lists (Value.polygon d rs) h = ap (λ rs. lists_any (events (Value.polygon d rs))) h
+free_lists (Value.multi_point d ms) h = ap (λ ms. lists_any (events (Value.multi_point d ms))) h
+free_lists (Value.multi_line_string d ls) h = ap (λ ls. lists_any (events (Value.multi_line_string d ls))) h
+free_lists (Value.multi_polygon d ys) h = ap (λ ys. lists_any (events (Value.multi_polygon d ys))) h
+free_lists (Value.collection d vs) h = ap (λ vs. lists_any (events (Value.collection d vs))) h
+
+module _ {N S B : Type 0} (read : List ℕ → Option N) (view : View S) (maker : Maker N B) (s : S) (b : B) (to : At S B) where
+  -- the value that stands there, whose events were made
+  pub taken : GoesFrom read view maker s b to → is_over (state_of to.machine) ≡ true → (v : Value N) × TakesValue read view s v to.source × maker.makes b (events v) to.builder
+  taken (m, from, h) o =
+      let ls = lexemes_of (h.given ++ (h.last ∷ [])) in
+      let ran : run read start ls ≡ Some (state_of to.machine, h.events) = ap (λ s. run read s ls) (sym from) ∙ h.ran in
+      let (v, stands, made_is) = exact read ls (state_of to.machine) h.events ran o in (
+        v,
+        record { given = h.given; last = h.last; split = h.split; place = h.place; stands = stands; keeps = h.keeps },
+        subst (λ es. maker.makes b es to.builder) made_is h.makes,
+      )
+
+  pub refused : RefusesFrom read view maker s b to → MachineRefuses read view s to.machine to.source
+  refused (m, from, h) = record {
+    taken = h.taken;
+    events = h.events;
+    split = h.split;
+    behind = h.behind;
+    ran = ap (λ s. run read s (lexemes_of h.taken)) (sym from) ∙ h.ran;
+    is_open = h.is_open;
+    keeps = h.keeps;
+    stuck = h.stuck;
+  }
+
+module _ {N S : Type 0} (is_value : N → Type 0) (read : List ℕ → Option N) (values : (bs : List ℕ) → IfSome (read bs) is_value) (view : View S) where
+  -- the value has grown, or it is lost
+  grown : (t u : Tree N) (s r : S) (v : Value N) → TakesValue read view s v r → Holds t (rest [] None) → Grew t (events v) u → HoldsWhole u [] v ⊎ (IsLost u × (lists_any (events v) ≡ true))
+  grown t u s r v h begins grew =
+      let k = value_grows is_value v (geometry_fits is_value read values v (lexemes_of (h.given ++ (h.last ∷ []))) h.stands) [] in
+      subst (λ w. Holds u w ⊎ (IsLost u × (lists_any (events v) ≡ true))) k.is (grew.holds (rest [] None) begins k.may)
+
+  module _ (t u : Tree N) (s r : S) (begins : Holds t (rest [] None)) (h : (v : Value N) × TakesValue read view s v r × Grew t (events v) u) where
+    pub read_off : (a : Result (Wkt N) Unread) → AnswersTree u a → IfOk a (λ w. IsRead read view s (tree w) r)
+    read_off (Err e) k = tt
+    read_off (Ok w) (kept, is) = go (grown t u s r h.0 h.1 begins h.2)
+      where
+        go : HoldsWhole u [] h.0 ⊎ (IsLost u × (lists_any (events h.0) ≡ true)) → IsRead read view s (tree w) r
+        go (inl whole) = (h.0, h.1, is h.0 whole)
+        go (inr (lost, lists)) = let clash : false ≡ true = sym kept ∙ lost in cc
+
+    pub wants_memory : (a : Result (Wkt N) Unread) → AnswersTree u a → OnMemory a (WantsMemory read view s r)
+    wants_memory (Ok w) k = tt
+    wants_memory (Err (Refused m)) k = tt
+    wants_memory (Err (Memory e)) lost = (h.0, h.1, go (grown t u s r h.0 h.1 begins h.2))
+      where
+        go : HoldsWhole u [] h.0 ⊎ (IsLost u × (lists_any (events h.0) ≡ true)) → NeedsNoMemory h.0 → ⊥
+        go (inl whole) free = let clash : false ≡ true = sym whole.kept ∙ lost in cc
+        go (inr (l, lists)) free = let clash : false ≡ true = sym (free_lists h.0 free) ∙ lists in cc
+
+-- a tree isn't refused
+pub never_refused : {N : Type 0} (P : Machine → Type 0) (t : Tree N) (a : Result (Wkt N) Unread) → AnswersTree t a → OnRefused a P
+never_refused P t (Ok w) k = tt
+never_refused P t (Err (Refused m)) k = absurd k
+never_refused P t (Err (Memory e)) k = tt
+
+-- what is lent is held
+pub lent : {N : Type 0} (b c : MutBor (Tree N)) (w : Growing N) → b ≡ c → Holds c.now w → Holds b.now w
+lent {N} b c w e h = subst (λ (b : MutBor (Tree N)). Holds b.now w) (sym e) h
+
+-- What is read from the place where a text begins is its front, or it has none.
 
 -- nothing is made
 made_none : {N : Type 0} → Maker N (Unit {0})
@@ -77,3 +253,94 @@ module _ {N S : Type 0} (read : List ℕ → Option N) (view : View S) (text : L
   pub refused_in : (t : S) (m : Machine) (u : Unread) (a : Result (Wkt N) Unread) → a ≡ Err u → u ≡ Refused m → OnRefused a (λ m. MachineRefuses read view s m t) → (j : view.Known) → view.keeps s j → HasNoFront read text
   refused_in t m u a e is h j keeps =
       no_front_refused j keeps m t (subst (λ u. OnRefused {X = Wkt N} (Err u) (λ m. MachineRefuses read view s m t)) is (subst (λ a. OnRefused a (λ m. MachineRefuses read view s m t)) e h))
+
+-- What is answered where the machine was driven over all tokens of a text.
+
+-- a point of two numbers that ended is what its parts make
+pair_answers : {N : Type 0} (t : Tree N) (x y : N) → IsPair t x y → (w : Wkt N) → tree w ≡ Kept.point (record { coord = Some (record { x = x; y = y; z = None; m = None }); dim = t.dim }) → AnswersTree t (Ok w)
+pair_answers {N} t x y p w made = (p.kept, λ v h. go v (subst (λ l. HoldsEnded l t [] v) p.last h.whole))
+  where
+    one : Coord N
+    one = record { x = x; y = y; z = None; m = None }
+
+    same : coord_of t ≡ Some one
+    same = ap (λ a. coord_by a t.y t.z t.m) p.x ∙ ap (λ b. coord_by (Some x) b t.z t.m) p.y ∙ ap (λ c. coord_by (Some x) (Some y) c t.m) p.z ∙ ap (λ d. coord_by (Some x) (Some y) None d) p.m
+
+    go : (v : Value N) → HoldsEnded ended.Point t [] v → IsWktOf v (tree w)
+    go v (is, dim, only, opens) = subst (IsWktOf v) (sym made) (record {
+      value = ap (λ c. Value.point t.dim (option_map numbers_of c)) (sym same) ∙ is;
+      uniform = (refl, subst (HasDimIfAny t.dim) same dim);
+    })
+
+tree_point : {T : Type 0} (x : HeldPoint (Coord T)) → tree (variants.Point x) ≡ Kept.point x
+tree_point {T} x =
+    ap tree (sym (variants.rolls-Point x))
+    ∙ folds.fold-roll-Wkt T (Kept T) (Kept T) wkt_step collection_step (opened.Wkt-F.Point x)
+
+pub pair_made : {N : Type 0} (t : Tree N) (x y : N) → IsPair t x y → (p : HeldPoint (Coord N)) → p.coord ≡ Some (record { x = x; y = y; z = None; m = None }) → p.dim ≡ t.dim → AnswersTree t (Ok (variants.Point p))
+pair_made t x y is p coord dim =
+    pair_answers t x y is (variants.Point p)
+    (tree_point p ∙ ap (λ o. Kept.point (record { coord = o; dim = p.dim })) coord ∙ ap (λ d. Kept.point (record { coord = Some (record { x = x; y = y; z = None; m = None }); dim = d })) dim)
+
+-- Tokens of a text are a source, and a tree grows over it that holds nothing yet.
+module _ {N : Type 0} (is_value : N → Type 0) (read : List ℕ → Option N) (values : (bs : List ℕ) → IfSome (read bs) is_value)
+    (text : List ℕ) (s : Standing) (start : remaining s ≡ spanned text) (are : AreEnds text (remaining s)) (zero : end_of s ≡ 0)
+    (a : OneByOne N) (before : a.tokens.now ≡ s) (b : Grower N) (to : At (OneByOne N) (Grower N)) where
+  -- A value ended.
+  module _ (on : GoesFrom read tokens_view tree_maker a b to) (over : is_over (state_of to.machine) ≡ true) (begins : Holds (tree_of b).now (nothing [] None)) (u : Tree N) (same : u ≡ (tree_of to.builder).now) where
+    grew_by : (v : Value N) × TakesValue read tokens_view a v to.source × Grew (tree_of b).now (events v) u
+    grew_by =
+        let (v, takes, grew) = taken read tokens_view tree_maker a b to on over in
+        (v, takes, subst (Grew (tree_of b).now (events v)) (sym same) grew)
+
+    pub ended_found : (w : Wkt N) → AnswersTree u (Ok w) → IsFront read text (tree w)
+    ended_found w k =
+        let is = read_off is_value read values tokens_view (tree_of b).now u a to.source begins grew_by (Ok w) k in
+        front read text s to.source.tokens.now (Ok w) are zero
+        (ok_advances read a to.source s to.source.tokens.now before refl (Ok w) w refl is)
+        (ok_found read a to.source s to.source.tokens.now before refl (Ok w) w refl is)
+
+    lost_free : (e : AllocError) → AnswersTree u (Err (Memory e)) → (v : Value N) (end : ℕ) → Front read text v end → NeedsNoMemory v → ⊥
+    lost_free e k v end there free =
+        let is = wants_memory is_value read values tokens_view (tree_of b).now u a to.source begins grew_by (Err (Memory e)) k in
+        let (after, first) = from-front read text s v end start there in
+        memory_free read a to.source s to.source.tokens.now before refl (Err (Memory e)) (Memory e) refl e refl is v after first free
+
+    pub answer_found : (r : Result (Wkt N) ReadError) → AnswersReader u r → IfOk r (λ w. IsFront read text (tree w))
+    answer_found (Ok w) k = ended_found w k
+    answer_found (Err e) k = tt
+
+    pub answer_free : (r : Result (Wkt N) ReadError) → AnswersReader u r → (v : Value N) (end : ℕ) → Front read text v end → NeedsNoMemory v → IsOk r
+    answer_free (Ok w) k v end there free = refl
+    answer_free (Err (reader.Text m)) k v end there free = absurd k
+    answer_free (Err (reader.Memory e)) k v end there free = absurd (lost_free e k v end there free)
+
+  -- None comes first: the message, and what is left behind it.
+  module _ (on : RefusesFrom read tokens_view tree_maker a b to) (t : Standing) (behind : t ≡ to.source.tokens.now) (k : Message) (after : Standing) (says : (k, rest_of after) ≡ refusal read (state_of to.machine) (rest_of t)) where
+    pub stuck_no_front : HasNoFront read text
+    stuck_no_front = no-front read text s start (stuck_none read a to.source s t before behind (Err (Refused to.machine)) (Refused to.machine) refl to.machine refl (refused read tokens_view tree_maker a b to on) k after says)
+
+    pub stuck_bad_number : (said : List ℕ) → said ≡ message_text k → said ≡ bad_number → HasBadNumber read text
+    stuck_bad_number said is bad =
+        (rest_of s, split-of read text s start, stuck_bad read a to.source s t before behind (Err (Refused to.machine)) (Refused to.machine) refl to.machine refl (refused read tokens_view tree_maker a b to on) k after says said is bad)
+
+    pub stuck_refused : (said : List ℕ) → said ≡ message_text k → IsTextRefused read text said
+    stuck_refused said is =
+        let (m, is_text, e) = stuck_refusal read a to.source s t before behind (Err (Refused to.machine)) (Refused to.machine) refl to.machine refl (refused read tokens_view tree_maker a b to on) k after says said is in
+        (m, is_text, (rest_of s, rest_of after, split-of read text s start, e))
+
+-- what has grown isn't refused
+pub answer_text : {N : Type 0} (u : Tree N) (P : Type 0) (r : Result (Wkt N) ReadError) → AnswersReader u r → OnText r P
+answer_text u P (Ok w) k = tt
+answer_text u P (Err (reader.Text m)) k = absurd k
+answer_text u P (Err (reader.Memory e)) k = tt
+
+pub answer_message : {N : Type 0} (u : Tree N) (m : List ℕ) (P : Type 0) (r : Result (Wkt N) ReadError) → AnswersReader u r → OnMessage r m P
+answer_message u m P (Ok w) k = tt
+answer_message u m P (Err (reader.Text t)) k = absurd k
+answer_message u m P (Err (reader.Memory e)) k = tt
+
+pub answer_refusal : {N : Type 0} (u : Tree N) (P : List ℕ → Type 0) (r : Result (Wkt N) ReadError) → AnswersReader u r → IfText r P
+answer_refusal u P (Ok w) k = tt
+answer_refusal u P (Err (reader.Text m)) k = absurd k
+answer_refusal u P (Err (reader.Memory e)) k = tt

@@ -8,21 +8,20 @@ use Rattle.wkt_read.specs.Standing.{Standing}
 use Rattle.wkt_read.specs.Taking.{Looks, TakesNumber, TakesKind}
 use Rattle.wkt_events.specs.Remaining.{remaining_spanned, IsRunEnd, TakesOne}
 use Rattle.wkt_machine.specs.BytesView.{bytes_view}
-use Rattle.wkt_machine.specs.HeadBytes.{StandsHead}
+use Rattle.wkt_machine.specs.LexemesAhead.{StandsHead}
 use Rattle.wkt_machine.specs.Machine.{part_of}
 use Rattle.wkt_machine.specs.Makers.{Maker, MakesNumber}
 use Rattle.wkt_machine.specs.Room.{header_cost, need, Leaves, HasRoom, number_cost, FitsNumber, LeavesBehind, HasNumberRoom, LeavesNumber}
-use Rattle.wkt_machine.specs.Sight.{seen_of, sight}
+use Rattle.wkt_machine.specs.View.{seen_of, sight}
 use Rattle.wkt_machine.specs.TokensView.{tokens_view}
 use Rattle.wkt_machine.specs.declared.bytes.Bytes.{Bytes}
 use Rattle.wkt_machine.specs.declared.part.Part.{Part}
 use Rattle.wkt_machine.specs.declared.tokens.OneByOne.{OneByOne}
-use Rattle.wkt_machine.proofs.LexemeCosts.{seen_cost, kind_cost, marks_one, need_most, need_stops}
-use Rattle.wkt_machine.proofs.RoomForRest.{stays_room, leaves_both, fits_seen, spent_room, number_room, bare_after, value_fits, value_leaves}
+use Rattle.wkt_machine.proofs.RoomForRest.{seen_cost, kind_cost, marks_one, need_most, need_stops, stays_room, leaves_both, fits_seen, spent_room, number_room, bare_after, value_fits, value_leaves}
 use Rattle.wkt_machine.proofs.ByteViews as bytes
-use Rattle.wkt_machine.proofs.TokenViews.{looks, takes}
+use Rattle.wkt_machine.proofs.TokenSteps.{looks, takes}
 use Rattle.wkt_read.specs.Lexemes.{starts_number, without_plus}
-use Rattle.wkt_events.proofs.Numbers.{takes-number}
+use Rattle.wkt_events.proofs.RemainingLexemes.{takes-number}
 use Rattle.wkt_machine.specs.declared.part.Axis.{Axis}
 
 -- The number that stands there is a lexeme, whether or not it is read.

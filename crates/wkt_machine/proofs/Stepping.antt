@@ -9,7 +9,7 @@ use Rattle.wkt_access.specs.declared.dimensions.Dimension.TheVariants.{XY, XYZ, 
 use Rattle.wkt_types.specs.declared.geometry_type.GeometryType.{GeometryType}
 use Rattle.wkt_read.specs.Grammar.{KindWord, kind_words, entry_in, kind_word, dim_word, dim_in, is_empty_word}
 use Rattle.wkt_read.specs.Spanned.{Spanned}
-use Rattle.wkt_read.proofs.LawLemmas.Words.{empty_is}
+use Rattle.wkt_read.proofs.LawLemmas.KindWords.{empty_is}
 use Rattle.wkt_machine.specs.Action.{Action}
 use Rattle.wkt_machine.specs.Action as act
 use Rattle.wkt_machine.specs.Drives.{is_over, over_at}
@@ -20,8 +20,7 @@ use Rattle.wkt_machine.specs.Machines.{state_of, place_of, is_single, IsSound}
 use Rattle.wkt_machine.specs.Makers.{Maker}
 use Rattle.wkt_machine.specs.Place.{Place, State}
 use Rattle.wkt_machine.specs.Place as place
-use Rattle.wkt_machine.specs.Sight.{seen_of, seen_word, seen_other, sight}
-use Rattle.wkt_machine.specs.View.{View}
+use Rattle.wkt_machine.specs.View.{seen_of, seen_word, seen_other, sight, View}
 use Rattle.wkt_machine.specs.declared.machine.Machine.{Machine}
 use Rattle.wkt_machine.specs.declared.machine.Seen.{Seen}
 use Rattle.wkt_machine.specs.declared.machine.Seen.TheVariants as seen

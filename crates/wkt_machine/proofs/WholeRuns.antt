@@ -1,22 +1,37 @@
--- Whole runs: what they go over is in the grammar, and where they stop no geometry is left.
-use Rattle.std.proofs.Common.{◌≡◌, ℕ, zero, List, [], ◌∷◌, ◌++◌, length, length-append, sym, refl, ap, ◌∙◌, subst, append_assoc, append-nil, arith, Option, Some, None, Bool, true, false}
+-- Whole runs: what they go over is in the grammar, where they stop no geometry is left, and they stop at one place.
+use Rattle.std.proofs.Common.{◌≡◌, ℕ, zero, List, [], ◌∷◌, ◌++◌, length, length-append, sym, refl, ap, ◌∙◌, subst, append_assoc, append-nil, arith, Option, Some, None, Bool, true, false, ◌+◌, ◌≤◌, inl, inr, suc, cond}
+use Rattle.std.proofs.lemmas.List.{append_cancel_left}
 use Rattle.wkt_num.specs.Bytes.{Lexeme, Open, Close, Comma, Word, Num}
 use Rattle.wkt_access.specs.Values.{Value}
-use Rattle.wkt_read.specs.Grammar.{StandFor}
-use Rattle.wkt_read.specs.Begun.{BegunGeometry, NoneBegins}
-use Rattle.wkt_read.specs.Early.{IsJustDead}
+use Rattle.wkt_read.specs.Grammar.{StandFor, KindWord, kind_word, dim_word, is_empty_word}
+use Rattle.wkt_read.specs.Begun.{BegunGeometry, NoneBegins, IsDead}
+use Rattle.wkt_read.specs.Early.{IsJustDead, opens, closes, StopsEarly}
 use Rattle.wkt_machine.specs.Drives.{start, is_over, over_at}
 use Rattle.wkt_machine.specs.Events.{Event, events}
-use Rattle.wkt_machine.specs.Machine.{Move, at, after, and_then, step, number_of, said, moved, move, run}
-use Rattle.wkt_machine.specs.Place.{Place}
+use Rattle.wkt_machine.specs.Machine.{Move, at, after, and_then, step, number_of, said, moved, move, run, part_of, inside, outside, kind_step, joined_step, dimension_step, number_step, bare_step, comma_step, step_at}
+use Rattle.wkt_machine.specs.Place.{Place, State}
 use Rattle.wkt_machine.specs.Place as place
-use Rattle.wkt_machine.specs.Place.{State}
 use Rattle.wkt_machine.specs.Action.{Action}
-use Rattle.wkt_machine.proofs.Runs.{after-nil, after-after}
-use Rattle.wkt_machine.proofs.Complete.{value_run}
-use Rattle.wkt_machine.proofs.BegunIsWalked.{begun_on}
+use Rattle.wkt_machine.proofs.Complete.{after-nil, after-after, value_run}
+use Rattle.wkt_machine.proofs.BegunIsWalked.{begun_on, at_begun}
 use Rattle.wkt_machine.proofs.Places.{At, Keeps, IsRead, keeps}
-use Rattle.wkt_machine.proofs.WalkedIsBegun.{at_begun}
+use Rattle.wkt_read.specs.Refusal.{StopsBetween, HasMessage}
+use Rattle.wkt_read.proofs.LawLemmas.Begun.{cuts_geometry, one_fault}
+use Rattle.wkt_read.specs.declared.messages.Message.{Message}
+use Rattle.wkt_read.proofs.Refusals.{Leaves, nothing_left, message_leaves}
+use Rattle.wkt_access.specs.declared.dimensions.Dimension.{Dimension}
+use Rattle.wkt_access.specs.declared.dimensions.Dimension.TheVariants.{XY}
+use Rattle.wkt_read.specs.Spanned.{Spanned, lexemes_of}
+use Rattle.wkt_machine.specs.Goes.{Goes}
+use Rattle.wkt_machine.specs.Machines.{state_of}
+use Rattle.wkt_machine.specs.Makers.{Maker}
+use Rattle.wkt_machine.specs.View.{View}
+use Rattle.wkt_machine.specs.declared.machine.Machine.{Machine}
+use Rattle.wkt_machine.specs.declared.source.At.{At as SourceAt}
+use Rattle.wkt_machine.specs.declared.part.Part.{Part}
+use Rattle.wkt_machine.specs.declared.part.Part.TheVariants as part
+
+-- Whole runs: what they go over is in the grammar, and where they stop no geometry is left.
 
 module _ {N : Type 0} (read : List ℕ → Option N) where
   -- what comes after, where something does
@@ -164,3 +179,148 @@ module _ {N : Type 0} (read : List ℕ → Option N) where
           let (d, cut) = last_cut before a more fault x split in
           dead.not_begun (front_begun a d (s, es) (ap (run read start) (sym cut) ∙ e) o);
     }
+
+-- Lexemes are refused at one place.
+
+module _ {N : Type 0} (read : List ℕ → Option N) where
+  -- a beginning of what is begun is begun
+  pub begun_front : (a b : List Lexeme) → BegunGeometry read (a ++ b) → BegunGeometry read a
+  begun_front a b h =
+      let (m, is) = begun_on read 0 (a ++ b) h in
+      let (q, r, first, later, split) = front_run read a b start m is in
+      go q first (is_over q.0) refl
+    where
+      go : (q : Move N) → run read start a ≡ Some q → (b : Bool) → is_over q.0 ≡ b → BegunGeometry read a
+      go q first true o = let (v, g, made) = exact read a q.0 q.1 first o in cuts_geometry read v a a [] g (sym (append-nil a))
+      go q first false o = (goes_on read a q.0 q.1 first o).0
+
+  -- what is begun has no dead beginning
+  pub none_dead : (b c : List Lexeme) (x : Lexeme) → BegunGeometry read (b ++ (x ∷ c)) → IsDead read (b ++ (x ∷ [])) → ⊥
+  none_dead b c x begun dead = dead.not_begun (begun_front (b ++ (x ∷ [])) c (subst (BegunGeometry read) (sym (append_assoc b (x ∷ []) c)) begun))
+
+  -- lexemes are refused at one place
+  pub one_place : (b r b2 r2 : List Lexeme) → b ++ r ≡ b2 ++ r2 → StopsBetween read b r → StopsBetween read b2 r2 → b ≡ b2
+  one_place b [] b2 [] e h k = sym (append-nil b) ∙ e ∙ append-nil b2
+  one_place b (x ∷ c) b2 (y ∷ c2) e h k = one_fault read b c b2 c2 x y h k e
+  one_place b [] b2 (y ∷ c2) e h k = absurd (none_dead b2 c2 y (subst (BegunGeometry read) (sym (append-nil b) ∙ e) h.0) k.dead)
+  one_place b (x ∷ c) b2 [] e h k = absurd (none_dead b c x (subst (BegunGeometry read) (sym (append-nil b2) ∙ sym e) k.0) h.dead)
+
+  pub one_left : (b r b2 r2 : List Lexeme) → b ++ r ≡ b2 ++ r2 → b ≡ b2 → r ≡ r2
+  one_left b r b2 r2 e same = append_cancel_left b r r2 (e ∙ ap (λ l. l ++ r2) (sym same))
+
+-- Where lexemes are refused, no more of them are taken than it takes to say so.
+
+module _ {N : Type 0} (read : List ℕ → Option N) (ls : List Lexeme) (m : Message) (remaining : List Lexeme) (h : HasMessage read ls m remaining) where
+  pub message_early : StopsEarly read ls remaining
+  message_early = go h.there h.split h.stops (message_leaves read ls m remaining h)
+    where
+      go : (there : List Lexeme) → ls ≡ h.before ++ there → StopsBetween read h.before there → Leaves (1 + h.parens) there remaining → StopsEarly read ls remaining
+      go [] split stops (given, e, le) =
+          let none : remaining ≡ [] = nothing_left given remaining e in
+          let begun : BegunGeometry read ls = subst (BegunGeometry read) (sym (split ∙ append-nil h.before)) stops.0 in record {
+            taken = ls;
+            split = sym (append-nil ls) ∙ ap (λ l. ls ++ l) (sym none);
+            reached = inl none;
+            few = λ b c x cut j. absurd (none_dead read b c x (subst (BegunGeometry read) cut begun) j.dead);
+          }
+      go (x ∷ r) split stops (given, e, le) = record {
+        taken = h.before ++ given;
+        split = split ∙ ap (λ l. h.before ++ l) e ∙ sym (append_assoc h.before given remaining);
+        reached = inr (h.before, r, x, split, stops, omega (arith, length-append h.before given));
+        few = λ b c y cut j.
+            let same : h.before ≡ b = one_fault read h.before r b c x y stops j (sym split ∙ cut) in
+            let count = h.counted in
+            subst (λ l. length (h.before ++ given) + closes l ≤ length l + 1 + opens l) same (omega (arith, length-append h.before given, le, count));
+      }
+
+-- Each lexeme goes into one collection more at most.
+
+-- a step goes into one collection more at most
+abbrev Deep : ℕ → Option (State × Action) → Type 0
+Deep n None = Unit {0}
+Deep n (Some s) = s.0.depth ≤ suc n
+
+inside_deep : (p : Part) (d : Dimension) (n : ℕ) → (inside p d n).depth ≤ suc n
+inside_deep part.Point d n = omega arith
+inside_deep p d n = omega arith
+
+outside_deep : (p : Part) (d : Dimension) (n : ℕ) → (outside p d n).depth ≤ suc n
+outside_deep part.Point d n = omega arith
+outside_deep p d n = omega arith
+
+joined_deep : (p : Part) (o : Option Dimension) (n : ℕ) → (joined_step p o n).0.depth ≤ suc n
+joined_deep p (Some d) n = omega arith
+joined_deep p None n = omega arith
+
+kind_deep : (o : Option KindWord) (n : ℕ) → Deep n (kind_step o n)
+kind_deep None n = tt
+kind_deep (Some e) n = joined_deep (part_of e.kind) e.joined n
+
+empty_deep : (b : Bool) (p : Part) (d : Dimension) (n : ℕ) (a : Action) → Deep n (cond b (Some (outside p d n, a)) None)
+empty_deep true p d n a = outside_deep p d n
+empty_deep false p d n a = tt
+
+dimension_deep : (o : Option Dimension) (p : Part) (w : List ℕ) (n : ℕ) → Deep n (dimension_step o p w n)
+dimension_deep (Some d) p w n = omega arith
+dimension_deep None p w n = empty_deep (is_empty_word w) p XY n _
+
+number_deep : (p : Part) (d : Dimension) (more n : ℕ) → (number_step p d more n).0.depth ≤ suc n
+number_deep p d zero n = omega arith
+number_deep p d (suc more) n = omega arith
+
+bare_deep : (p : Part) (d : Dimension) (n : ℕ) → Deep n (bare_step p d n)
+bare_deep part.Member d n = omega arith
+bare_deep p d n = tt
+
+comma_deep : (p : Part) (d : Dimension) (n : ℕ) → Deep n (comma_step p d n)
+comma_deep part.Point d n = tt
+comma_deep part.Member d n = tt
+comma_deep p d n = omega arith
+
+deep_at : (p : Place) (n : ℕ) (l : Lexeme) → Deep n (step_at p n l)
+deep_at place.Kind n (Word w) = kind_deep (kind_word w) n
+deep_at (place.Alone p) n (Word w) = dimension_deep (dim_word w) p w n
+deep_at (place.Alone p) n Open = inside_deep p XY n
+deep_at (place.Opening p d) n Open = inside_deep p d n
+deep_at (place.Opening p d) n (Word w) = empty_deep (is_empty_word w) p d n _
+deep_at (place.Opening p d) n (Num run) = bare_deep p d n
+deep_at (place.Number p d more) n (Num run) = number_deep p d more n
+deep_at (place.Item p d) n Comma = comma_deep p d n
+deep_at (place.Item p d) n Close = outside_deep p d n
+deep_at place.Geometry (suc n) Comma = omega arith
+deep_at place.Geometry (suc n) Close = omega arith
+deep_at p n l = tt
+
+pub deeper : (s t : State) (a : Action) (l : Lexeme) → step s l ≡ Some (t, a) → t.depth ≤ suc s.depth
+deeper s t a l e = subst (Deep s.depth) e (deep_at s.place s.depth l)
+
+-- and so do several
+pub deeper_by : {N : Type 0} (read : List ℕ → Option N) (ls : List Lexeme) (s : State) (m : Move N) → run read s ls ≡ Some m → m.0.depth ≤ s.depth + length ls
+deeper_by read [] s m e =
+    let same : s ≡ m.0 = cc in
+    omega (arith, ap (λ (s : State). s.depth) same)
+deeper_by read (l ∷ ls) s m e =
+    let (q, r, moves, runs, split) = then_some read (move read s l) (λ t. run read t ls) m e in
+    let (a, y, steps, number) = moved_some read (step s l) (number_of read l) q moves in
+    let first = deeper s q.0 a l steps in
+    let more = deeper_by read ls q.0 r runs in
+    let same : r.0 ≡ m.0 = cc in
+    omega (arith, first, more, ap (λ (s : State). s.depth) same)
+
+many : (ps : List Spanned) → length (lexemes_of ps) ≡ length ps
+many [] = refl
+many (p ∷ ps) = ap suc (many ps)
+
+-- There is as much room after a way as before.
+pub goes_room : {N S B : Type 0} (read : List ℕ → Option N) (view : View S) (maker : Maker N B) (m : Machine) (s : S) (b : B) (to : SourceAt S B) → Goes read view maker m s b to
+    → to.machine.depth + length (view.remaining to.source) ≤ m.depth + length (view.remaining s)
+goes_room read view maker m s b to h =
+    let deep = deeper_by read (lexemes_of (h.given ++ (h.last ∷ []))) (state_of m) (state_of to.machine, h.events) h.ran in
+    let count = many (h.given ++ (h.last ∷ [])) in
+    let all = ap length h.split in
+    omega (arith, deep, count, all, length-append h.given (h.last ∷ []), length-append h.given (h.last ∷ view.remaining to.source))
+
+-- Less is left after a way.
+pub goes_less : {N S B : Type 0} (read : List ℕ → Option N) (view : View S) (maker : Maker N B) (m : Machine) (s : S) (b : B) (to : SourceAt S B) → Goes read view maker m s b to
+    → suc (length (view.remaining to.source)) ≤ length (view.remaining s)
+goes_less read view maker m s b to h = omega (arith, ap length h.split, length-append h.given (h.last ∷ view.remaining to.source))

@@ -4,8 +4,7 @@ use Rattle.std.proofs.Common.{subst, arith}
 use Rattle.std.proofs.Math.Nat.{le_refl}
 use Rattle.wkt_num.specs.Bytes.{Lexeme, Mark, White}
 use Rattle.wkt_events.specs.Remaining.{Legible, class_in, remaining_spanned, TakesOne}
-use Rattle.wkt_machine.specs.Sight.{sight}
-use Rattle.wkt_machine.specs.View.{View}
+use Rattle.wkt_machine.specs.View.{sight, View}
 use Rattle.wkt_machine.specs.declared.bytes.Bytes.{Bytes}
 use Rattle.wkt_machine.specs.declared.part.Part.{Part}
 use Rattle.wkt_machine.specs.declared.part.Part.TheVariants as part

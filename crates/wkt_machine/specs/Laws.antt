@@ -12,7 +12,7 @@ use Rattle.wkt_machine.specs.Place.{State}
 use Rattle.wkt_machine.specs.Drives.{start, is_over}
 use Rattle.wkt_machine.specs.Events.{Event, events}
 use Rattle.wkt_machine.specs.Growing.{rest, grow_all, MayAll}
-use Rattle.wkt_machine.specs.Expecting.{expected_at}
+use Rattle.wkt_machine.specs.Refusing.{expected_at}
 use Rattle.wkt_machine.specs.Machine.{at, after, move, run}
 
 module _ {N : Type 0} (read : List ℕ → Option N) where

@@ -1,8 +1,11 @@
--- What is known of what is made.
+-- What is known of what is made, also where nothing is kept.
 use Rattle.std.specs.Prelude.{ℕ, ◌≤◌, List, [], ◌∷◌, ◌++◌, Option}
 use Rattle.wkt_events.specs.Numbers.{IsNumberAt}
 use Rattle.wkt_machine.specs.Events.{Event}
 use Rattle.wkt_machine.specs.declared.part.Axis.{Axis}
+use Rattle.wkt_machine.specs.declared.nothing.Nothing.{Nothing}
+
+-- What is known of what is made.
 
 -- Of numbers of type N a thing of type S is made.
 pub record Maker (N S : Type 0) : Type 1 where
@@ -24,3 +27,16 @@ pub record MakesNumber {N S : Type 0} (read : List ℕ → Option N) (maker : Ma
   pub number : N
   pub there : IsNumberAt read text at end number
   pub makes : maker.makes before (Event.Number axis number ∷ []) after
+
+-- What is made where nothing is kept.
+
+-- Any events make nothing.
+abbrev pub nothing_maker : {N : Type 0} → Maker N Nothing
+nothing_maker = record {
+  makes = λ s es t. Unit {0};
+  fits = λ s n. Unit {0};
+  takes = λ x. 0;
+  none = λ s. tt;
+  more = λ s t u es fs h k. tt;
+  less = λ s m n order h. tt;
+}

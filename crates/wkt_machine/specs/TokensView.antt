@@ -6,8 +6,7 @@ use Rattle.wkt_access.specs.declared.dimensions.Dimension.{Dimension}
 use Rattle.wkt_types.specs.declared.geometry_type.GeometryType.{GeometryType}
 use Rattle.wkt_read.specs.Ahead as ahead
 use Rattle.wkt_read.specs.Standing.{Standing}
-use Rattle.wkt_machine.specs.Sight.{seen_of}
-use Rattle.wkt_machine.specs.View.{View}
+use Rattle.wkt_machine.specs.View.{seen_of, View}
 use Rattle.wkt_machine.specs.declared.machine.Seen.{Seen}
 use Rattle.wkt_machine.specs.declared.machine.Seen.TheVariants as seen
 use Rattle.wkt_machine.specs.declared.tokens.OneByOne.{OneByOne}

@@ -2,7 +2,7 @@
 ghost use Rattle.std.specs.Prelude.{◌≡◌, ◌≢◌, ◌≤◌, length, get_or};
 ghost use Rattle.wkt_read.specs.Grammar.{kind_word};
 ghost use Rattle.wkt_machine.specs.BytesView.{IsDark, IsUnmarked, Sees};
-ghost use Rattle.wkt_machine.specs.Sight.{seen_word};
+ghost use Rattle.wkt_machine.specs.View.{seen_word};
 
 use crate::builder::Builder;
 use crate::coordinates::{coordinates, has_coordinates};
@@ -120,7 +120,7 @@ impl<'a, T: WktNum, const FEED_ENDS: bool> Source<T> for Bytes<'a, FEED_ENDS> {
 
 impl<'a, T: WktNum, const FEED_ENDS: bool> Walk<T> for Bytes<'a, FEED_ENDS> {
     #[inline(always)]
-    #[tactic(auto, using(crate::proofs::TokenViews::kind_open, crate::proofs::TokenViews::kind_sound, crate::proofs::RoomForRest::kind_room))]
+    #[tactic(auto, using(crate::proofs::TokenSteps::kind_open, crate::proofs::TokenSteps::kind_sound, crate::proofs::RoomForRest::kind_room))]
     fn header<B: Builder<T>>(self, machine: Machine, builder: B) -> Walked<Self, B> {
         if self.at > self.text.len() {
             return machine.step(self, builder);
@@ -129,7 +129,7 @@ impl<'a, T: WktNum, const FEED_ENDS: bool> Walk<T> for Bytes<'a, FEED_ENDS> {
     }
 
     #[inline(always)]
-    #[tactic(auto, using(crate::proofs::TokenViews::kind_open, crate::proofs::TokenViews::kind_sound, crate::proofs::RoomForRest::kind_room))]
+    #[tactic(auto, using(crate::proofs::TokenSteps::kind_open, crate::proofs::TokenSteps::kind_sound, crate::proofs::RoomForRest::kind_room))]
     fn first<B: Builder<T>>(self, machine: Machine, builder: B) -> Walked<Self, B> {
         if self.at > self.text.len() {
             return machine.step(self, builder);
@@ -138,7 +138,7 @@ impl<'a, T: WktNum, const FEED_ENDS: bool> Walk<T> for Bytes<'a, FEED_ENDS> {
     }
 
     #[inline(always)]
-    #[tactic(auto, using(crate::proofs::TokenViews::x_open, crate::proofs::TokenViews::x_sound, crate::proofs::RoomForRest::x_room))]
+    #[tactic(auto, using(crate::proofs::TokenSteps::x_open, crate::proofs::TokenSteps::x_sound, crate::proofs::RoomForRest::x_room))]
     fn coordinates<B: Builder<T>>(self, machine: Machine, builder: B) -> Walked<Self, B> {
         // A point without parentheses ends with its coordinate.
         if self.at > self.text.len() || !has_coordinates(machine.part) {

@@ -5,7 +5,7 @@ ghost use Rattle.std.specs.Prelude.{◌≡◌, ◌≤◌, ◌<◌, ◌+◌, leng
 ghost use Rattle.wkt_events.specs.Remaining.{Legible, remaining_spanned};
 ghost use Rattle.wkt_machine.specs.BytesView.{bytes_view, IsBetween};
 ghost use Rattle.wkt_machine.specs.Goes.{Goes, Refuses};
-ghost use Rattle.wkt_machine.specs.HeadBytes.{IsKindName, EndsWord, StandsHead};
+ghost use Rattle.wkt_machine.specs.LexemesAhead.{IsKindName, EndsWord, StandsHead};
 ghost use Rattle.wkt_access.specs.declared.dimensions.Dimension.TheVariants as dim_of;
 ghost use Rattle.wkt_machine.specs.Machine.{inside};
 ghost use Rattle.wkt_machine.specs.Machines.{state_of, IsSound};
@@ -40,7 +40,7 @@ const MULTIPOI: u64 = 0x494f_5049_544c_554d;
 /// Behind the header that comes next, and its parenthesis; of a point behind its coordinate. `INNER` differs
 /// between its two callers, so that it is built into each.
 #[inline(always)]
-#[tactic(auto, using(crate::proofs::TokenViews::kind_open, crate::proofs::TokenViews::kind_sound, crate::proofs::RoomForRest::kind_room))]
+#[tactic(auto, using(crate::proofs::TokenSteps::kind_open, crate::proofs::TokenSteps::kind_sound, crate::proofs::RoomForRest::kind_room))]
 pub(crate) fn header<'a, T: WktNum, B: Builder<T>, const FEED_ENDS: bool, const INNER: bool>(
     machine: Machine,
     source: Bytes<'a, FEED_ENDS>,

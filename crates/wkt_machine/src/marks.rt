@@ -4,9 +4,9 @@ ghost use Rattle.std.specs.Prelude.{◌≡◌, ◌+◌, ◌≤◌, length, IfOk,
 ghost use Rattle.wkt_machine.specs.Drives.{is_over};
 ghost use Rattle.wkt_machine.specs.Goes.{Goes, Refuses};
 ghost use Rattle.wkt_machine.specs.Machines.{state_of, IsSound};
-ghost use Rattle.wkt_machine.specs.MarkBehind.{is_mark};
+ghost use Rattle.wkt_machine.specs.LexemesAhead.{is_mark};
 ghost use Rattle.wkt_machine.specs.Room.{owed, HasRoom, RoomAt};
-ghost use Rattle.wkt_machine.specs.Sight.{sight};
+ghost use Rattle.wkt_machine.specs.View.{sight};
 
 use crate::builder::Builder;
 use crate::machine::{Machine, Seen, State};

@@ -2,12 +2,11 @@
 ghost use Rattle.std.specs.Prelude.{◌≡◌, ◌≢◌, ◌≤◌, ℕ, List, ◌∷◌, length, slice_range, false, IsUtf8};
 ghost use Rattle.wkt_num.specs.Bytes.{Lexeme};
 ghost use Rattle.wkt_events.specs.Remaining.{remaining, remaining_spanned};
-ghost use Rattle.wkt_machine.specs.Expecting.{expected_at};
+ghost use Rattle.wkt_machine.specs.Refusing.{expected_at, blamed, refused, takes_number};
 ghost use Rattle.wkt_machine.specs.Goes.{IsStuck};
 ghost use Rattle.wkt_machine.specs.BytesView.{IsDark, IsUnmarked};
-ghost use Rattle.wkt_machine.specs.Given.{ShowsLexeme, GivesNext};
+ghost use Rattle.wkt_machine.specs.LexemesAhead.{ShowsLexeme, GivesNext};
 ghost use Rattle.wkt_machine.specs.Machines.{state_of};
-ghost use Rattle.wkt_machine.specs.Refusing.{blamed, refused, takes_number};
 ghost use Rattle.wkt_read.specs.Table.{at_place, closing, closings, stays};
 
 use crate::machine::{Machine, State};

@@ -11,7 +11,7 @@ use wkt_num::WktNum;
 pub struct Nothing;
 
 impl<T: WktNum> Builder<T> for Nothing {
-    ghost use Rattle.wkt_machine.specs.NothingMaker.{nothing_maker};
+    ghost use Rattle.wkt_machine.specs.Makers.{nothing_maker};
 
     ghost maker = { nothing_maker };
 

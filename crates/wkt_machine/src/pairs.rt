@@ -5,7 +5,7 @@ ghost use Rattle.wkt_machine.specs.BytesView.{has_coordinates};
 ghost use Rattle.wkt_machine.specs.Goes.{Goes, Refuses};
 ghost use Rattle.wkt_machine.specs.Room.{HasRoom, RoomAt};
 ghost use Rattle.wkt_machine.specs.TokensView.{tokens_view};
-ghost use Rattle.wkt_machine.specs.MarkBehind.{TakesMark};
+ghost use Rattle.wkt_machine.specs.LexemesAhead.{TakesMark};
 ghost use Rattle.wkt_machine.specs.declared.machine.State.TheVariants as next;
 
 use crate::builder::Builder;

@@ -3,8 +3,7 @@ ghost use Rattle.std.specs.Prelude.{◌≡◌, ◌≢◌, ◌+◌, ◌≤◌, �
 ghost use Rattle.wkt_machine.specs.Goes.{Stays, Skips, MakesOneNumber, IsUnread, Goes, Refuses};
 ghost use Rattle.wkt_machine.specs.Machines.{state_of, IsSound};
 ghost use Rattle.wkt_machine.specs.Room.{HasRoom, RoomAt, HasNumberRoom, LeavesNumber};
-ghost use Rattle.wkt_machine.specs.Sight.{sight};
-ghost use Rattle.wkt_machine.specs.View.{View};
+ghost use Rattle.wkt_machine.specs.View.{sight, View};
 ghost use Rattle.wkt_machine.specs.declared.machine.Seen.TheVariants as seen;
 ghost use Rattle.wkt_machine.specs.declared.machine.State.TheVariants as next;
 

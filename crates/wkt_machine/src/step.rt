@@ -4,7 +4,7 @@ ghost use Rattle.wkt_machine.specs.Drives.{is_over};
 ghost use Rattle.wkt_machine.specs.Goes.{Goes, Refuses, EndsPoint};
 ghost use Rattle.wkt_machine.specs.Machines.{state_of, state_for, IsSound};
 ghost use Rattle.wkt_machine.specs.Room.{header_cost, owed, HasRoom, RoomAt};
-ghost use Rattle.wkt_machine.specs.Sight.{sight};
+ghost use Rattle.wkt_machine.specs.View.{sight};
 ghost use Rattle.wkt_machine.specs.declared.machine.Seen.TheVariants as sees;
 ghost use Rattle.wkt_machine.specs.declared.machine.State.TheVariants as next;
 ghost use Rattle.wkt_machine.specs.declared.part.Part.TheVariants as member;

@@ -6,7 +6,7 @@ ghost use Rattle.wkt_read.specs.Taking.{StaysUnread, TakesNumber};
 ghost use Rattle.wkt_read.specs.Tokenizer.Unread.{found};
 ghost use Rattle.wkt_machine.specs.Goes.{Goes, Refuses};
 ghost use Rattle.wkt_machine.specs.Room.{HasRoom, RoomAt};
-ghost use Rattle.wkt_machine.specs.Sight.{seen_word};
+ghost use Rattle.wkt_machine.specs.View.{seen_word};
 ghost use Rattle.wkt_machine.specs.TokensView.{seen_found, tokens_of, tokens_view};
 ghost use Rattle.wkt_machine.specs.declared.machine.State.TheVariants as next;
 ghost use Rattle.std.specs.Prelude.{MatchOption};
@@ -154,7 +154,7 @@ fn kindless<'t, 'a, T: WktNum, B: Builder<T>>(
 /// There is one for the first geometry and one for those inside, so that each has one place that calls it, into which it
 /// is inlined when it is small already: what must be inlined before that carries along what fills its places up.
 #[inline]
-#[tactic(auto, using(crate::proofs::TokenViews::kind_open, crate::proofs::TokenViews::kind_sound))]
+#[tactic(auto, using(crate::proofs::TokenSteps::kind_open, crate::proofs::TokenSteps::kind_sound))]
 fn header<'t, 'a, T: WktNum, B: Builder<T>, const INNER: bool>(
     machine: Machine,
     source: OneByOne<'t, 'a, T>,
@@ -205,7 +205,7 @@ impl<'t, 'a, T: WktNum> Walk<T> for OneByOne<'t, 'a, T> {
     }
 
     #[inline(always)]
-    #[tactic(auto, using(crate::proofs::TokenViews::x_open, crate::proofs::TokenViews::x_sound, crate::proofs::RoomForRest::x_room))]
+    #[tactic(auto, using(crate::proofs::TokenSteps::x_open, crate::proofs::TokenSteps::x_sound, crate::proofs::RoomForRest::x_room))]
     fn coordinates<B: Builder<T>>(self, machine: Machine, builder: B) -> Walked<Self, B> {
         match machine.dim {
             Dimension::XY if has_coordinates(machine.part) => pairs(machine, self, builder),

@@ -355,7 +355,7 @@ pub struct Grower<'a, T> {
 }
 
 impl<'a, T: WktNum> Grower<'a, T> {
-    ghost use Rattle.wkt_machine.specs.Growers.{tree_of};
+    ghost use Rattle.wkt_machine.specs.Trees.{tree_of};
 
     pub fn new(tree: &'a mut Tree<T>) -> Self
         ensures { tree_of result ≡ tree.entry }
@@ -372,7 +372,7 @@ impl<'a, T: WktNum> Grower<'a, T> {
 }
 
 impl<T: WktNum> Builder<T> for Grower<'_, T> {
-    ghost use Rattle.wkt_machine.specs.Growers.{tree_maker};
+    ghost use Rattle.wkt_machine.specs.Trees.{tree_maker};
 
     ghost maker = { tree_maker };
 

@@ -1,7 +1,7 @@
 //! The geometry that comes next, as a value.
 ghost use Rattle.std.specs.Prelude.{◌≤◌, length, IfOk};
 ghost use Rattle.wkt_types.specs.Tree.{tree};
-ghost use Rattle.wkt_machine.specs.Growers.{tree_of};
+ghost use Rattle.wkt_machine.specs.Trees.{tree_of};
 ghost use Rattle.wkt_machine.specs.Values.{AnswersTree, IsRead, MachineRefuses, OnRefused, OnMemory, WantsMemory};
 
 use crate::drive::drive;

@@ -1,25 +1,26 @@
--- The parts of a decimal's text by their places in the bytes.
+-- The parts of a decimal's text by their places in the bytes, and digits after others, which are read at once.
 use Rattle.std.proofs.Common.{◌≡◌, ℕ, zero, suc, ◌+◌, ◌-◌, ◌*◌, ◌^◌, ◌<◌, ◌≤◌, Bool, true, false, ◌==◌, if◌then◌else◌, List, [], ◌∷◌, ◌++◌, length, take, drop, get_or, slice_range, Some, inl, inr, refl, sym, ap, subst, ◌∙◌, arith, append_assoc, length-drop}
 use Rattle.std.specs.Fmt.{decimal, sign_text}
 use Rattle.std.specs.Char.{is_ascii_digit, digit_value}
-use Rattle.std.specs.Str.Parse.{IsNumeral, AllDigits, digits_value}
+use Rattle.std.specs.Str.Parse.{IsNumeral, AllDigits, digits_value, digits_value_after}
 use Rattle.std.proofs.lemmas.Int.Digits.{digits_value-lt}
 use Rattle.std.proofs.lemmas.List.{append-nil, drop_more, take_more, get_or-drop, get_or-take, length-take-le, drop-drop}
 use Rattle.std.proofs.Math.Seq.{take-add}
-use Rattle.std.proofs.Math.Nat.{mul-le-mul, le-mul_of_pos_right, pow-le-pow_right}
+use Rattle.std.proofs.Math.Nat.{mul-le-mul, le-mul_of_pos_right, pow-le-pow_right, mul-le-mul_right}
 use Rattle.std.proofs.lemmas.Bool.{cases_eq}
+use Rattle.std.proofs.lemmas.Nat.{pow-add}
 use borrow.Author.Tests.{eqb-true, ne_eqb}
 use Rattle.wkt_num.specs.Bytes.{class_of, Run, AllRun}
 use Rattle.wkt_num.specs.Number.{IsNumberText}
 use Rattle.wkt_num.specs.WholeLaws.{digits_are_run, point_run, minus_run}
 use Rattle.wkt_num.specs.Decimal.{read_magnitude, read_decimal, magnitude_text, decimal_text, fraction_digits, fraction_text}
-use Rattle.wkt_num.specs.DecimalLaws.{first_of, run_append, number_first}
+use Rattle.wkt_num.specs.DecimalLaws.{first_of, run_append, number_first, ten_pos, after_split}
 use Rattle.wkt_num.specs.Kept.{StopsRun, KeepsText}
-use Rattle.wkt_num.specs.Parts.{IsWholePart, IsPlainDecimal, HasZeros}
-use Rattle.wkt_num.specs.Padded.{zeros}
-use Rattle.wkt_num.specs.Units.{ten_pos}
-use Rattle.wkt_num.proofs.Short.{digits-more, digits-suc}
-use Rattle.wkt_num.proofs.TextInsideText.{Shown, decimal-is, fraction-is, magnitude-is, reads-fraction, reads-whole, signed, value-less, value-some, value-low, digit-is, digits-zeros}
+use Rattle.wkt_num.specs.DigitParts.{IsWholePart, IsPlainDecimal, HasZeros}
+use Rattle.wkt_num.specs.Printing.{zeros}
+use Rattle.wkt_num.proofs.TextInsideText.{digits-more, digits-suc, Shown, decimal-is, fraction-is, magnitude-is, reads-fraction, reads-whole, signed, value-less, value-some, value-low, digit-is, digits-zeros, fits-within}
+
+-- The parts of a decimal's text by their places in the bytes.
 
 -- ---- places in a list
 
@@ -258,4 +259,36 @@ keeps-plain D bs first point end few sign order whole after within is digits sto
       within = omega (arith, after, within);
       digits = whole;
       plain = λ e. absurd (omega (arith, plain.starts, e));
+    }
+
+-- Digits after others, which are read at once.
+
+-- a number goes on with these digits, and is below so many
+pub record AtOnce (bs : List ℕ) (number all from end : ℕ) : Type 0 where
+  pub digits : AllDigits 10 (slice_range bs from end)
+  pub value : all ≡ digits_value_after 10 number (slice_range bs from end)
+  pub small : all < 10 ^ end
+  pub fits : all < 10 ^ 19
+
+pub at-once : (bs : List ℕ) (number fraction ten from count most : ℕ) → from + count ≤ most → most ≤ length bs → most ≤ 18 → number < 10 ^ from → ten ≡ 10 ^ count
+    → AllDigits 10 (slice_range bs from (from + count)) → fraction ≡ digits_value 10 (slice_range bs from (from + count))
+    → AtOnce bs number (number * ten + fraction) from (from + count)
+at-once bs number fraction ten from count most order within few less tens digits is =
+    let end : ℕ = from + count in
+    let gs : List ℕ = slice_range bs from (from + count) in
+    let inside : from + count ≤ length bs = omega (arith, order, within) in
+    let long : length gs ≡ count = length-range bs from (from + count) (omega arith) inside ∙ omega arith in
+    let value : number * ten + fraction ≡ digits_value_after 10 number gs =
+    ap (λ t. number * t + fraction) (tens ∙ ap (λ (n : ℕ). 10 ^ n) (sym long))
+    ∙ ap (λ (f : ℕ). number * 10 ^ length gs + f) is
+    ∙ sym (after_split number gs) in
+    let least : fraction < 10 ^ count = omega (arith, is, digits_value-lt 10 gs digits, ap (λ (n : ℕ). 10 ^ n) long) in
+    let one : (number + 1) * ten ≤ 10 ^ from * ten = mul-le-mul_right {m = number + 1} {n = 10 ^ from} ten (omega (arith, less)) in
+    let all : 10 ^ from * ten ≡ 10 ^ (from + count) = ap (λ t. 10 ^ from * t) tens ∙ sym (pow-add 10 from count) in
+    let small : number * ten + fraction < 10 ^ (from + count) = omega (arith, one, all, least, tens) in
+    record {
+      digits = digits;
+      value = value;
+      small = small;
+      fits = fits-within _ _ 19 small (omega (arith, order, few));
     }

@@ -1,5 +1,5 @@
--- A fraction of 18 places, put as eight digits, or as sixteen and two.
-use Rattle.std.proofs.Common.{◌≡◌, ℕ, zero, suc, ◌+◌, ◌-◌, ◌*◌, ◌/◌, ◌%◌, ◌^◌, ◌<◌, ◌≤◌, true, false, not, ◌==◌, List, [], ◌∷◌, ◌++◌, length, reverse, get_or, take, set, cond, eqb, map, replicate, w8, refl, sym, ap, ◌∙◌, subst, arith, append_assoc, length-append, length-set}
+-- A fraction of 18 places, put as eight digits, or as sixteen and two, and these by fours.
+use Rattle.std.proofs.Common.{◌≡◌, ℕ, ◌+◌, ◌-◌, ◌*◌, ◌/◌, ◌%◌, ◌<◌, List, [], ◌∷◌, ◌++◌, ap, ap₂, ◌∙◌, arith, zero, suc, ◌^◌, ◌≤◌, true, false, not, ◌==◌, length, reverse, get_or, take, set, cond, eqb, map, replicate, w8, refl, sym, subst, append_assoc, length-append, length-set}
 use Rattle.std.specs.List.{prefix_len}
 use Rattle.std.proofs.lemmas.List.{reverse-append, length-take-le, take-take}
 use Rattle.std.proofs.Math.Seq.{take-append_seam, take-suc, take-suc-set}
@@ -8,18 +8,84 @@ use Rattle.std.proofs.Math.Arith.{mod-mul}
 use Rattle.std.proofs.Math.Nat.{mod-lt, mod-eq_of_lt, div-div-eq-div-mul, mul-div-mul_right, mul-mod_left, add-mul-div_left, mul_comm, le-mul_of_pos_right, div-eq_of_lt}
 use Rattle.std.proofs.lemmas.Slice.{take-put_mid}
 use Rattle.std.proofs.lemmas.Simd.{put_chunk_whole, length-put_chunk, bitmask_splat, first_set_mask_l}
-use lib.Lanes.{mask_l, top, zip2}
+use lib.Lanes.{mask_l, top, zip2, put_chunk}
 use mir.Val.{bits, hbits}
-use Rattle.wkt_num.specs.Lanes.{lowest}
 use borrow.Rule.Slice.PartMut.{put_mid, mid_of, mid_len, same_len_mid}
-use lib.Lanes.{put_chunk}
 use lib.Arith.{digits_lt}
 use borrow.Author.Tests.{ne_eqb, eqb-true, eqb-false}
+use Rattle.wkt_num.specs.Printing.{padded, zeros, EndsInDigit}
+use Rattle.wkt_num.specs.DigitParts.{lowest}
 use Rattle.wkt_num.specs.Decimal.{fraction_digits}
-use Rattle.wkt_num.specs.Units.{ten_pos}
-use Rattle.wkt_num.specs.Fraction.{fraction-none}
-use Rattle.wkt_num.specs.Padded.{zeros, EndsInDigit, padded}
-use Rattle.wkt_num.proofs.Padded.{step, pads, last-digit, length-padded, zeros-snoc}
+use Rattle.wkt_num.specs.DecimalLaws.{ten_pos, fraction-none}
+use Rattle.wkt_num.proofs.Printed.{step, pads, last-digit, length-padded, zeros-snoc}
+
+-- Four digits by two multiplications.
+
+abbrev hundreds : ℕ → ℕ
+hundreds v = v * 5243 % 4294967296 / 524288
+
+abbrev rest : ℕ → ℕ → ℕ
+rest v h = (v + (4294967296 - h * 100 % 4294967296)) % 4294967296
+
+abbrev tens : ℕ → ℕ
+tens p = p * 103 % 65536 / 1024
+
+abbrev ones : ℕ → ℕ → ℕ
+ones p t = (p + (65536 - t * 10 % 65536)) % 65536
+
+abbrev byte : ℕ → ℕ
+byte x = (x + 48) % 256
+
+-- the bytes that the vectors hold of v
+abbrev pub four : ℕ → List ℕ
+four v =
+    byte (tens (hundreds v)) ∷ byte (ones (hundreds v) (tens (hundreds v)))
+    ∷ byte (tens (rest v (hundreds v))) ∷ byte (ones (rest v (hundreds v)) (tens (rest v (hundreds v)))) ∷ []
+
+hundreds-is : (v : ℕ) → v < 10000 → hundreds v ≡ v / 100
+hundreds-is v less = omega (arith, less)
+
+rest-is : (v : ℕ) → v < 10000 → rest v (v / 100) ≡ v % 100
+rest-is v less = omega (arith, less)
+
+tens-is : (p : ℕ) → p < 100 → tens p ≡ p / 10
+tens-is p less = omega (arith, less)
+
+ones-is : (p : ℕ) → p < 100 → ones p (p / 10) ≡ p % 10
+ones-is p less = omega (arith, less)
+
+byte-is : (x : ℕ) → x < 10 → byte x ≡ 48 + x
+byte-is x less = omega (arith, less)
+
+first-is : (p q : ℕ) → p ≡ q → q < 100 → byte (tens p) ≡ 48 + q / 10
+first-is p q e less = ap (λ n. byte (tens n)) e ∙ ap byte (tens-is q less) ∙ byte-is (q / 10) (omega (arith, less))
+
+second-is : (p q : ℕ) → p ≡ q → q < 100 → byte (ones p (tens p)) ≡ 48 + q % 10
+second-is p q e less =
+    ap (λ n. byte (ones n (tens n))) e
+    ∙ ap (λ t. byte (ones q t)) (tens-is q less) ∙ ap byte (ones-is q less) ∙ byte-is (q % 10) (omega (arith, less))
+
+pub four-is : (v : ℕ) → v < 10000 → four v ≡ padded 4 v
+four-is v less =
+    let h = hundreds-is v less in
+    let r = ap (rest v) h ∙ rest-is v less in
+    ap₂ (λ x l. x ∷ l) (first-is _ (v / 100) h (omega (arith, less)) ∙ ap (λ n. 48 + n) {x = v / 100 / 10} {y = v / 1000} (omega (arith, less)))
+    (ap₂ (λ x l. x ∷ l) (second-is _ (v / 100) h (omega (arith, less)) ∙ ap (λ n. 48 + n) {x = v / 100 % 10} {y = v % 1000 / 100} (omega (arith, less)))
+    (ap₂ (λ x l. x ∷ l) (first-is _ (v % 100) r (omega (arith, less)) ∙ ap (λ n. 48 + n) {x = v % 100 / 10} {y = v % 1000 % 100 / 10} (omega (arith, less)))
+    (ap (λ x. x ∷ []) (second-is _ (v % 100) r (omega (arith, less)) ∙ ap (λ n. 48 + n) {x = v % 100 % 10} {y = v % 1000 % 100 % 10 / 1} (omega (arith, less))))))
+
+pub four-fours : (a b c d : ℕ) → a < 10000 → b < 10000 → c < 10000 → d < 10000
+    → four a ++ (four b ++ (four c ++ four d)) ≡ padded 4 a ++ (padded 4 b ++ (padded 4 c ++ padded 4 d))
+four-fours a b c d p q r s = ap₂ (λ x y. x ++ y) (four-is a p) (ap₂ (λ x y. x ++ y) (four-is b q) (ap₂ (λ x y. x ++ y) (four-is c r) (four-is d s)))
+
+pub two-fours : (a b : ℕ) → a < 10000 → b < 10000 → four a ++ four b ≡ padded 4 a ++ padded 4 b
+two-fours a b p q = ap₂ (λ x y. x ++ y) (four-is a p) (four-is b q)
+
+pub ruleset four_fours = four-fours
+
+pub ruleset two_fours = two-fours
+
+-- A fraction of 18 places, put as eight digits, or as sixteen and two.
 
 quotient : (a w b : ℕ) → b < w → (a * w + b) / w ≡ a
 quotient a w b less =

@@ -1,22 +1,107 @@
--- The digits in a window of bytes.
-use Rattle.std.proofs.Common.{◌≡◌, ℕ, zero, suc, ◌+◌, ◌-◌, ◌*◌, ◌/◌, ◌%◌, ◌^◌, ◌<◌, ◌≤◌, Bool, true, false, cond, min, ◌==◌, nat_lt, bit_and, List, [], ◌∷◌, length, take, drop, map, get_or, slice_range, replicate, refl, sym, ap, subst, ◌∙◌, arith, Fits, w8}
+-- The digits in a window of bytes, where a run of them stops, and a whole number that keeps its text.
+use Rattle.std.proofs.Common.{◌≡◌, ℕ, zero, suc, ◌<◌, Bool, true, false, ◌&&◌, ◌==◌, refl, subst, arith, sym, List, ◌∷◌, ◌++◌, get_or, replicate, ap, ◌∙◌, inl, inr, ◌+◌, ◌-◌, ◌*◌, ◌/◌, ◌%◌, ◌^◌, ◌≤◌, cond, min, nat_lt, bit_and, [], length, take, drop, map, slice_range, Fits, w8, ◌≢◌, pos, negsuc, Option, Some}
 use Rattle.std.specs.Prelude.{not}
+use Rattle.std.specs.Bool.{MatchBool}
+use Rattle.std.proofs.lemmas.Bool.{cases_eq, le-ltb}
 use Rattle.std.specs.List.{prefix_len}
-use Rattle.std.specs.Fmt.{sign_text}
+use Rattle.std.specs.Fmt.{sign_text, decimal, signed_decimal}
 use Rattle.std.specs.Char.{is_ascii_digit}
-use Rattle.std.specs.Str.Parse.{AllDigits}
+use Rattle.std.specs.Str.Parse.{AllDigits, IsNumeral, digits_value}
 use Rattle.std.specs.Int.Bits.{and_self}
 use Rattle.std.proofs.lemmas.Bool.Decides.{nat_tests}
-use Rattle.std.proofs.lemmas.List.{length-take-le, length-map, take-take, drop-take, get_or-take, map-id}
+use Rattle.std.proofs.lemmas.List.{length-take-le, length-map, take-take, drop-take, get_or-take, map-id, append-nil}
 use Rattle.std.proofs.lemmas.Simd.{chunk-fits, trailing_mask_l, zip2_splat, map-map}
-use Rattle.std.proofs.lemmas.Bool.{le-ltb}
-use borrow.Author.Tests.{ltb-false}
+use Rattle.std.proofs.lemmas.Int.Digits.{digits_value-lt}
+use Rattle.std.proofs.lemmas.Str.Parse.{without_leading_plus_none}
+use Rattle.std.proofs.Math.Nat.{pow-le-pow_right}
+use borrow.Author.Tests.{eqb-true, eqb-false, ltb-false}
 use lib.Bits.{and_step}
 use lib.Count.{count_trailing_zeros}
 use lib.Lanes.{zip2, Each1, chunk, mask_l, top}
 use mir.Val.{bits, hbits}
-use Rattle.wkt_num.specs.Parts.{is_other, bits_from, others_mask, IsFirstOther}
-use Rattle.wkt_num.proofs.Vectors.{over-mask, byte-digit}
+use Rattle.wkt_num.specs.WholeLaws.{both_true, first_digit, read_signed_minus, read_signed_plain, read_unsigned_some}
+use Rattle.wkt_num.specs.Bytes.{Class, Nul, White, Mark, Run, class_of}
+use Rattle.wkt_num.specs.DigitParts.{is_other, bits_from, others_mask, IsFirstOther, IsWholeText}
+use Rattle.wkt_num.proofs.DigitLanes.{over-mask, byte-digit}
+use Rattle.wkt_num.specs.Number.{IsNumberText}
+use Rattle.wkt_num.specs.Whole.{read_signed, read_unsigned}
+use Rattle.wkt_num.specs.Kept.{KeepsText}
+use Rattle.wkt_num.proofs.TextInsideText.{decimal-is}
+use Rattle.wkt_num.proofs.DecimalParts.{take-range, length-range, first-range, stops-at, text-run, value-first}
+
+-- Facts of each number below a bound, by computing them.
+
+-- the test is true of each number below n
+abbrev pub all_below : (ℕ → Bool) → ℕ → Bool
+all_below test zero = true
+all_below test (suc n) = test n && all_below test n
+
+pub below-all : (test : ℕ → Bool) (n k : ℕ) → all_below test n ≡ true → k < n → test k ≡ true
+below-all test zero k e h = absurd (omega arith)
+below-all test (suc n) k e h =
+    let both = both_true (test n) (all_below test n) e in
+    elim (k == n) as (λ b. (k == n) ≡ b → test k ≡ true) [
+      | true ↦ λ f. subst (λ (i : ℕ). test i ≡ true) (sym (eqb-true k n f)) both.0
+      | false ↦ λ f. below-all test n k both.1 (omega (arith, h, eqb-false k n f))
+    ] refl
+
+-- The bytes that are no parts of a run.
+
+abbrev is_run : Class → Bool
+is_run Nul = false
+is_run White = false
+is_run (Mark l) = false
+is_run Run = true
+
+abbrev same : Bool → Bool → Bool
+same true b = b
+same false true = false
+same false false = true
+
+same-is : (a b : Bool) → same a b ≡ true → a ≡ b
+same-is true b e = sym e
+same-is false true e = cc
+same-is false false e = refl
+
+-- the bytes that are no parts of a run
+abbrev pub stops : List ℕ
+stops = 1 ∷ (replicate 8 0 ++ (1 ∷ 1 ∷ 0 ∷ 0 ∷ 1 ∷ (replicate 18 0 ++ (1 ∷ (replicate 7 0 ++ (1 ∷ 1 ∷ 0 ∷ 0 ∷ 1 ∷ replicate 211 0))))))
+
+abbrev is_clear : ℕ → Bool
+is_clear b = get_or stops b 0 == 0
+
+-- the table is right for each byte below n
+abbrev all_report : ℕ → Bool
+all_report zero = true
+all_report (suc n) = same (is_clear n) (is_run (class_of n)) && all_report n
+
+all-report : all_report 256 ≡ true
+unfolding class_of
+all-report = refl
+
+reports : (n b : ℕ) → b < n → all_report n ≡ true → is_clear b ≡ is_run (class_of b)
+reports zero b h e = absurd (omega (arith, h))
+reports (suc n) b h e = let p = both_true (same (is_clear n) (is_run (class_of n))) (all_report n) e in elim (cases_eq b n) [
+  | inl i ↦ ap is_clear i ∙ same-is (is_clear n) (is_run (class_of n)) p.0 ∙ ap (λ (k : ℕ). is_run (class_of k)) (sym i)
+  | inr i ↦ reports n b (omega (arith, h, i)) p.1
+]
+
+run-is : (c : Class) → is_run c ≡ true → c ≡ Run
+run-is Nul e = cc
+run-is White e = cc
+run-is (Mark l) e = cc
+run-is Run e = refl
+
+pub table-reports : (b : ℕ) → b < 256 → MatchBool (is_clear b) (class_of b ≡ Run) (class_of b ≡ Run → ⊥)
+table-reports b h = go (is_clear b) (reports 256 b h all-report)
+  where
+    go : (t : Bool) → t ≡ is_run (class_of b) → MatchBool t (class_of b ≡ Run) (class_of b ≡ Run → ⊥)
+    go true e = run-is (class_of b) (sym e)
+    go false e = λ r. let f : false ≡ true = e ∙ ap is_run r in cc
+
+pub ruleset table_reports = table-reports
+
+-- The digits in a window of bytes.
 
 -- ---- a mask without its lowest bit
 
@@ -221,3 +306,80 @@ mask-of bs window =
 pub ruleset mask_of = mask-of
 
 pub ruleset minus_less = minus-less
+
+-- A whole number as it is printed keeps its text.
+
+module _ (k most : ℕ) (bs : List ℕ) (end : ℕ) (fits : 10 ^ most ≤ 2 ^ k) (narrow : k ≤ 128) (h : IsWholeText most bs end) where
+  abbrev ws : List ℕ
+  ws = slice_range bs h.first end
+
+  abbrev v : ℕ
+  v = digits_value 10 ws
+
+  long : length ws ≡ end - h.first
+  long = length-range bs h.first end (omega (arith, h.printed.some)) h.within
+
+  numeral : IsNumeral 10 ws
+  numeral = (omega (arith, long, h.printed.some), h.digits)
+
+  head : get_or ws 0 0 ≡ get_or bs h.first 0
+  head = first-range bs h.first end h.printed.some
+
+  small : v < 2 ^ k
+  small = omega (arith, digits_value-lt 10 ws h.digits, pow-le-pow_right {n = 10} (omega arith) {i = length ws} {j = most} (omega (arith, long, h.printed.few)), fits)
+
+  wide : v < 10 ^ 64
+  wide = omega (arith, small, pow-le-pow_right {n = 2} (omega arith) {i = k} {j = 128} narrow)
+
+  printed : decimal v ≡ ws
+  printed = decimal-is ws numeral (λ e. let p = h.printed.plain (sym head ∙ e) in omega (arith, long, p.0)) wide
+
+  text : take end bs ≡ sign_text (h.first == 1) ++ ws
+  text = take-range bs h.first end (omega (arith, h.printed.some)) ∙ ap (λ l. l ++ ws) h.sign
+
+  run : IsNumberText (take end bs)
+  run = subst IsNumberText (sym text) (subst (λ l. IsNumberText (sign_text (h.first == 1) ++ l)) (append-nil ws) (text-run (h.first == 1) ws [] numeral tt))
+
+  kept-as : {T : Type 0} (read : List ℕ → Option T) (num : T → List ℕ) (x : T) → read (take end bs) ≡ Some x → num x ≡ take end bs → KeepsText read num bs end end
+  kept-as read num x reads whole = record { number = x; within = h.within; shorter = omega arith; run = run; stops = stops-at bs end h.stops; reads = reads; text = whole }
+
+  pub keeps-signed : KeepsText (read_signed k) signed_decimal bs end end
+  keeps-signed = go h.first h.minus refl
+    where
+      plain : h.first ≡ 0 → KeepsText (read_signed k) signed_decimal bs end end
+      plain e =
+          let all : take end bs ≡ ws = text ∙ ap (λ (n : ℕ). sign_text (n == 1) ++ ws) e in
+          kept-as (read_signed k) signed_decimal (pos v) (ap (read_signed k) all ∙ read_signed_plain k v ws numeral refl small) (printed ∙ sym all)
+
+      some : h.first ≡ 1 → 0 < v
+      some e = value-first ws numeral (λ z. let p = h.printed.plain (sym head ∙ z) in omega (arith, e, p.1))
+
+      negative : h.first ≡ 1 → (n : ℕ) → v ≡ n → 0 < n → KeepsText (read_signed k) signed_decimal bs end end
+      negative e zero same positive = absurd (omega (arith, positive))
+      negative e (suc n) same positive =
+          let all : take end bs ≡ 45 ∷ ws = text ∙ ap (λ (m : ℕ). sign_text (m == 1) ++ ws) e in
+          kept-as (read_signed k) signed_decimal (negsuc n) (ap (read_signed k) all ∙ read_signed_minus k (suc n) ws numeral same (omega (arith, small, same)))
+          (ap (λ l. 45 ∷ l) (ap decimal (sym same) ∙ printed) ∙ sym all)
+
+      go : (f : ℕ) → f ≤ 1 → h.first ≡ f → KeepsText (read_signed k) signed_decimal bs end end
+      go zero order e = plain e
+      go (suc zero) order e = negative e v refl (some e)
+      go (suc (suc f)) order e = absurd (omega (arith, order))
+
+  pub keeps-unsigned : get_or bs 0 0 ≢ 45 → KeepsText (read_unsigned k) decimal bs end end
+  keeps-unsigned other =
+      let all : take end bs ≡ ws = text ∙ ap (λ (n : ℕ). sign_text (n == 1) ++ ws) none in
+      let digit = first_digit ws numeral in
+      kept-as (read_unsigned k) decimal v (ap (read_unsigned k) all ∙ read_unsigned_some k v ws ws (without_leading_plus_none ws (λ e. omega (arith, digit, e))) numeral refl small) (printed ∙ sym all)
+    where
+      first-of : (l : List ℕ) → take 1 l ≡ 45 ∷ [] → get_or l 0 0 ≡ 45
+      first-of [] e = cc
+      first-of (b ∷ l) e = cc
+
+      none : h.first ≡ 0
+      none = go h.first h.minus refl
+        where
+          go : (f : ℕ) → f ≤ 1 → h.first ≡ f → f ≡ 0
+          go zero order e = refl
+          go (suc zero) order e = absurd (other (first-of bs (ap (λ (n : ℕ). take n bs) (sym e) ∙ h.sign ∙ ap (λ (n : ℕ). sign_text (n == 1)) e)))
+          go (suc (suc f)) order e = absurd (omega (arith, order))

@@ -1,8 +1,23 @@
 -- How a number of units is printed, said by its digits and not by the function that prints it.
-use Rattle.std.specs.Prelude.{◌≡◌, ◌⊎◌, ℕ, ◌*◌, ◌^◌, List, [], ◌∷◌, ◌++◌, length, get_or, ℤ, pos, unsigned_abs, int_lt}
+use Rattle.std.specs.Prelude.{◌≡◌, ℕ, zero, suc, ◌+◌, ◌/◌, ◌%◌, ◌^◌, ◌<◌, List, [], ◌∷◌, ◌++◌, ◌⊎◌, ◌*◌, length, get_or, ℤ, pos, unsigned_abs, int_lt}
 use Rattle.std.specs.Fmt.{sign_text}
 use Rattle.std.specs.Str.Parse.{IsNumeral, AllDigits, digits_value}
-use Rattle.wkt_num.specs.Padded.{EndsInDigit}
+
+-- Digits of a fraction with the zeros after them. Only private contracts cite this file.
+
+-- so many zeros
+abbrev pub zeros : ℕ → List ℕ
+zeros zero = []
+zeros (suc m) = 48 ∷ zeros m
+
+-- The last byte is a digit that isn't 0.
+abbrev pub EndsInDigit : List ℕ → Type 0
+EndsInDigit ds = (init : List ℕ) × (d : ℕ) × (ds ≡ init ++ (48 + d) ∷ []) × (0 < d)
+
+-- j digits of f
+abbrev pub padded : ℕ → ℕ → List ℕ
+padded zero f = []
+padded (suc j) f = (48 + f / 10 ^ j) ∷ padded j (f % 10 ^ j)
 
 -- The point and the digits behind it, and nothing where there are none.
 abbrev pub point_and : List ℕ → List ℕ

@@ -4,7 +4,7 @@ ghost use Rattle.std.specs.Ordering.{int_cmp, int_eq, as_partial_cmp};
 ghost use Rattle.std.specs.Cmp.{int_eq_equiv, int_cmp_total, signed_po, partial_equiv_from_equiv};
 ghost use Rattle.wkt_num.specs.Decimal.{read_decimal, decimal_text, IsUnits, IsShortDecimal};
 ghost use Rattle.wkt_num.specs.Kept.{KeepsText, FindsShort};
-ghost use Rattle.wkt_num.specs.Halves.{upper_half, lower_half, upper_back, lower_back};
+ghost use Rattle.wkt_num.specs.DigitParts.{upper_half, lower_half, upper_back, lower_back};
 ghost use Rattle.wkt_num.specs.DecimalLaws.{decimal_reads_back, decimal_reads_values, decimal_number_text, decimal_same};
 
 use crate::formatted::FormatterText;
@@ -140,7 +140,7 @@ impl<const D: u32> WktNum for Decimal<D> {
     ghost same = { decimal_same };
 
     #[inline(always)]
-    #[tactic(auto, using(crate::proofs::Signed::read_far, std::proofs::lemmas::Int::ints))]
+    #[tactic(auto, using(crate::proofs::ReadNumbers::read_far, std::proofs::lemmas::Int::ints))]
     fn read_number(text: &str) -> Option<Decimal<D>> {
         if D > MOST_PLACES {
             return None;
@@ -176,7 +176,7 @@ impl<const D: u32> WktNum for Decimal<D> {
     }
 
     #[inline(always)]
-    #[tactic(auto, using(crate::proofs::OnlyAscii::decimal_utf8))]
+    #[tactic(auto, using(crate::proofs::ReadNumbers::decimal_utf8))]
     fn reads_texts() -> bool {
         true
     }

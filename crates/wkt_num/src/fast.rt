@@ -1,7 +1,7 @@
 //! Numbers of few digits, straight to units of 64 bits.
 ghost use Rattle.std.specs.Prelude.{◌≡◌, ◌+◌, ◌-◌, ◌*◌, ◌^◌, ◌≤◌, ◌<◌, IfSome, length, slice_range};
 ghost use Rattle.std.specs.Str.Parse.{AllDigits, digits_value};
-ghost use Rattle.wkt_num.specs.FastUnits.{BeginsUnits, ReadsDigits, signed};
+ghost use Rattle.wkt_num.specs.DigitParts.{BeginsUnits, ReadsDigits, signed};
 
 use crate::kept::{after_minus, is_of_run};
 use crate::lanes::first_8;
@@ -83,7 +83,7 @@ fn fraction_from(bytes: &[u8], from: usize, most: usize, number: u64) -> (u64, u
 /// The number that the digits from `from` on spell, and how many they are, if a byte that is none follows one to seven of
 /// them. `None` implies nothing.
 #[inline(always)]
-#[tactic(auto, using(crate::proofs::FirstLanes::first_lanes))]
+#[tactic(auto, using(crate::proofs::DigitLanes::first_lanes))]
 fn fast_digits(bytes: &[u8], from: usize) -> Option<(u64, usize)>
     requires within { from + 8 ≤ length bytes.now }
     ensures some { IfSome result (λ r. 0 < r.1) }

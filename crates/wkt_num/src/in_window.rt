@@ -4,8 +4,7 @@ ghost use Rattle.std.specs.Fmt.{sign_text};
 ghost use Rattle.std.specs.Str.Parse.{AllDigits, digits_value};
 ghost use Rattle.wkt_num.specs.Decimal.{read_decimal};
 ghost use Rattle.wkt_num.specs.Kept.{BeginsNumber};
-ghost use Rattle.wkt_num.specs.FastUnits.{signed};
-ghost use Rattle.wkt_num.specs.Parts.{ShowsWhole};
+ghost use Rattle.wkt_num.specs.DigitParts.{signed, ShowsWhole};
 ghost use Rattle.wkt_num.specs.Whole.{read_signed, read_unsigned};
 
 use crate::kept::{after_minus, first_other, is_of_run, others_from};
@@ -69,7 +68,7 @@ fn with_sign(negative: bool, magnitude: u128) -> i128
 
 /// The number that one to eight digits spell.
 #[inline(always)]
-#[tactic(auto, using(crate::proofs::FirstLanes::given_lanes, crate::proofs::NumberInWindow::digits_small))]
+#[tactic(auto, using(crate::proofs::DigitLanes::given_lanes, crate::proofs::NumberInWindow::digits_small))]
 fn eight_from(bytes: &[u8], from: usize, count: usize) -> u64
     requires within { from + 8 ≤ length bytes.now }
     requires some { 0 < count }

@@ -7,7 +7,7 @@ ghost use Rattle.std.specs.Str.Parse.{AllDigits};
 ghost use Rattle.wkt_num.specs.Bytes.{class_of, Run};
 ghost use Rattle.wkt_num.specs.Decimal.{read_decimal, decimal_text};
 ghost use Rattle.wkt_num.specs.Kept.{KeepsText};
-ghost use Rattle.wkt_num.specs.Parts.{IsWholePart, IsDecimalText, IsPlainDecimal, HasZeros, IsFirstOther, others_mask};
+ghost use Rattle.wkt_num.specs.DigitParts.{IsWholePart, IsDecimalText, IsPlainDecimal, HasZeros, IsFirstOther, others_mask};
 
 use crate::powers::SHORT_PLACES;
 use std::simd::prelude::*;
@@ -192,7 +192,7 @@ static STOPS: [u8; 256] = [
 
 /// Whether a byte is a part of a run.
 #[inline(always)]
-#[tactic(auto, using(crate::proofs::RunStops::table_reports))]
+#[tactic(auto, using(crate::proofs::WindowDigits::table_reports))]
 pub(crate) fn is_of_run(byte: u8) -> bool
     ensures { MatchBool result (class_of byte ≡ Run) (class_of byte ≢ Run) }
 {

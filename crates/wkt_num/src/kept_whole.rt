@@ -3,7 +3,7 @@ ghost use Rattle.std.specs.Prelude.{◌≡◌, ◌≤◌, ◌<◌, ◌^◌, ◌+
 ghost use Rattle.std.specs.Fmt.{decimal, signed_decimal};
 ghost use Rattle.std.specs.Str.Parse.{AllDigits};
 ghost use Rattle.wkt_num.specs.Kept.{KeepsText, FindsShort};
-ghost use Rattle.wkt_num.specs.Parts.{IsWholeText, IsPrinted};
+ghost use Rattle.wkt_num.specs.DigitParts.{IsWholeText, IsPrinted};
 ghost use Rattle.wkt_num.specs.Whole.{read_signed, read_unsigned};
 
 use crate::kept::{after_minus, first_other, is_of_run, others_from};

@@ -1,7 +1,7 @@
 //! Digits read eight or sixteen at once.
 ghost use Rattle.std.specs.Prelude.{◌≡◌, ◌+◌, ◌-◌, ◌*◌, ◌%◌, ◌≤◌, ◌<◌, ◌++◌, ◌^◌, IfSome, length, take, drop, map, replicate};
 ghost use Rattle.std.specs.Str.Parse.{AllDigits, digits_value};
-ghost use Rattle.wkt_num.specs.Lanes.{DigitLanes, lanes_value, last_lanes};
+ghost use Rattle.wkt_num.specs.DigitParts.{DigitLanes, lanes_value, last_lanes};
 
 use std::simd::prelude::*;
 
@@ -92,7 +92,7 @@ fn number_8(digits: u8x8) -> u64
 
 /// The number that the first `count` of eight lanes spell.
 #[inline(always)]
-#[tactic(auto, using(crate::proofs::FirstLanes::moved_digits))]
+#[tactic(auto, using(crate::proofs::DigitLanes::moved_digits))]
 pub(crate) fn first_8(digits: u8x8, count: usize) -> u64
     requires some { 0 < count }
     requires most { count ≤ 8 }

@@ -4,8 +4,8 @@
 ghost use Rattle.std.specs.Prelude.{◌≡◌, ◌≢◌, ℕ, List, length, ◌<◌, ◌≤◌, ◌+◌, ◌-◌, ◌/◌, ◌%◌, ◌^◌, ◌++◌, take, drop, not, reverse, ◌==◌, slice_index};
 ghost use Rattle.std.specs.List.{prefix_len};
 ghost use Rattle.wkt_num.specs.Sink.{Puts};
-ghost use Rattle.wkt_num.specs.Lanes.{lowest};
-ghost use Rattle.wkt_num.specs.Padded.{zeros, EndsInDigit, padded};
+ghost use Rattle.wkt_num.specs.DigitParts.{lowest};
+ghost use Rattle.wkt_num.specs.Printing.{zeros, EndsInDigit, padded};
 ghost use Rattle.wkt_num.specs.Decimal.{magnitude_text, fraction_text, fraction_digits};
 
 use crate::digits::{put_small_whole, put_whole};
@@ -194,7 +194,7 @@ fn eight(n: u64) -> u8x8
 
 /// Four digits of each number.
 #[inline(always)]
-#[tactic(auto, using(crate::proofs::FourDigits::two_fours))]
+#[tactic(auto, using(crate::proofs::EighteenPlaces::two_fours))]
 fn two_fours(a: u32, b: u32) -> u8x8
     requires { (a < 10000) × (b < 10000) }
     ensures { result ≡ padded 4 a ++ padded 4 b }
@@ -250,7 +250,7 @@ fn sixteen(n: u64) -> u8x16
 
 /// The sixteen digits of four numbers of four digits each.
 #[inline(always)]
-#[tactic(auto, using(crate::proofs::FourDigits::four_fours))]
+#[tactic(auto, using(crate::proofs::EighteenPlaces::four_fours))]
 fn four_fours(a: u32, b: u32, c: u32, d: u32) -> u8x16
     requires { (a < 10000) × (b < 10000) × (c < 10000) × (d < 10000) }
     ensures { result ≡ padded 4 a ++ (padded 4 b ++ (padded 4 c ++ padded 4 d)) }

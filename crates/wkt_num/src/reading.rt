@@ -4,7 +4,7 @@ ghost use Rattle.std.specs.Char.{is_ascii_digit};
 ghost use Rattle.std.specs.Str.Parse.{starts_with_minus, without_leading_sign};
 ghost use Rattle.wkt_num.specs.Whole.{keep_if};
 ghost use Rattle.wkt_num.specs.Decimal.{read_magnitude, with_sign, and_then};
-ghost use Rattle.wkt_num.specs.FastUnits.{ReadsDigits};
+ghost use Rattle.wkt_num.specs.DigitParts.{ReadsDigits};
 
 use crate::lanes::last_digits;
 use crate::powers::{SHORT_PLACES, ten_to};
@@ -98,7 +98,7 @@ fn read_few(places: u32, body: &[u8]) -> Option<u128>
 /// The number of the digits of such a body, and how many of them follow a point. A count past all
 /// places implies nothing about the body.
 #[inline(always)]
-#[tactic(auto, using(crate::proofs::Short::whole_body))]
+#[tactic(auto, using(crate::proofs::TextInsideText::whole_body))]
 fn few_digits(body: &[u8]) -> (u64, usize)
     ensures { (D : ℕ) → D ≤ 18 → result.1 ≤ D
         → read_magnitude (2 ^ 127) D body.now ≡ Some (result.0 * 10 ^ (D - result.1)) }
@@ -144,7 +144,7 @@ fn fast_read(places: u32, body: &[u8]) -> Option<u128>
 /// The units in 64 bits, for a short body of digits, or of digits around a point with at most `places` after it. `None`
 /// implies nothing about the body: it is then read in the plain way.
 #[inline(always)]
-#[tactic(auto, using(crate::proofs::Short::whole_body))]
+#[tactic(auto, using(crate::proofs::TextInsideText::whole_body))]
 fn read_short(places: u32, body: &[u8]) -> Option<u128>
     ensures { IfSome result (λ units. read_magnitude (2 ^ 127) places body.now ≡ Some units) }
 {

@@ -28,7 +28,7 @@ impl WktNum for i8 {
 
     ghost same = { signed_same };
 
-    #[tactic(auto, using(crate::proofs::Parses::parse_read_signed))]
+    #[tactic(auto, using(crate::proofs::ReadNumbers::parse_read_signed))]
     fn read_number(text: &str) -> Option<i8> {
         text.parse::<i8>().ok()
     }
@@ -56,7 +56,7 @@ impl WktNum for i8 {
     }
 
     #[inline(always)]
-    #[tactic(auto, using(crate::proofs::OnlyAscii::signed_utf8_7))]
+    #[tactic(auto, using(crate::proofs::ReadNumbers::signed_utf8_7))]
     fn reads_texts() -> bool {
         true
     }
@@ -81,7 +81,7 @@ impl WktNum for i16 {
 
     ghost same = { signed_same };
 
-    #[tactic(auto, using(crate::proofs::Parses::parse_read_signed))]
+    #[tactic(auto, using(crate::proofs::ReadNumbers::parse_read_signed))]
     fn read_number(text: &str) -> Option<i16> {
         text.parse::<i16>().ok()
     }
@@ -109,7 +109,7 @@ impl WktNum for i16 {
     }
 
     #[inline(always)]
-    #[tactic(auto, using(crate::proofs::OnlyAscii::signed_utf8_15))]
+    #[tactic(auto, using(crate::proofs::ReadNumbers::signed_utf8_15))]
     fn reads_texts() -> bool {
         true
     }
@@ -134,7 +134,7 @@ impl WktNum for i32 {
 
     ghost same = { signed_same };
 
-    #[tactic(auto, using(crate::proofs::Parses::parse_read_signed))]
+    #[tactic(auto, using(crate::proofs::ReadNumbers::parse_read_signed))]
     fn read_number(text: &str) -> Option<i32> {
         text.parse::<i32>().ok()
     }
@@ -162,7 +162,7 @@ impl WktNum for i32 {
     }
 
     #[inline(always)]
-    #[tactic(auto, using(crate::proofs::OnlyAscii::signed_utf8_31))]
+    #[tactic(auto, using(crate::proofs::ReadNumbers::signed_utf8_31))]
     fn reads_texts() -> bool {
         true
     }
@@ -187,7 +187,7 @@ impl WktNum for i64 {
 
     ghost same = { signed_same };
 
-    #[tactic(auto, using(crate::proofs::Parses::parse_read_signed))]
+    #[tactic(auto, using(crate::proofs::ReadNumbers::parse_read_signed))]
     fn read_number(text: &str) -> Option<i64> {
         text.parse::<i64>().ok()
     }
@@ -215,7 +215,7 @@ impl WktNum for i64 {
     }
 
     #[inline(always)]
-    #[tactic(auto, using(crate::proofs::OnlyAscii::signed_utf8_63))]
+    #[tactic(auto, using(crate::proofs::ReadNumbers::signed_utf8_63))]
     fn reads_texts() -> bool {
         true
     }
@@ -240,7 +240,7 @@ impl WktNum for i128 {
 
     ghost same = { signed_same };
 
-    #[tactic(auto, using(crate::proofs::Parses::parse_read_signed))]
+    #[tactic(auto, using(crate::proofs::ReadNumbers::parse_read_signed))]
     fn read_number(text: &str) -> Option<i128> {
         text.parse::<i128>().ok()
     }
@@ -268,7 +268,7 @@ impl WktNum for i128 {
     }
 
     #[inline(always)]
-    #[tactic(auto, using(crate::proofs::OnlyAscii::signed_utf8_127))]
+    #[tactic(auto, using(crate::proofs::ReadNumbers::signed_utf8_127))]
     fn reads_texts() -> bool {
         true
     }

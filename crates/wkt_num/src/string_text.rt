@@ -13,7 +13,7 @@ pub struct StringText<'a> {
 }
 
 impl<'a> StringText<'a> {
-    ghost use Rattle.wkt_num.specs.Texts.{string_of, string_failures};
+    ghost use Rattle.wkt_num.specs.Borrowed.{string_of, string_failures};
 
     /// A sink that has been given nothing yet.
     pub fn new(string: &'a mut String) -> StringText<'a>
@@ -35,7 +35,7 @@ impl<'a> StringText<'a> {
 }
 
 impl<'a> TextSink for StringText<'a> {
-    ghost use Rattle.wkt_num.specs.Texts.{string_sink};
+    ghost use Rattle.wkt_num.specs.Borrowed.{string_sink};
 
     ghost sink = { string_sink };
 

@@ -28,7 +28,7 @@ impl WktNum for u8 {
 
     ghost same = { unsigned_same };
 
-    #[tactic(auto, using(crate::proofs::Parses::parse_read_unsigned))]
+    #[tactic(auto, using(crate::proofs::ReadNumbers::parse_read_unsigned))]
     fn read_number(text: &str) -> Option<u8> {
         text.parse::<u8>().ok()
     }
@@ -56,7 +56,7 @@ impl WktNum for u8 {
     }
 
     #[inline(always)]
-    #[tactic(auto, using(crate::proofs::OnlyAscii::unsigned_utf8_8))]
+    #[tactic(auto, using(crate::proofs::ReadNumbers::unsigned_utf8_8))]
     fn reads_texts() -> bool {
         true
     }
@@ -81,7 +81,7 @@ impl WktNum for u16 {
 
     ghost same = { unsigned_same };
 
-    #[tactic(auto, using(crate::proofs::Parses::parse_read_unsigned))]
+    #[tactic(auto, using(crate::proofs::ReadNumbers::parse_read_unsigned))]
     fn read_number(text: &str) -> Option<u16> {
         text.parse::<u16>().ok()
     }
@@ -109,7 +109,7 @@ impl WktNum for u16 {
     }
 
     #[inline(always)]
-    #[tactic(auto, using(crate::proofs::OnlyAscii::unsigned_utf8_16))]
+    #[tactic(auto, using(crate::proofs::ReadNumbers::unsigned_utf8_16))]
     fn reads_texts() -> bool {
         true
     }
@@ -134,7 +134,7 @@ impl WktNum for u32 {
 
     ghost same = { unsigned_same };
 
-    #[tactic(auto, using(crate::proofs::Parses::parse_read_unsigned))]
+    #[tactic(auto, using(crate::proofs::ReadNumbers::parse_read_unsigned))]
     fn read_number(text: &str) -> Option<u32> {
         text.parse::<u32>().ok()
     }
@@ -162,7 +162,7 @@ impl WktNum for u32 {
     }
 
     #[inline(always)]
-    #[tactic(auto, using(crate::proofs::OnlyAscii::unsigned_utf8_32))]
+    #[tactic(auto, using(crate::proofs::ReadNumbers::unsigned_utf8_32))]
     fn reads_texts() -> bool {
         true
     }
@@ -187,7 +187,7 @@ impl WktNum for u64 {
 
     ghost same = { unsigned_same };
 
-    #[tactic(auto, using(crate::proofs::Parses::parse_read_unsigned))]
+    #[tactic(auto, using(crate::proofs::ReadNumbers::parse_read_unsigned))]
     fn read_number(text: &str) -> Option<u64> {
         text.parse::<u64>().ok()
     }
@@ -215,7 +215,7 @@ impl WktNum for u64 {
     }
 
     #[inline(always)]
-    #[tactic(auto, using(crate::proofs::OnlyAscii::unsigned_utf8_64))]
+    #[tactic(auto, using(crate::proofs::ReadNumbers::unsigned_utf8_64))]
     fn reads_texts() -> bool {
         true
     }
@@ -240,7 +240,7 @@ impl WktNum for u128 {
 
     ghost same = { unsigned_same };
 
-    #[tactic(auto, using(crate::proofs::Parses::parse_read_unsigned))]
+    #[tactic(auto, using(crate::proofs::ReadNumbers::parse_read_unsigned))]
     fn read_number(text: &str) -> Option<u128> {
         text.parse::<u128>().ok()
     }
@@ -268,7 +268,7 @@ impl WktNum for u128 {
     }
 
     #[inline(always)]
-    #[tactic(auto, using(crate::proofs::OnlyAscii::unsigned_utf8_128))]
+    #[tactic(auto, using(crate::proofs::ReadNumbers::unsigned_utf8_128))]
     fn reads_texts() -> bool {
         true
     }

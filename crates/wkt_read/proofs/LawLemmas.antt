@@ -1,22 +1,11 @@
 -- What the laws rest on: splits, fronts, headers and words.
-pub mod OneForm
-pub mod Words
 pub mod Splits
-pub mod Fronts
-pub mod Stable
-pub mod OldForms
 pub mod Spelled
-pub mod Spelling
 pub mod KindWords
-pub mod Fits
-pub mod GoesOn
+pub mod OneForm
 pub mod Begun
-pub mod Dead
 pub mod OneExpected
 pub mod Headers
-pub mod HeaderPlaces
 pub mod OneWkt
-pub mod FrontEnds
-pub mod Few
-pub mod Characters
+pub mod HeaderPlaces
 pub mod OnePlacing

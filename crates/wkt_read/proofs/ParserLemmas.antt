@@ -1,3 +1,2 @@
 -- The readers and the grammar: parts, their readings, and where these stop.
 pub mod Answering
-pub mod Ascii

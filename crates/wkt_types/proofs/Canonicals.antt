@@ -10,7 +10,7 @@ use Rattle.wkt_access.specs.Shapes.{canon, canons, shapes_of, rings_of, polygon_
 use Rattle.wkt_access.specs.WellFormed.{CoordFits, LineStringFits, PolygonFits, PointFits, IsWellFormed, AreWellFormed}
 use Rattle.wkt_access.proofs.Canonical.{header_back}
 use Rattle.wkt_write.specs.Known.{KnownCoord, KnownCoords, KnownPoint, KnownPolygon, Known, AllKnown}
-use Rattle.wkt_write.proofs.Canon.{known_well_formed}
+use Rattle.wkt_write.proofs.Writable.{known_well_formed}
 use Rattle.wkt_types.specs.Held.{Held, HeldPoint}
 use Rattle.wkt_types.specs.Coords.{numbers_of, coord_dim}
 use Rattle.wkt_types.specs.Tree.{Tree, Trees, point, line_string, polygon, multi_point, multi_line_string, multi_polygon, collection, no_trees, more_trees}

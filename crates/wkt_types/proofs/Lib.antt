@@ -1,9 +1,3 @@
-pub mod FirstDimension
-pub mod TreeLemmas
-pub mod Members
-pub mod Collections
 pub mod Displays
-pub mod Weighing
-pub mod InPlace
-pub mod KeptRings
+pub mod TreeLemmas
 pub mod Canonicals

@@ -1,4 +1,2 @@
-pub mod Visiting
-pub mod Counting
 pub mod Bounding
-pub mod Mapping
+pub mod Visiting

@@ -1,9 +1,8 @@
 //! The functions that the host calls.
 ghost use Rattle.std.specs.Prelude.{◌≡◌, ◌≤◌, ◌≢◌, ◌⊎◌, ◌+◌, ◌*◌, ◌<◌, Bool, length, take};
 ghost use Rattle.wkt_calls.specs.Answer.{read_at, print_at, places_in, asks_whole, EndsAsAsked, IsCanonicalOf, HasMore, Compares, RefusesAt, RefusesOneAt, HasNoPlaces, same_number};
-ghost use Rattle.wkt_calls.specs.Chunks.{AnswersSure, ends_here};
-ghost use Rattle.wkt_calls.specs.Arrays.{IsNotFlat, HasMoreAt};
-ghost use Rattle.wkt_calls.specs.Sizes.{AreHandedOut, HaveNoRoom};
+ghost use Rattle.wkt_calls.specs.Calls.{AnswersSure, ends_here};
+ghost use Rattle.wkt_calls.specs.Arrays.{IsNotFlat, HasMoreAt, AreHandedOut, HaveNoRoom};
 
 use wkt_calls::arrays_call::arrays_in;
 use wkt_calls::asked::{ends_as_asked, has_places};

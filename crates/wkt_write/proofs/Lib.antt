@@ -1,13 +1,4 @@
-pub mod Lists
-pub mod FirstErrors
-pub mod Depth
 pub mod Members
-pub mod Pieces
-pub mod Listing
+pub mod FirstErrors
 pub mod Bracketed
-pub mod Headed
-pub mod Collected
-pub mod Refusals
-pub mod Canon
 pub mod Writable
-pub mod Strings

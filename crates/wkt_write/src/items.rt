@@ -86,7 +86,7 @@ pub(crate) fn check_listed<X: Items>(dim: Dimensions, items: &X) -> Result<(), E
 }
 
 /// Writes the items, with commas between them.
-#[tactic(auto, using(crate::proofs::FirstErrors::none_at, crate::proofs::Listing::listing_broken_before, crate::proofs::Listing::listing_broken_at, wkt_num::proofs::SinkCalls::puts_err))]
+#[tactic(auto, using(crate::proofs::FirstErrors::none_at, crate::proofs::FirstErrors::listing_broken_before, crate::proofs::FirstErrors::listing_broken_at, wkt_num::proofs::SinkCalls::puts_err))]
 fn put_items<W: TextSink, X: Items>(f: &mut W, items: &X, k: usize) -> fmt::Result
     requires { first_fault (X.fault_of k) (X.items items.now) ≡ None }
     ensures { Puts W.sink f.old (separated (codes ",") (map (X.text_of k) (X.items items.now))) f.new result }
@@ -99,7 +99,7 @@ fn put_items<W: TextSink, X: Items>(f: &mut W, items: &X, k: usize) -> fmt::Resu
 }
 
 /// Writes the items, with a comma before each.
-#[tactic(auto, using(crate::proofs::FirstErrors::none_at, crate::proofs::Listing::following_broken_before, crate::proofs::Listing::following_broken_at, wkt_num::proofs::SinkCalls::puts_err, wkt_num::proofs::SinkCalls::adds_none))]
+#[tactic(auto, using(crate::proofs::FirstErrors::none_at, crate::proofs::FirstErrors::following_broken_before, crate::proofs::FirstErrors::following_broken_at, wkt_num::proofs::SinkCalls::puts_err, wkt_num::proofs::SinkCalls::adds_none))]
 pub(crate) fn put_following<W: TextSink, X: Items>(f: &mut W, items: &X, k: usize) -> fmt::Result
     requires { first_fault (X.fault_of k) (X.items items.now) ≡ None }
     ensures { Puts W.sink f.old (each_after (codes ",") (map (X.text_of k) (X.items items.now))) f.new result }

@@ -1,14 +1,21 @@
--- No form of a value begins a form of another.
-use Rattle.std.proofs.Common.{◌≡◌, ℕ, List, [], ◌∷◌, ◌++◌, length, Option, Some, None, ◌⊎◌, inl, inr, refl, sym, ap, ◌∙◌, append_assoc, arith, codes}
+-- No form of a value begins a form of another, a text has one front at most, and what is read is well-formed.
+use Rattle.std.proofs.Common.{◌≡◌, ℕ, List, [], ◌∷◌, ◌++◌, length, Option, Some, None, ◌⊎◌, inl, inr, refl, sym, ap, ◌∙◌, append_assoc, arith, codes, IfSome, subst}
 use Rattle.std.specs.Str.{str_to_ascii_uppercase}
+use Rattle.std.specs.List.{AllByRecursion}
 use Rattle.wkt_num.specs.Bytes.{Lexeme, Open, Close, Comma, Word, Num}
 use Rattle.wkt_access.specs.declared.dimensions.Dimension.{Dimension}
 use Rattle.wkt_access.specs.declared.dimensions.Dimension.TheVariants.{XY, XYZ, XYM, XYZM}
 use Rattle.wkt_access.specs.Values.{Value, Values}
 use Rattle.wkt_types.specs.declared.geometry_type.GeometryType.{GeometryType}
-use Rattle.wkt_types.specs.declared.geometry_type.GeometryType.TheVariants as kind
 use Rattle.wkt_read.specs.Kinds.{kind_of, dim_of}
 use Rattle.wkt_read.specs.Grammar.{KindWord, kind_word, dim_word, dim_in, DimPart, Header, IsEmptyWord, Within, More, Many, Listed, Perhaps, WithHeader, Numbers, Coord, Ring, Poly, Member, StandFor, Geometries, Further}
+use Rattle.wkt_types.specs.declared.geometry_type.GeometryType.TheVariants as kind
+use Rattle.wkt_read.specs.Lexemes.{Takes, IsSplit}
+use Rattle.wkt_read.specs.Front.{Front}
+use Rattle.wkt_read.proofs.LawLemmas.Splits.{split, split_one, takes_append, takes_rest}
+use Rattle.wkt_access.specs.WellFormed.{CoordFits, LineStringFits, PolygonFits, PointFits, IsWellFormed, AreWellFormed}
+
+-- No form of a value begins a form of another.
 
 pub record Same {A : Type 0} (a b x y : List Lexeme) (v w : A) : Type 0 where
   pub lexemes : a ≡ b
@@ -344,3 +351,79 @@ module _ {N : Type 0} (read : List ℕ → Option N) where
         let v1 = s.value in
         let v2 = t.value in
         record { lexemes = cc; rest = t.rest; value = cc }
+
+-- A text has one front at most.
+
+-- lexemes that are taken are a beginning of the text's
+pub taken_begin : (text rest : List ℕ) (ls : List Lexeme) → Takes text ls rest → (more : List Lexeme) × IsSplit text (ls ++ more)
+taken_begin text rest ls t =
+    let (more, (last, tm, over)) = split rest in
+    (more, (last, takes_append ls more text rest last t tm, over))
+
+pub front_one : {N : Type 0} (read : List ℕ → Option N) (text : List ℕ) (v w : Value N) (end end' : ℕ) → Front read text v end → Front read text w end' → (v ≡ w) × (end ≡ end')
+front_one read text v w end end' f f' =
+    let (x, s) = taken_begin text f.rest f.lexemes f.taken in
+    let (y, s') = taken_begin text f'.rest f'.lexemes f'.taken in
+    let eq : f.lexemes ++ x ≡ f'.lexemes ++ y = split_one text _ _ s s' in
+    let same = geometry_one read v w f.lexemes f'.lexemes x y f.reads f'.reads eq in
+    let r : f.rest ≡ f'.rest = takes_rest f.lexemes f'.lexemes text text f.rest f'.rest refl same.lexemes f.taken f'.taken in
+    let l : length f.rest ≡ length f'.rest = ap length r in
+    let e1 = f.ends in
+    let e2 = f'.ends in
+    (same.value, omega arith)
+
+-- What the grammar reads is well-formed.
+
+-- each item of a list fits
+more_fit : {A : Type 0} (P : List Lexeme → A → Type 0) (Good : A → Type 0) → ((ls : List Lexeme) (x : A) → P ls x → Good x) → (xs : List A) (ls : List Lexeme) → More P ls xs → AllByRecursion Good xs
+more_fit P Good one [] ls m = tt
+more_fit P Good one (x ∷ xs) ls (a, b, e, p, m) = (one a x p, more_fit P Good one xs b m)
+
+listed_fit : {A : Type 0} (P : List Lexeme → A → Type 0) (Good : A → Type 0) → ((ls : List Lexeme) (x : A) → P ls x → Good x) → (xs : List A) (ls : List Lexeme) → Listed P ls xs → AllByRecursion Good xs
+listed_fit P Good one [] ls m = tt
+listed_fit P Good one (x ∷ xs) ls (body, e, (a, b, e', p, m)) = (one a x p, more_fit P Good one xs b m)
+
+module _ {N : Type 0} (is_value : N → Type 0) (read : List ℕ → Option N) (values : (bs : List ℕ) → IfSome (read bs) is_value) where
+  value_read : (bs : List ℕ) (x : N) → read bs ≡ Some x → is_value x
+  value_read bs x e = subst (λ o. IfSome o is_value) e (values bs)
+
+  numbers_fit : (xs : List N) (ls : List Lexeme) → Numbers read ls xs → AllByRecursion is_value xs
+  numbers_fit [] ls n = tt
+  numbers_fit (x ∷ xs) ls (run, more, e, r, n) = (value_read run x r, numbers_fit xs more n)
+
+  module _ (d : Dimension) where
+    coord_fits : (ls : List Lexeme) (xs : List N) → Coord read d ls xs → CoordFits is_value d xs
+    coord_fits ls xs (n, l) = (numbers_fit xs ls n, l)
+
+    ring_fits : (ls : List Lexeme) (r : List (List N)) → Ring read d ls r → LineStringFits is_value d r
+    ring_fits ls r h = listed_fit (Coord read d) (CoordFits is_value d) coord_fits r ls h
+
+    poly_fits : (ls : List Lexeme) (rs : List (List (List N))) → Poly read d ls rs → PolygonFits is_value d rs
+    poly_fits ls rs h = listed_fit (Ring read d) (LineStringFits is_value d) ring_fits rs ls h
+
+    member_fits : (ls : List Lexeme) (m : Option (List N)) → Member read d ls m → PointFits is_value d m
+    member_fits ls None h = tt
+    member_fits ls (Some c) (inl h) = coord_fits ls c h
+    member_fits ls (Some c) (inr (body, e, h)) = coord_fits body c h
+
+    point_fits : (ls : List Lexeme) (c : Option (List N)) → Perhaps (Coord read d) ls c → PointFits is_value d c
+    point_fits ls None h = tt
+    point_fits ls (Some c) (body, e, h) = coord_fits body c h
+
+  mutual
+    pub geometry_fits : (v : Value N) (ls : List Lexeme) → StandFor read ls v → IsWellFormed is_value v
+    geometry_fits (Value.point d c) ls (h, b, e, hd, p) = point_fits d b c p
+    geometry_fits (Value.line_string d cs) ls (h, b, e, hd, p) = listed_fit (Coord read d) (CoordFits is_value d) (coord_fits d) cs b p
+    geometry_fits (Value.polygon d rs) ls (h, b, e, hd, p) = listed_fit (Ring read d) (LineStringFits is_value d) (ring_fits d) rs b p
+    geometry_fits (Value.multi_point d ms) ls (h, b, e, hd, p) = listed_fit (Member read d) (PointFits is_value d) (member_fits d) ms b p
+    geometry_fits (Value.multi_line_string d rs) ls (h, b, e, hd, p) = listed_fit (Ring read d) (LineStringFits is_value d) (ring_fits d) rs b p
+    geometry_fits (Value.multi_polygon d ps) ls (h, b, e, hd, p) = listed_fit (Poly read d) (PolygonFits is_value d) (poly_fits d) ps b p
+    geometry_fits (Value.collection d vs) ls (h, b, e, hd, p) = geometries_fit vs b p
+
+    geometries_fit : (vs : Values N) (ls : List Lexeme) → Geometries read ls vs → AreWellFormed is_value vs
+    geometries_fit Values.no_values ls h = tt
+    geometries_fit (Values.more_values v vs) ls (a, b, e, p, m) = (geometry_fits v a p, further_fit vs b m)
+
+    further_fit : (vs : Values N) (ls : List Lexeme) → Further read ls vs → AreWellFormed is_value vs
+    further_fit Values.no_values ls h = tt
+    further_fit (Values.more_values v vs) ls (a, b, e, p, m) = (geometry_fits v a p, further_fit vs b m)

@@ -1,9 +1,12 @@
--- A text's lexemes and their ends are one list.
-use Rattle.std.proofs.Common.{◌≡◌, ℕ, List, [], ◌∷◌, ◌++◌, length, refl, sym, ap, ◌∙◌, subst, arith, append_assoc}
-use Rattle.wkt_read.specs.Lexemes.{IsSplit}
+-- The lexemes of a text and their ends are one list, of no more than its bytes.
+use Rattle.std.proofs.Common.{◌≡◌, ℕ, List, [], ◌∷◌, ◌++◌, length, refl, sym, ap, ◌∙◌, subst, arith, append_assoc, ◌≢◌, ◌+◌, ◌≤◌, ◌<◌, length-append}
+use Rattle.wkt_read.specs.Lexemes.{IsSplit, Takes}
 use Rattle.wkt_read.specs.Spanned.{Spanned, lexemes_of, end_after, AreEnds, spanned}
-use Rattle.wkt_read.proofs.LawLemmas.Splits.{split_one, takes_rest}
+use Rattle.wkt_read.proofs.LawLemmas.Splits.{split_one, takes_rest, body_not_empty}
 use Rattle.wkt_read.proofs.TokenizerLemmas.Placings.{spanned-split, spanned-ends}
+use Rattle.wkt_num.specs.Bytes.{Lexeme}
+
+-- A text's lexemes and their ends are one list.
 
 lexemes-push : (given : List Spanned) (p : Spanned) → lexemes_of (given ++ p ∷ []) ≡ lexemes_of given ++ p.lexeme ∷ []
 lexemes-push [] p = refl
@@ -37,3 +40,24 @@ ends-one text given (p ∷ ps) (q ∷ qs) e a b =
 
 pub spanned-only : (text : List ℕ) (ps : List Spanned) → IsSplit text (lexemes_of ps) → AreEnds text ps → ps ≡ spanned text
 spanned-only text ps split ends = ends-one text [] ps (spanned text) (split_one text _ _ split (spanned-split text)) ends (spanned-ends text)
+
+-- A text has no more lexemes than bytes.
+
+long : (bs : List ℕ) → bs ≢ [] → 0 < length bs
+long [] some = absurd (some refl)
+long (b ∷ bs) some = omega arith
+
+takes-few : (ls : List Lexeme) (text rest : List ℕ) → Takes text ls rest → length ls + length rest ≤ length text
+takes-few [] text rest e = omega (arith, ap length e)
+takes-few (l ∷ ls) text rest (gap, body, after, e, w, s, more) =
+    omega (arith, takes-few ls after rest more, long body (body_not_empty body after l s), ap length e, length-append gap (body ++ after), length-append body after)
+
+pub few : (text : List ℕ) (ls : List Lexeme) → IsSplit text ls → length ls ≤ length text
+few text ls (rest, t, over) = omega (arith, takes-few ls text rest t)
+
+pub lexemes-length : (ps : List Spanned) → length (lexemes_of ps) ≡ length ps
+lexemes-length [] = refl
+lexemes-length (p ∷ ps) = omega (arith, lexemes-length ps)
+
+pub spanned-few : (text : List ℕ) → length (spanned text) ≤ length text
+spanned-few text = omega (arith, few text (lexemes_of (spanned text)) (spanned-split text), lexemes-length (spanned text))

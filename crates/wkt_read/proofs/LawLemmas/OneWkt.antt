@@ -1,16 +1,21 @@
--- A value is read as one tree only.
+-- A value is read as one tree only, and what earlier forms read.
 use Rattle.std.proofs.Common.{◌≡◌, ℕ, List, [], ◌∷◌, ◌++◌, refl, sym, ap, ◌∙◌, subst, Option, Some, None}
 use Rattle.std.specs.Prelude.{map, option_map, option_to_list}
 use Rattle.std.specs.List.{AllByRecursion}
 use Rattle.wkt_access.specs.declared.dimensions.Dimension.{Dimension}
-use Rattle.wkt_access.specs.Values.{Value}
+use Rattle.wkt_access.specs.Values.{Value, Values}
 use Rattle.wkt_types.specs.declared.coord.Coord.{Coord}
 use Rattle.wkt_types.specs.Held.{Held, HeldPoint}
 use Rattle.wkt_types.specs.Coords.{numbers_of, dim_by}
 use Rattle.wkt_types.specs.Tree.{Tree, Trees, point, line_string, polygon, multi_point, multi_line_string, multi_polygon, collection, no_trees, more_trees}
 use Rattle.wkt_types.specs.Values.{value_of, values_of, point_numbers, line_string_numbers, polygon_numbers, HasDim, HasDimIfAny, IsPointIn, IsLineStringIn, IsPolygonIn, IsUniform, AreUniform, IsWktOf}
 use Rattle.wkt_read.specs.Answered.{IsFrontTo}
-use Rattle.wkt_read.proofs.LawLemmas.Fronts.{front_one}
+use Rattle.wkt_read.proofs.LawLemmas.OneForm.{front_one}
+use Rattle.wkt_num.specs.Bytes.{Lexeme}
+use Rattle.wkt_read.specs.Grammar.{More, Listed, Member, StandFor, Geometries, Further}
+use Rattle.wkt_read.specs.OldForms.{OldMember, StoodFor, OldGeometries, OldFurther, IsCoordinate, IsOldForm, AreOldForms}
+
+-- A value is read as one tree only.
 
 -- lists of parts that differ in what they are read as
 lists-one : {A B : Type 0} (P : A → Type 0) (f : A → B) → ((x y : A) → P x → P y → f x ≡ f y → x ≡ y) → (xs ys : List A) → AllByRecursion P xs → AllByRecursion P ys → map f xs ≡ map f ys → xs ≡ ys
@@ -128,3 +133,77 @@ module _ {T : Type 0} where
   reading-one read text s t end end' (v, f, h) (w, g, k) =
       let (same, ends) = front_one read text v w end end' f g in
       (wkt-one w s t (subst (λ u. IsWktOf u s) same h) k, ends)
+
+-- What earlier forms read, and what is read now of the values without an empty member of a multipoint.
+
+-- items of one form are items of another, of which something holds
+module _ {A : Type 0} (P Q : List Lexeme → A → Type 0) (H : A → Type 0) where
+  more_new : ((ls : List Lexeme) (x : A) → P ls x → Q ls x × H x) → (xs : List A) (ls : List Lexeme) → More P ls xs → More Q ls xs × AllByRecursion H xs
+  more_new f [] ls e = (e, tt)
+  more_new f (x ∷ xs) ls (a, b, e, p, m) =
+      let one = f a x p in
+      let rest = more_new f xs b m in
+      ((a, b, e, one.0, rest.0), (one.1, rest.1))
+
+  listed_new : ((ls : List Lexeme) (x : A) → P ls x → Q ls x × H x) → (xs : List A) (ls : List Lexeme) → Listed P ls xs → Listed Q ls xs × AllByRecursion H xs
+  listed_new f [] ls e = (e, tt)
+  listed_new f (x ∷ xs) ls (body, e, (a, b, e', p, m)) =
+      let one = f a x p in
+      let rest = more_new f xs b m in
+      ((body, e, (a, b, e', one.0, rest.0)), (one.1, rest.1))
+
+  more_old : ((ls : List Lexeme) (x : A) → Q ls x → H x → P ls x) → (xs : List A) (ls : List Lexeme) → More Q ls xs → AllByRecursion H xs → More P ls xs
+  more_old f [] ls e h = e
+  more_old f (x ∷ xs) ls (a, b, e, p, m) h = (a, b, e, f a x p h.0, more_old f xs b m h.1)
+
+  listed_old : ((ls : List Lexeme) (x : A) → Q ls x → H x → P ls x) → (xs : List A) (ls : List Lexeme) → Listed Q ls xs → AllByRecursion H xs → Listed P ls xs
+  listed_old f [] ls e h = e
+  listed_old f (x ∷ xs) ls (body, e, (a, b, e', p, m)) h = (body, e, (a, b, e', f a x p h.0, more_old f xs b m h.1))
+
+module _ {N : Type 0} (read : List ℕ → Option N) where
+  member_new : (d : Dimension) (ls : List Lexeme) (m : Option (List N)) → OldMember read d ls m → Member read d ls m × IsCoordinate m
+  member_new d ls None p = absurd p
+  member_new d ls (Some c) p = (p, tt)
+
+  member_old : (d : Dimension) (ls : List Lexeme) (m : Option (List N)) → Member read d ls m → IsCoordinate m → OldMember read d ls m
+  member_old d ls None p h = absurd h
+  member_old d ls (Some c) p h = p
+
+  mutual
+    pub value_new : (v : Value N) (ls : List Lexeme) → StoodFor read ls v → StandFor read ls v × IsOldForm v
+    value_new (Value.point d c) ls p = (p, tt)
+    value_new (Value.line_string d c) ls p = (p, tt)
+    value_new (Value.polygon d c) ls p = (p, tt)
+    value_new (Value.multi_point d ms) ls (h, b, e, hh, p) =
+        let q = listed_new (OldMember read d) (Member read d) IsCoordinate (member_new d) ms b p in
+        ((h, b, e, hh, q.0), q.1)
+    value_new (Value.multi_line_string d c) ls p = (p, tt)
+    value_new (Value.multi_polygon d c) ls p = (p, tt)
+    value_new (Value.collection d vs) ls (h, b, e, hh, p) = let q = values_new vs b p in ((h, b, e, hh, q.0), q.1)
+
+    values_new : (vs : Values N) (ls : List Lexeme) → OldGeometries read ls vs → Geometries read ls vs × AreOldForms vs
+    values_new Values.no_values ls e = (e, tt)
+    values_new (Values.more_values v vs) ls (a, b, e, p, m) = let one = value_new v a p in let rest = further_new vs b m in ((a, b, e, one.0, rest.0), (one.1, rest.1))
+
+    further_new : (vs : Values N) (ls : List Lexeme) → OldFurther read ls vs → Further read ls vs × AreOldForms vs
+    further_new Values.no_values ls e = (e, tt)
+    further_new (Values.more_values v vs) ls (a, b, e, p, m) = let one = value_new v a p in let rest = further_new vs b m in ((a, b, e, one.0, rest.0), (one.1, rest.1))
+
+  mutual
+    pub value_old : (v : Value N) (ls : List Lexeme) → StandFor read ls v → IsOldForm v → StoodFor read ls v
+    value_old (Value.point d c) ls p o = p
+    value_old (Value.line_string d c) ls p o = p
+    value_old (Value.polygon d c) ls p o = p
+    value_old (Value.multi_point d ms) ls (h, b, e, hh, p) o =
+        (h, b, e, hh, listed_old (OldMember read d) (Member read d) IsCoordinate (member_old d) ms b p o)
+    value_old (Value.multi_line_string d c) ls p o = p
+    value_old (Value.multi_polygon d c) ls p o = p
+    value_old (Value.collection d vs) ls (h, b, e, hh, p) o = (h, b, e, hh, values_old vs b p o)
+
+    values_old : (vs : Values N) (ls : List Lexeme) → Geometries read ls vs → AreOldForms vs → OldGeometries read ls vs
+    values_old Values.no_values ls e o = e
+    values_old (Values.more_values v vs) ls (a, b, e, p, m) o = (a, b, e, value_old v a p o.0, further_old vs b m o.1)
+
+    further_old : (vs : Values N) (ls : List Lexeme) → Further read ls vs → AreOldForms vs → OldFurther read ls vs
+    further_old Values.no_values ls e o = e
+    further_old (Values.more_values v vs) ls (a, b, e, p, m) o = (a, b, e, value_old v a p o.0, further_old vs b m o.1)

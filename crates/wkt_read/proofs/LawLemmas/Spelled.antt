@@ -10,7 +10,7 @@ use Rattle.wkt_types.specs.declared.geometry_type.GeometryType.{GeometryType}
 use Rattle.wkt_types.specs.declared.geometry_type.GeometryType.TheVariants as kind
 use Rattle.wkt_read.specs.Grammar.{entry, kind_words, kind_word, dim_word, DimPart, IsEmptyWord, Within, More, Many, Listed, Perhaps, WithHeader, Numbers, Coord, Ring, Poly, Member, StandFor, Geometries, Further}
 use Rattle.wkt_read.specs.Front.{Front}
-use Rattle.wkt_read.proofs.LawLemmas.Fronts.{front_one}
+use Rattle.wkt_read.proofs.LawLemmas.OneForm.{front_one}
 use Rattle.std.specs.Prelude.{map, flat_map, option_to_list}
 use Rattle.wkt_num.specs.Number.{IsNumberText, begins_number}
 use Rattle.wkt_access.specs.WellFormed.{CoordFits, LineStringFits, PolygonFits, PointFits, IsWellFormed, AreWellFormed}

@@ -1,8 +1,13 @@
--- Each text is one list of lexemes.
-use Rattle.std.proofs.Common.{◌≡◌, ◌≢◌, ℕ, List, [], ◌∷◌, ◌++◌, inl, inr, refl, sym, ap, ◌∙◌, subst}
+-- Each text is one list of lexemes, and what follows a front never changes it.
+use Rattle.std.proofs.Common.{◌≡◌, ◌≢◌, ℕ, List, [], ◌∷◌, ◌++◌, inl, inr, refl, sym, ap, ◌∙◌, subst, ◌+◌, length, take, Bool, true, false, cond, Option, ◌⊎◌, append_assoc, arith, length-append}
 use Rattle.std.specs.List.{AllByRecursion}
-use Rattle.wkt_num.specs.Bytes.{Lexeme, Class, Nul, White, Mark, Run, class_of, AllWhite}
-use Rattle.wkt_read.specs.Lexemes.{StartsOther, IsBoundary, lexeme_of, SpellsLexeme, Takes, IsEnd, IsOver, IsSplit}
+use Rattle.std.proofs.Math.Seq.{take-append_seam}
+use Rattle.wkt_num.specs.Bytes.{Lexeme, Class, Nul, White, Mark, Run, class_of, AllWhite, Close, Word, Num, IsRun}
+use Rattle.wkt_read.specs.Lexemes.{StartsOther, IsBoundary, lexeme_of, SpellsLexeme, Takes, IsEnd, IsOver, IsSplit, starts_number, without_plus}
+use Rattle.wkt_access.specs.Values.{Value}
+use Rattle.wkt_read.specs.Front.{Front, EndsIn}
+
+-- Each text is one list of lexemes.
 
 abbrev pub AllOf : Class → List ℕ → Type 0
 AllOf k = AllByRecursion (λ b. class_of b ≡ k)
@@ -180,3 +185,100 @@ pub takes_after : (h b : List Lexeme) (text text' mid rest : List ℕ) → text 
 takes_after [] b text text' mid rest e t t' = subst (λ w. Takes w b rest) (sym e ∙ t) t'
 takes_after (l ∷ h) b text text' mid rest e (gap, body, after, e1, w, s, more) (gap', body', after', e2, w', s', more') =
     takes_after h b after after' mid rest (step_one gap gap' body body' after after' l l w w' s s' (sym e1 ∙ e ∙ e2)).0 more more'
+
+-- What follows a front never changes it.
+
+-- the text up to the end of the lexemes, whatever follows
+pub record Prefix (text : List ℕ) (ls : List Lexeme) (rest : List ℕ) : Type 0 where
+  pub bytes : List ℕ
+  pub is : text ≡ bytes ++ rest
+  pub empty_only : bytes ≡ [] → ls ≡ []
+  pub again : (other : List ℕ) → EndsIn Close ls ⊎ IsBoundary other → Takes (bytes ++ other) ls other
+
+pub run_not_close : (body : List ℕ) → IsRun body → lexeme_of body ≢ Close
+run_not_close [] r = λ e. r.0 refl
+run_not_close (b ∷ bs) r = go (starts_number b)
+  where
+    go : (c : Bool) → cond c (Num (without_plus (b ∷ bs))) (Word (b ∷ bs)) ≢ Close
+    go true = λ e. cc
+    go false = λ e. cc
+
+pub still_boundary : (a rest other : List ℕ) → IsBoundary (a ++ rest) → (a ≡ [] → IsBoundary other) → IsBoundary (a ++ other)
+still_boundary [] rest other b h = h refl
+still_boundary (x ∷ a) rest other b h = b
+
+pub ends_tail : (l : Lexeme) (ls : List Lexeme) (other : List ℕ) → ls ≢ [] → EndsIn Close (l ∷ ls) ⊎ IsBoundary other → EndsIn Close ls ⊎ IsBoundary other
+ends_tail l [] other h o = absurd (h refl)
+ends_tail l (k ∷ ls) other h o = o
+
+pub last_boundary : (body : List ℕ) (l : Lexeme) (ls : List Lexeme) (other : List ℕ) → IsRun body → l ≡ lexeme_of body → EndsIn Close (l ∷ ls) ⊎ IsBoundary other → ls ≡ [] → IsBoundary other
+last_boundary body l [] other r e (inl c) z = absurd (run_not_close body r (sym e ∙ c))
+last_boundary body l [] other r e (inr b) z = b
+last_boundary body l (k ∷ ls) other r e o z = cc
+
+pub spells_again : (body a rest other : List ℕ) (l : Lexeme) (ls : List Lexeme) → SpellsLexeme body (a ++ rest) l → (a ≡ [] → ls ≡ []) → EndsIn Close (l ∷ ls) ⊎ IsBoundary other → SpellsLexeme body (a ++ other) l
+spells_again body a rest other l ls (inl m) h o = inl m
+spells_again body a rest other l ls (inr (r, b, e)) h o = inr (r, still_boundary a rest other b (λ z. last_boundary body l ls other r e o (h z)), e)
+
+pub append_empty : (a b : List ℕ) → a ++ b ≡ [] → a ≡ []
+append_empty [] b e = refl
+append_empty (x ∷ a) b e = cc
+
+pub append_empty_right : (a b : List ℕ) → a ++ b ≡ [] → b ≡ []
+append_empty_right [] b e = e
+append_empty_right (x ∷ a) b e = cc
+
+pub nothing_added : (a b : List ℕ) → a ++ b ≡ b → a ≡ []
+nothing_added [] b e = refl
+nothing_added (x ∷ a) b e =
+    let l : length (x ∷ (a ++ b)) ≡ length b = ap length e in
+    absurd (omega (arith, l, length-append a b))
+
+pub body_not_empty : (body after : List ℕ) (l : Lexeme) → SpellsLexeme body after l → body ≢ []
+body_not_empty body after l (inl (b, e, m)) = λ z. cc
+body_not_empty body after l (inr (r, b, e)) = r.0
+
+-- the rest of the lexemes again, which are none or end as all of them do
+pub again_tail : (l : Lexeme) (ls : List Lexeme) (after rest other : List ℕ) (p : Prefix after ls rest) → Takes after ls rest → EndsIn Close (l ∷ ls) ⊎ IsBoundary other → Takes (p.bytes ++ other) ls other
+again_tail l [] after rest other p t o =
+    let e : p.bytes ++ rest ≡ rest = sym p.is ∙ t in
+    ap (λ x. x ++ other) (nothing_added p.bytes rest e)
+again_tail l (k ∷ ls) after rest other p t o = p.again other o
+
+pub step : (l : Lexeme) (ls : List Lexeme) (text rest gap body after : List ℕ) → text ≡ gap ++ (body ++ after) → AllWhite gap → SpellsLexeme body after l → Takes after ls rest → Prefix after ls rest → Prefix text (l ∷ ls) rest
+step l ls text rest gap body after e w s t p =
+    record {
+      bytes = gap ++ (body ++ p.bytes);
+      is = e ∙ ap (λ x. gap ++ (body ++ x)) p.is ∙ simp append_assoc;
+      empty_only = λ z. absurd (body_not_empty body after l s (append_empty body p.bytes (append_empty_right gap (body ++ p.bytes) z)));
+      again = λ other o. (
+        gap,
+        body,
+        p.bytes ++ other,
+        simp append_assoc,
+        w,
+        spells_again body p.bytes rest other l ls (subst (λ x. SpellsLexeme body x l) p.is s) p.empty_only o,
+        again_tail l ls after rest other p t o,
+      );
+    }
+
+pub prefix : (ls : List Lexeme) (text rest : List ℕ) → Takes text ls rest → Prefix text ls rest
+prefix [] text rest e = record { bytes = []; is = e; empty_only = λ z. refl; again = λ other o. refl }
+prefix (l ∷ ls) text rest (gap, body, after, e, w, s, more) = step l ls text rest gap body after e w s more (prefix ls after rest more)
+
+pub front_stable : {N : Type 0} (read : List ℕ → Option N) (text other : List ℕ) (v : Value N) (end : ℕ) → (f : Front read text v end) → EndsIn Close f.lexemes ⊎ IsBoundary other → (g : Front read (take end text ++ other) v end) × (g.lexemes ≡ f.lexemes)
+front_stable read text other v end f o =
+    let p = prefix f.lexemes text f.rest f.taken in
+    let le : length text ≡ length p.bytes + length f.rest = ap length p.is ∙ length-append p.bytes f.rest in
+    let fe = f.ends in
+    let n : end ≡ length p.bytes = omega arith in
+    let t : take end text ≡ p.bytes = ap (λ x. take end x) p.is ∙ ap (λ k. take k (p.bytes ++ f.rest)) n ∙ take-append_seam p.bytes f.rest in (
+      record {
+        lexemes = f.lexemes;
+        rest = other;
+        taken = rw t (p.again other o);
+        reads = f.reads;
+        ends = rw t (simp length-append (omega arith));
+      },
+      refl,
+    )

@@ -1,10 +1,12 @@
--- From the lexemes of a stream to its text.
-use Rattle.std.proofs.Common.{◌≡◌, ℕ, ◌≤◌, ◌<◌, List, [], ◌∷◌, ◌++◌, length, sym, subst, refl, ap, ◌∙◌, arith, length-append, Option, Err}
+-- From the lexemes of a stream to its text, and whether a word is ASCII.
+use Rattle.std.proofs.Common.{◌≡◌, ℕ, ◌≤◌, ◌<◌, List, [], ◌∷◌, ◌++◌, length, sym, subst, refl, ap, ◌∙◌, arith, length-append, Option, Err, zero, suc, Bool, true, false}
+use Rattle.std.specs.Prelude.{slice_index, ◌&&◌}
 use Rattle.std.proofs.lemmas.List.{append_cancel_right}
+use Rattle.std.specs.Char.{is_ascii}
 use Rattle.wkt_num.specs.Bytes.{Lexeme, Open}
 use Rattle.wkt_access.specs.Values.{Value}
 use Rattle.wkt_read.specs.Lexemes.{IsSplit}
-use Rattle.wkt_read.specs.Grammar.{StandFor}
+use Rattle.wkt_read.specs.Grammar.{StandFor, is_ascii_word}
 use Rattle.wkt_read.specs.Front.{Front, HasNoFront}
 use Rattle.wkt_read.specs.Spanned.{Spanned, lexemes_of, end_after, AreEnds, spanned}
 use Rattle.wkt_read.specs.Ahead.{remaining, rest, end_of, taken_of, IfLast, Advances}
@@ -14,12 +16,13 @@ use Rattle.wkt_read.specs.Begun.{NoneBegins}
 use Rattle.wkt_read.specs.declared.error.ReadError.{ReadError}
 use Rattle.wkt_read.specs.declared.error.ReadError.TheVariants.{Text, Memory}
 use Rattle.wkt_read.specs.Standing.{Standing}
-use Rattle.wkt_read.proofs.TokenizerLemmas.Afters.{lexemes_of-append}
-use Rattle.wkt_read.proofs.TokenizerLemmas.Placings.{spanned-split}
-use Rattle.wkt_read.proofs.LawLemmas.FrontEnds.{geometry-some, front-of-lexemes}
-use Rattle.wkt_read.proofs.LawLemmas.Few.{lexemes-length}
+use Rattle.wkt_read.proofs.TokenizerLemmas.Placings.{lexemes_of-append, spanned-split}
+use Rattle.wkt_read.proofs.LawLemmas.HeaderPlaces.{geometry-some, front-of-lexemes}
+use Rattle.wkt_read.proofs.LawLemmas.OnePlacing.{lexemes-length}
 use Rattle.wkt_read.proofs.LawLemmas.Splits.{split_one}
-use Rattle.wkt_read.proofs.LawLemmas.Fronts.{taken_begin}
+use Rattle.wkt_read.proofs.LawLemmas.OneForm.{taken_begin}
+
+-- From the lexemes of a stream to its text.
 
 module _ where
   pub rest-is : (s : Standing) (ps : List Spanned) → remaining s ≡ ps → rest s ≡ lexemes_of ps
@@ -65,10 +68,10 @@ module _ {T : Type 0} (read : List ℕ → Option T) where
 
   -- where the front of a text ends
   pub to-front : (text : List ℕ) (s t : Standing) (v : Value T) → AreEnds text (remaining s) → end_of s ≡ 0 → Advances s t → Begins read (rest s) v (rest t) → Front read text v (end_of t)
-  to-front text s t v are zero a (f, split, g) =
+  to-front text s t v are from_zero a (f, split, g) =
       let whole : lexemes_of a.given ++ rest t ≡ f ++ rest t = ap (λ l. lexemes_of a.given ++ l) (rest-is t (remaining t) refl) ∙ sym (lexemes_of-append a.given (remaining t)) ∙ ap lexemes_of (sym a.split) ∙ sym (rest-is s (remaining s) refl) ∙ split in
       let same : f ≡ lexemes_of a.given = sym (append_cancel_right (lexemes_of a.given) f (rest t) whole) in
-      let at : end_of t ≡ end_after 0 a.given = a.end ∙ ap (λ n. end_after n a.given) zero in
+      let at : end_of t ≡ end_after 0 a.given = a.end ∙ ap (λ n. end_after n a.given) from_zero in
       subst (Front read text v) (sym at) (front-of-lexemes read text a.given (remaining t) v (subst (AreEnds text) a.split are) (subst (λ l. StandFor read l v) same g))
 
   -- the lexemes of a text with a front begin with it
@@ -94,3 +97,24 @@ text-map X Y (Memory m) P Q f h = tt
 pub message-map : (X Y : Type 0) (e : ReadError) (m : List ℕ) (P Q : Type 0) → (P → Q) → OnMessage {X = X} (Err e) m P → OnMessage {X = Y} (Err e) m Q
 message-map X Y (Text t) m P Q f h = λ e. f (h e)
 message-map X Y (Memory t) m P Q f h = tt
+
+-- Whether a word is ASCII.
+
+pub all_ascii : (w : List ℕ) → ((i : ℕ) → slice_index w i < 128) → is_ascii_word w ≡ true
+all_ascii [] h = refl
+all_ascii (b ∷ w) h =
+    let first : b < 128 = h 0 in
+    let one : is_ascii b ≡ true = grind arith in
+    let more : is_ascii_word w ≡ true = all_ascii w (λ i. h (suc i)) in
+    rw one more
+
+either : (x y : Bool) → y ≡ false → (x && y) ≡ false
+either true y e = e
+either false y e = refl
+
+pub not_ascii : (w : List ℕ) (i : ℕ) → 128 ≤ slice_index w i → is_ascii_word w ≡ false
+not_ascii [] i h = absurd (omega (arith, h))
+not_ascii (b ∷ w) zero h =
+    let one : is_ascii b ≡ false = grind (arith, h) in
+    rw one refl
+not_ascii (b ∷ w) (suc i) h = either (is_ascii b) (is_ascii_word w) (not_ascii w i h)

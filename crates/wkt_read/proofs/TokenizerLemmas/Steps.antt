@@ -13,7 +13,7 @@ use Rattle.wkt_read.specs.Spanned.{Spanned, marks, front, after_run, joined, spa
 use Rattle.wkt_read.specs.declared.tokenizer.scan.ByteClass as code
 use Rattle.wkt_read.specs.declared.tokenizer.scan.ByteClass.TheVariants as class
 use Rattle.wkt_read.specs.Tokenizer.Scan.{meant, coming_at, IsRunSoFar, EndsRun, FoundClass}
-use Rattle.wkt_read.proofs.LawLemmas.Characters.{run_or_ascii}
+use Rattle.wkt_read.proofs.LawLemmas.HeaderPlaces.{run_or_ascii}
 
 -- after a byte that is no part of a run
 spanned-mark : (c : Class) (b at : ℕ) (bytes : List ℕ) → class_of b ≡ c → c ≢ Run → spanned_from at (b ∷ bytes) ≡ marks c (suc at) (spanned_from (suc at) bytes)

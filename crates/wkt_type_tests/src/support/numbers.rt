@@ -12,7 +12,7 @@ pub enum Letter {
 impl WktNum for Letter {
     ghost use Rattle.std.proofs.Common.{rules};
     ghost use Rattle.wkt_type_tests.specs.Numbers.{AnyLetter, letter_text, read_letter};
-    ghost use Rattle.wkt_type_tests.specs.NumberLaws.{letter_reads_back, any_letter, letter_number_text};
+    ghost use Rattle.wkt_type_tests.specs.Numbers.{letter_reads_back, any_letter, letter_number_text};
     ghost use Rattle.wkt_type_tests.specs.WrongNumbers.{plus_text, read_plus, plus_reads_back, comma_text, read_comma, comma_reads_back};
 
     ghost is_value = { AnyLetter };
@@ -56,7 +56,7 @@ pub enum Dash {
 impl WktNum for Dash {
     ghost use Rattle.std.proofs.Common.{rules};
     ghost use Rattle.wkt_type_tests.specs.Numbers.{AnyDash, dash_text, read_dash};
-    ghost use Rattle.wkt_type_tests.specs.NumberLaws.{dash_reads_back, any_dash, dash_number_text};
+    ghost use Rattle.wkt_type_tests.specs.Numbers.{dash_reads_back, any_dash, dash_number_text};
 
     ghost is_value = { AnyDash };
 
@@ -99,7 +99,7 @@ const LONG: &str = ".llllllllllllllllllll";
 impl WktNum for Long {
     ghost use Rattle.std.proofs.Common.{rules};
     ghost use Rattle.wkt_type_tests.specs.Numbers.{AnyLong, long_text, read_long};
-    ghost use Rattle.wkt_type_tests.specs.NumberLaws.{long_reads_back, any_long, long_number_text};
+    ghost use Rattle.wkt_type_tests.specs.Numbers.{long_reads_back, any_long, long_number_text};
 
     ghost is_value = { AnyLong };
 

@@ -1,7 +1,7 @@
 -- An empty text has no front. The message on a bad number comes only where the number type refuses one.
 use Rattle.std.proofs.Common.{sym, ◌∙◌}
 use Rattle.wkt_machine.proofs.TableMessages as empty
-use Rattle.wkt.proofs.RefusalMessages.{bad_of}
+use Rattle.wkt.proofs.Texts.{bad_of}
 use Rattle.wkt.proofs.canonical.canonical_text.Goals as goal
 
 pub returns-in-Ok-Err-clause-bad : goal.returns-in-Ok-Err-clause-bad

@@ -8,7 +8,7 @@ use Rattle.wkt_flat.specs.Equal.{coord_eq}
 use Rattle.wkt_flat.specs.Exact.{exact_by}
 use Rattle.wkt_flat.specs.Shape.{flat_shape}
 use Rattle.wkt_read.proofs.LawLemmas.OneWkt.{wkt-one}
-use Rattle.wkt_read.proofs.LawLemmas.Fronts.{front_one}
+use Rattle.wkt_read.proofs.LawLemmas.OneForm.{front_one}
 use Rattle.wkt_read.proofs.LawLemmas.Spelled.{front_of_text}
 use Rattle.wkt_convert.specs.Back.{back}
 use Rattle.wkt_convert.specs.Flatten.{flat}

@@ -2,7 +2,7 @@
 use Rattle.std.proofs.Common.{◌≡◌, ap, rules}
 use Rattle.wkt_flat.specs.Tree.{flat_tree}
 use Rattle.wkt_convert.proofs.FlatKinds.{no_point}
-use Rattle.wkt.proofs.JsonPoints.{gives_no_point}
+use Rattle.wkt.proofs.Texts.{gives_no_point}
 use Rattle.wkt.proofs.json.point_or_none.Goals as goal
 
 pub returns : goal.returns

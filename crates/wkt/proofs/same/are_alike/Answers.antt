@@ -1,6 +1,6 @@
 -- The parts so far are written alike, and the lists are as long.
 use Rattle.std.proofs.Common.{◌∙◌, sym, arith}
-use Rattle.wkt.proofs.PartByPart.{parts_differ, parts_agree, parts_end}
+use Rattle.wkt.proofs.Written.{parts_differ, parts_agree, parts_end}
 use Rattle.wkt.proofs.same.are_alike.Goals as goal
 
 pub returns-then-not-is_alike : goal.returns-then-not-is_alike

@@ -1,6 +1,6 @@
 use Rattle.std.proofs.Common.{◌≡◌, ◌≤◌, length}
 use Rattle.std.specs.Cmp.Lexicographic.{pointwise}
-use Rattle.wkt.proofs.PartByPart.{left}
+use Rattle.wkt.proofs.Written.{left}
 use Rattle.wkt.proofs.same.are_alike.Given as goal
 
 abbrev pub invariant-loop-i : goal.invariant-loop-i

@@ -1,5 +1,5 @@
 -- Two overlapping ends of a piece are all of it.
-use Rattle.wkt_bytes.proofs.Pieces.{both_ends}
+use Rattle.wkt_bytes.proofs.Gathering.{both_ends}
 use Rattle.wkt_bytes.proofs.wrapper.copy_ends.Goals as goal
 
 pub returns : goal.returns

@@ -3,7 +3,7 @@ use Rattle.std.proofs.Common.{◌∙◌, arith}
 use Rattle.std.proofs.lemmas.List.{length-drop}
 use Rattle.std.specs.declared.io.Error.{Error}
 use Rattle.std.proofs.KnownBytes.{Appends-trans}
-use Rattle.wkt_bytes.proofs.SinkLemmas.{rest_whole, put_step, count_kept}
+use Rattle.wkt_bytes.proofs.SinkSteps.{rest_whole, put_step, count_kept}
 use Rattle.wkt_bytes.proofs.wrapper.put_all.Goals as goal
 
 pub loop-at-preserved : goal.loop-at-preserved

@@ -3,7 +3,7 @@ use Rattle.std.proofs.Common.{◌≡◌, ◌+◌, ◌-◌, ◌<◌, ◌++◌, �
 use Rattle.wkt_lines.specs.Laws.{IsWholeLines}
 use Rattle.wkt_lines.specs.Output.{IsOutput}
 use Rattle.wkt_calls.specs.Answer.{read_at, print_at}
-use Rattle.wkt_calls.specs.Chunks.{AreWholeLines, IsFirstLine}
+use Rattle.wkt_calls.specs.Calls.{AreWholeLines, IsFirstLine}
 use Rattle.wkt_calls.proofs.Pieces.{more_output, whole-pick, no-output}
 use Rattle.wkt_c.proofs.chunks.answer_some.Goals as goal
 

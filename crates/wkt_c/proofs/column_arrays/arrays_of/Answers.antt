@@ -3,9 +3,8 @@ use Rattle.std.proofs.Common.{◌≡◌, ◌+◌, subst, arith}
 use Rattle.wkt_calls.specs.Answer.{places_in, asks_whole}
 use Rattle.wkt_c.specs.Column.{row_count, row, is_null}
 use Rattle.wkt_c.specs.ColumnArrays.{IsRowArrays}
-use Rattle.wkt_c.specs.ArrayRows.{HoldsArrays}
-use Rattle.wkt_c.proofs.Columns.{below}
-use Rattle.wkt_c.proofs.ArrayColumns.{no-arrays-yet, one-row-more}
+use Rattle.wkt_c.specs.Rows.{HoldsArrays}
+use Rattle.wkt_c.proofs.Columns.{below, no-arrays-yet, one-row-more}
 use Rattle.wkt_c.proofs.column_arrays.arrays_of.Goals as goal
 
 pub slice_bounds-text-end : goal.slice_bounds-text-end

@@ -1,5 +1,5 @@
 use Rattle.wkt_calls.specs.Answer.{places_in, asks_whole}
-use Rattle.wkt_c.specs.ArrayRows.{HoldsArrays}
+use Rattle.wkt_c.specs.Rows.{HoldsArrays}
 use Rattle.wkt_c.proofs.column_arrays.arrays_of.Given as goal
 
 abbrev pub invariant-loop-i : goal.invariant-loop-i

@@ -1,5 +1,5 @@
 use Rattle.std.proofs.Common.{◌≡◌, length, take}
-use Rattle.wkt_c.specs.ArrayRows.{kinds_of, dimensions_of, statuses_of}
+use Rattle.wkt_c.specs.Rows.{kinds_of, dimensions_of, statuses_of}
 use Rattle.wkt_c.proofs.column_arrays.copy_heads.Given as goal
 
 abbrev pub invariant-loop-i : goal.invariant-loop-i

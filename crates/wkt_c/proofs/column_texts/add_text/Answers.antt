@@ -1,7 +1,6 @@
 -- A row is null, has a text, or has arrays that are those of none.
 use Rattle.std.proofs.Common.{inr}
-use Rattle.wkt_c.proofs.CopiedOut.{match-map}
-use Rattle.wkt_c.proofs.TextColumns.{null-text, arrays-text, no-text}
+use Rattle.wkt_c.proofs.Columns.{match-map, null-text, arrays-text, no-text}
 use Rattle.wkt_c.proofs.column_texts.add_text.Goals as goal
 
 pub returns-then-null : goal.returns-then-null

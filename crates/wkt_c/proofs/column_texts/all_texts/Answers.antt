@@ -2,9 +2,8 @@
 use Rattle.std.proofs.Common.{◌≡◌, ◌+◌, subst, length, arith}
 use Rattle.wkt_c.specs.Column.{is_null}
 use Rattle.wkt_c.specs.ColumnArrays.{row_arrays, IsRowText}
-use Rattle.wkt_c.specs.TextRows.{given_arrays, HoldsTexts}
-use Rattle.wkt_c.proofs.Columns.{no-rows, one-more}
-use Rattle.wkt_c.proofs.TextColumns.{within}
+use Rattle.wkt_c.specs.Rows.{given_arrays, HoldsTexts}
+use Rattle.wkt_c.proofs.Columns.{no-rows, one-more, texts-within as within}
 use Rattle.wkt_c.proofs.column_texts.all_texts.Goals as goal
 
 pub loop-i-init : goal.loop-i-init

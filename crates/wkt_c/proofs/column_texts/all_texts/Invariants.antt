@@ -1,4 +1,4 @@
-use Rattle.wkt_c.specs.TextRows.{given_arrays, HoldsTexts}
+use Rattle.wkt_c.specs.Rows.{given_arrays, HoldsTexts}
 use Rattle.wkt_c.proofs.column_texts.all_texts.Given as goal
 
 abbrev pub invariant-loop-i : goal.invariant-loop-i

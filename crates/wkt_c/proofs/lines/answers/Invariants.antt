@@ -3,7 +3,7 @@ use Rattle.std.proofs.Common.{◌≤◌, ◌-◌, ◌^◌, length, take, true}
 use Rattle.std.specs.Prelude.{vec_len}
 use Rattle.wkt_lines.specs.Output.{IsOutput}
 use Rattle.wkt_calls.specs.Answer.{read_at, print_at}
-use Rattle.wkt_calls.specs.Chunks.{AreWholeLines}
+use Rattle.wkt_calls.specs.Calls.{AreWholeLines}
 use Rattle.wkt_c.proofs.lines.answers.Given as goal
 
 abbrev pub invariant-room : goal.invariant-room

@@ -1,5 +1,5 @@
 -- The text is handed out, if there is room for it.
-use Rattle.wkt_c.proofs.CopiedOutText.{handed}
+use Rattle.wkt_c.proofs.Telling.{handed}
 use Rattle.wkt_c.proofs.told.copy_out_text.Goals as goal
 
 pub returns-in-Ok : goal.returns-in-Ok

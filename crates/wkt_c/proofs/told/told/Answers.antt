@@ -4,8 +4,8 @@ use Rattle.std.specs.List.{All}
 use Rattle.wkt_num.specs.Whole.{IsSigned}
 use Rattle.wkt_num.specs.Decimal.{IsUnits, read_decimal, decimal_text}
 use Rattle.wkt_machine.specs.Events.{events}
-use Rattle.wkt_canonical.specs.Pens.{written_of}
-use Rattle.wkt_canonical.proofs.Told.{wrote-value}
+use Rattle.wkt_canonical.specs.PenMaker.{written_of}
+use Rattle.wkt_canonical.proofs.PenOutput.{wrote-value}
 use Rattle.wkt_fill.specs.declared.given.Given.{Given}
 use Rattle.wkt_c.proofs.Telling.{of-none, text-of, has-room, is-within}
 use Rattle.wkt_c.proofs.told.told.Goals as goal

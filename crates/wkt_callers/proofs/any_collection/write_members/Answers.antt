@@ -3,7 +3,7 @@ use Rattle.std.proofs.Common.{refl, ap, ◌∙◌, Err}
 use Rattle.std.proofs.lemmas.List.{take_all}
 use Rattle.std.proofs.lemmas.Result.{err_from_is_err_and}
 use Rattle.std.proofs.lemmas.List.Elements.{All-nil}
-use Rattle.wkt_callers.proofs.Lining.{line_added, sound_more, broke_in_text, broke_at_end, handed_on}
+use Rattle.wkt_callers.proofs.Keys.{line_added, sound_more, broke_in_text, broke_at_end, handed_on}
 use Rattle.wkt_callers.proofs.any_collection.write_members.Goals as goal
 
 pub loop-i-init : goal.loop-i-init

@@ -2,7 +2,7 @@ use Rattle.std.proofs.Common.{◌≡◌, None, take}
 use Rattle.std.specs.List.{All}
 use Rattle.wkt.specs.Faults.{fault}
 use Rattle.wkt.specs.Sink.{Adds}
-use Rattle.wkt_callers.specs.Lined.{lined}
+use Rattle.wkt_callers.specs.Keys.{lined}
 use Rattle.wkt_callers.proofs.any_collection.write_members.Given as goal
 
 abbrev pub invariant-loop-i : goal.invariant-loop-i

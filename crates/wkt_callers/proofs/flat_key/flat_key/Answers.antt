@@ -2,8 +2,8 @@
 use Rattle.std.proofs.Common.{string_bytes}
 use Rattle.wkt.specs.FlatTree.{flat_tree}
 use Rattle.wkt.specs.Back.{wkt_text}
-use Rattle.wkt_callers.specs.FlatKey.{NamesPlain}
-use Rattle.wkt_callers.proofs.FlatKeys.{named, names_plain}
+use Rattle.wkt_callers.specs.Keys.{NamesPlain}
+use Rattle.wkt_callers.proofs.Keys.{named, names_plain}
 use Rattle.wkt_callers.proofs.flat_key.flat_key.Goals as goal
 
 pub returns-clause-reads_back : goal.returns-clause-reads_back

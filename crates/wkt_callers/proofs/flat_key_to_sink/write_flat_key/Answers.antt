@@ -1,6 +1,6 @@
 -- What went out is read as the flat value, if that is plain.
 use Rattle.wkt.specs.FlatTree.{flat_tree}
-use Rattle.wkt_callers.proofs.FlatKeys.{after_ok, names_plain, sent_lawful}
+use Rattle.wkt_callers.proofs.Keys.{after_ok, names_plain, sent_lawful}
 use Rattle.wkt_callers.proofs.flat_key_to_sink.write_flat_key.Goals as goal
 
 pub returns-clause-reads_back : goal.returns-clause-reads_back

@@ -1,6 +1,6 @@
 -- The keys so far are those of the lines so far that are read.
 use Rattle.std.proofs.Common.{◌∙◌, ap, string_bytes}
-use Rattle.wkt_callers.proofs.KeyLists.{more_none_at, more_key_at}
+use Rattle.wkt_callers.proofs.Keys.{more_none_at, more_key_at}
 use Rattle.wkt_callers.proofs.key_counts.keys.Goals as goal
 use Rattle.wkt_callers.proofs.key_counts.keys.Goals.{in-Ok+in_ok-push-in-Ok, in-Err-Text}
 

@@ -4,8 +4,8 @@ use Rattle.wkt.specs.Shapes.{shape_of}
 use Rattle.wkt.specs.Texts.{shape_text}
 use Rattle.wkt.specs.Tree.{tree}
 use Rattle.wkt.specs.TreeValues.{tree_shape}
-use Rattle.wkt_callers.specs.Tidy.{pair}
-use Rattle.wkt_callers.proofs.Shows.{pair_shown}
+use Rattle.wkt_callers.specs.Fronts.{pair}
+use Rattle.wkt_callers.proofs.Keys.{pair_shown}
 use Rattle.wkt_callers.proofs.read_and_write.tidy_pair.Goals as goal
 
 pub returns-clause-pair : goal.returns-clause-pair

@@ -1,6 +1,6 @@
 -- Two fronts are the same exactly if their texts are.
 use Rattle.wkt.specs.Shapes.{shape_of}
-use Rattle.wkt_callers.proofs.Shows.{same_text}
+use Rattle.wkt_callers.proofs.Keys.{same_text}
 use Rattle.wkt_callers.proofs.same_place.same_place.Goals as goal
 
 pub returns-clause-same : goal.returns-clause-same

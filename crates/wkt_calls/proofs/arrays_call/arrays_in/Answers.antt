@@ -1,10 +1,8 @@
 -- The arrays that were made stand in the buffers, or one of these has no room.
 use Rattle.std.proofs.Common.{rules, ◌≡◌, ℕ, List, length, ap, ◌∙◌, inl, inr}
-use Rattle.wkt_fill.specs.Filled.{view}
-use Rattle.wkt_fill.specs.Filling.{FlatArrays}
+use Rattle.wkt_fill.specs.Filled.{view, FlatArrays}
 use Rattle.wkt_calls.specs.Answer.{with_front}
-use Rattle.wkt_calls.specs.Arrays.{AreOf}
-use Rattle.wkt_calls.specs.Sizes.{AreReported}
+use Rattle.wkt_calls.specs.Arrays.{AreOf, AreReported}
 use Rattle.wkt_calls.specs.declared.sizes.WktSizes.{WktSizes}
 use Rattle.wkt_calls.proofs.arrays_call.arrays_in.Goals as goal
 use Rattle.wkt_calls.proofs.arrays_call.arrays_in.Goals.{then-all-numbers-via-then-all-numbers, then-all-numbers-via-else-all-numbers+then-ring_ends-rings, then-all-numbers-via-else-all-numbers+else-ring_ends-rings+then-polygon_ends-polygons}

@@ -1,6 +1,6 @@
 -- The windows so far are ASCII.
 use Rattle.std.proofs.Common.{arith}
-use Rattle.wkt_calls.proofs.AsciiWindows.{window-below, front-below}
+use Rattle.wkt_calls.proofs.Pieces.{window-below, front-below}
 use Rattle.wkt_calls.proofs.canonical.is_ascii.Goals as goal
 
 pub wide-preserved : goal.wide-preserved

@@ -1,7 +1,6 @@
 -- The front of the text and of what is walked are the same, and so is the message.
 use Rattle.wkt_calls.specs.Answer.{read_at}
-use Rattle.wkt_calls.proofs.Padded.{front-walked, none-walked, said-walked}
-use Rattle.wkt_calls.proofs.StatusOfMessage.{refused-with}
+use Rattle.wkt_calls.proofs.Padded.{front-walked, none-walked, said-walked, refused-with}
 use Rattle.wkt_calls.proofs.canonical.write_or_refuse.Goals as goal
 
 pub returns-in-Ok-clause-canonical : goal.returns-in-Ok-clause-canonical

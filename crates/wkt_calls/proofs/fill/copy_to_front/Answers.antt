@@ -1,6 +1,6 @@
 -- The pieces so far are copied, and the rest is as it was.
 use Rattle.std.proofs.Common.{◌+◌, ◌++◌, ◌∙◌, ap, arith, length, drop, take_all}
-use Rattle.wkt_calls.proofs.Copied.{copied-piece}
+use Rattle.wkt_calls.proofs.Pieces.{copied-piece}
 use Rattle.wkt_calls.proofs.fill.copy_to_front.Goals as goal
 
 pub pieces-preserved : goal.pieces-preserved

@@ -1,6 +1,6 @@
 -- A last byte of ASCII is text.
 use Rattle.std.proofs.Common.{rules}
-use Rattle.wkt_calls.proofs.LastByte.{last-ascii}
+use Rattle.wkt_calls.proofs.Pieces.{last-ascii}
 use Rattle.wkt_calls.proofs.flat.is_text_from.Goals as goal
 
 pub returns-then-text-end-lt128 : goal.returns-then-text-end-lt128

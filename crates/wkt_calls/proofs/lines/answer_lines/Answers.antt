@@ -2,7 +2,7 @@
 use Rattle.std.proofs.Common.{◌≡◌, ◌-◌, ◌<◌, ◌≤◌, ◌∙◌, length, take, drop, ap, sym, subst, arith, length-drop, take_all}
 use Rattle.wkt_lines.specs.Output.{IsOutput}
 use Rattle.wkt_calls.specs.Answer.{read_at, print_at}
-use Rattle.wkt_calls.specs.Chunks.{AreWholeLines}
+use Rattle.wkt_calls.specs.Calls.{AreWholeLines}
 use Rattle.wkt_calls.proofs.Pieces.{whole-pick, line-lines, line-output}
 use Rattle.wkt_calls.proofs.lines.answer_lines.Goals as goal
 use Rattle.wkt_calls.proofs.lines.answer_lines.Goals.{then-at-end+else-end-at+else-not-has_room-2, else-at-end+else-not-has_room}

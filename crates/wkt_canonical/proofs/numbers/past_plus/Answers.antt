@@ -1,7 +1,7 @@
 -- The run from there on is the shortest.
 use Rattle.std.proofs.Common.{arith}
 use Rattle.wkt_canonical.proofs.numbers.past_plus.Goals.{else-text-at-eq43-via-then-text-at-eq43+then-at-end+else-text-at-ne43, else-text-at-eq43-via-then-text-at-eq43+else-at-end, else-text-at-eq43-via-else-text-at-eq43}
-use Rattle.wkt_canonical.proofs.Shortest.{past-one, past-none}
+use Rattle.wkt_canonical.proofs.ShortTexts.{past-one, past-none}
 use Rattle.wkt_canonical.proofs.numbers.past_plus.Goals as goal
 
 pub returns-then-text-at-ne43-clause-shortest : goal.returns-then-text-at-ne43-clause-shortest

@@ -9,8 +9,7 @@ use Rattle.wkt_flat.specs.Tree.{flat_tree}
 use Rattle.wkt_flat.proofs.TreeLemmas.{flat-point}
 use Rattle.wkt_convert.proofs.KindTrees.{tree-point}
 use Rattle.wkt_convert.specs.Back.{back}
-use Rattle.wkt_convert.proofs.Members.{all_back_members}
-use Rattle.wkt_convert.proofs.Opened.{first-of, falls-opened, falls-closed}
+use Rattle.wkt_convert.proofs.Opened.{all_back_members, first-of, falls-opened, falls-closed}
 use Rattle.wkt_convert.proofs.OpenedBack.{going, finish, goes-on, opens, closes, ends, left-falls}
 use Rattle.wkt_convert.proofs.back.geometries.Goals as goal
 

@@ -1,6 +1,6 @@
 -- The coordinates so far are those before, and those of the first ones without z and m.
 use Rattle.std.proofs.Common.{arith}
-use Rattle.wkt_flat.proofs.Members.{grown_after}
+use Rattle.wkt_flat.proofs.TreeLemmas.{grown_after}
 use Rattle.wkt_convert.specs.Back.{flat_xy}
 use Rattle.wkt_convert.proofs.back.push_coords.Goals as goal
 

@@ -2,7 +2,7 @@
 use Rattle.std.proofs.Common.{ap}
 use Rattle.wkt_types.specs.Flattened.{point_or_fault}
 use Rattle.wkt_types.specs.Outcome.{empty_point}
-use Rattle.wkt_convert.proofs.Outcomes.{more, stop}
+use Rattle.wkt_convert.proofs.Opened.{more, stop}
 use Rattle.wkt_convert.proofs.flatten.all_points.Goals as goal
 
 pub returns-in-None : goal.returns-in-None

@@ -10,9 +10,7 @@ use Rattle.wkt_flat.proofs.TreeLemmas.{flat-collection}
 use Rattle.wkt_convert.specs.Flatten.{flat}
 use Rattle.wkt_convert.specs.Outcomes.{outcome_map, outcomes}
 use Rattle.wkt_convert.proofs.KindTrees.{tree-point}
-use Rattle.wkt_convert.proofs.Members.{flatten_members}
-use Rattle.wkt_convert.proofs.Outcomes.{passes_on}
-use Rattle.wkt_convert.proofs.Opened.{first-of, falls-opened, falls-closed}
+use Rattle.wkt_convert.proofs.Opened.{flatten_members, passes_on, first-of, falls-opened, falls-closed}
 use Rattle.wkt_convert.proofs.OpenedFlat.{going, going-start, finish, goes-on, opens, closes, ends, refuses, left-falls}
 use Rattle.wkt_convert.proofs.flatten.collection.Goals as goal
 

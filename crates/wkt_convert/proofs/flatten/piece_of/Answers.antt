@@ -10,7 +10,7 @@ use Rattle.wkt_convert.specs.Flatten.{flat, points}
 use Rattle.wkt_convert.specs.Outcomes.{outcome_map}
 use Rattle.wkt_flat.proofs.TreeLemmas.{flat-multi_point}
 use Rattle.wkt_convert.proofs.KindTrees.{tree-multi_point}
-use Rattle.wkt_convert.proofs.Outcomes.{passes_on, map_refused}
+use Rattle.wkt_convert.proofs.Opened.{passes_on, map_refused}
 use Rattle.wkt_convert.proofs.flatten.piece_of.Goals as goal
 
 pub returns-in_err-points-in-MultiPoint : goal.returns-in_err-points-in-MultiPoint

@@ -1,5 +1,5 @@
 -- The parts so far are turned, in order.
-use Rattle.wkt_flat.proofs.Members.{grown_after}
+use Rattle.wkt_flat.proofs.TreeLemmas.{grown_after}
 use Rattle.wkt_convert.proofs.parts.turn_after.Goals as goal
 
 pub loop-part-preserved : goal.loop-part-preserved

@@ -2,7 +2,7 @@
 use Rattle.std.proofs.Common.{arith}
 use Rattle.std.proofs.lemmas.Bool.{OnTrue_from}
 use Rattle.std.proofs.lemmas.Bool.Decides.{nat_tests}
-use Rattle.wkt_events.proofs.AsciiRuns.{ascii-run}
+use Rattle.wkt_events.proofs.Runs.{ascii-run}
 use Rattle.wkt_events.proofs.bytes.is_ascii_fast.Goals as goal
 
 pub returns : goal.returns

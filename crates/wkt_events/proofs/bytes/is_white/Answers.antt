@@ -1,5 +1,5 @@
 -- A byte is white where its class in the line is.
-use Rattle.wkt_events.proofs.Classes.{class-same, class-whole, class-feed, reports-white, white-none}
+use Rattle.wkt_events.proofs.RemainingLexemes.{class-same, class-whole, class-feed, reports-white, white-none}
 use Rattle.wkt_events.proofs.bytes.is_white.Goals as goal
 use Rattle.wkt_events.proofs.bytes.is_white.Goals.{else-this-ne0-via-then-this-ne0+else-byte-eq10, else-this-ne0-via-else-this-ne0}
 

@@ -1,5 +1,5 @@
 -- The lanes up to a comma are the low bytes of the window.
-use Rattle.wkt_events.proofs.RunEnds.{low-lanes}
+use Rattle.wkt_events.proofs.Runs.{low-lanes}
 use Rattle.wkt_events.proofs.bytes.low_bytes.Goals as goal
 
 pub returns : goal.returns

@@ -1,6 +1,6 @@
 -- The first low byte of the window ends the run, if it is part of none.
 use Rattle.std.proofs.Common.{arith}
-use Rattle.wkt_events.proofs.RunEnds.{low-within, low-run}
+use Rattle.wkt_events.proofs.Runs.{low-within, low-run}
 use Rattle.wkt_events.proofs.bytes.run_end.Goals as goal
 
 pub bounds-text-end : goal.bounds-text-end

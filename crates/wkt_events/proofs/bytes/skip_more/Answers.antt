@@ -3,8 +3,8 @@ use Rattle.std.proofs.Common.{◌≡◌, ◌==◌, ap, sym, ◌∙◌, arith, ge
 use Rattle.std.specs.Prelude.{not}
 use Rattle.std.proofs.lemmas.Bool.{cases_lt}
 use Rattle.wkt_events.specs.Remaining.{class_in}
-use Rattle.wkt_events.proofs.Classes.{past-white, white-some}
-use Rattle.wkt_events.proofs.Legibles.{class-in-line}
+use Rattle.wkt_events.proofs.RemainingLexemes.{past-white, white-some}
+use Rattle.wkt_events.proofs.Utf8Lines.{class-in-line}
 use Rattle.wkt_events.proofs.bytes.skip_more.Goals as goal
 
 pub loop-at-smaller : goal.loop-at-smaller

@@ -2,8 +2,8 @@
 use Rattle.std.proofs.Common.{◌≡◌, ◌==◌, ap, sym, ◌∙◌, arith, get_or}
 use Rattle.std.specs.Prelude.{not}
 use Rattle.wkt_events.specs.Remaining.{class_in}
-use Rattle.wkt_events.proofs.Classes.{past-white, white-some, space, late-byte}
-use Rattle.wkt_events.proofs.Legibles.{class-in-line}
+use Rattle.wkt_events.proofs.RemainingLexemes.{past-white, white-some, space, late-byte}
+use Rattle.wkt_events.proofs.Utf8Lines.{class-in-line}
 use Rattle.wkt_events.proofs.bytes.skip_white.Goals as goal
 
 pub returns-then-byte_at-gt32-clause-stops : goal.returns-then-byte_at-gt32-clause-stops

@@ -1,6 +1,6 @@
 -- Byte by byte the run goes on, up to a byte that is part of none.
 use Rattle.std.proofs.Common.{arith}
-use Rattle.wkt_events.proofs.RunEnds.{run-more, past-run}
+use Rattle.wkt_events.proofs.Runs.{run-more, past-run}
 use Rattle.wkt_events.proofs.bytes.slow_run_end.Goals as goal
 
 pub loop-at-preserved : goal.loop-at-preserved

@@ -1,5 +1,5 @@
 -- A text without a front is refused.
-use Rattle.wkt.proofs.RefusalMessages.{some_of}
+use Rattle.wkt.proofs.Texts.{some_of}
 use Rattle.wkt_examples.proofs.refusal.explained.Goals as goal
 
 pub unwrap-requires : goal.unwrap-requires

@@ -1,5 +1,5 @@
 -- A text is refused at no more than one place.
-use Rattle.wkt_explain.proofs.OnePlace.{one_place}
+use Rattle.wkt_explain.proofs.StopsAreRefusals.{one_place}
 use Rattle.wkt_explain.proofs.laws.one_refusal.Goals as goal
 
 pub returns : goal.returns

@@ -1,5 +1,5 @@
 -- A text that is refused somewhere has no front.
-use Rattle.wkt_explain.proofs.OnePlace.{refused_none}
+use Rattle.wkt_explain.proofs.StopsAreRefusals.{refused_none}
 use Rattle.wkt_explain.proofs.laws.refused_has_no_front.Goals as goal
 
 pub returns : goal.returns

@@ -1,14 +1,13 @@
 -- The machine goes as far as the front does, or stops.
 use Rattle.std.proofs.Common.{ap, ◌∙◌, arith, length, false, refl}
-use Rattle.wkt_read.proofs.LawLemmas.Few.{spanned-few}
-use Rattle.wkt_read.proofs.LawLemmas.FrontEnds.{front-within}
+use Rattle.wkt_read.proofs.LawLemmas.OnePlacing.{spanned-few}
+use Rattle.wkt_read.proofs.LawLemmas.HeaderPlaces.{front-within}
 use Rattle.wkt_machine.specs.BytesView.{bytes_view}
-use Rattle.wkt_machine.specs.NothingMaker.{nothing_maker}
+use Rattle.wkt_machine.specs.Makers.{nothing_maker}
 use Rattle.wkt_machine.proofs.ByteViews.{whole_left}
-use Rattle.wkt_machine.proofs.Fronting.{front_made}
+use Rattle.wkt_machine.proofs.FrontValues.{front_made, refused}
 use Rattle.wkt_machine.proofs.RoomForRest.{free_room}
-use Rattle.wkt_machine.proofs.Stopping.{stops_there}
-use Rattle.wkt_machine.proofs.Valued.{refused}
+use Rattle.wkt_machine.proofs.TableMessages.{stops_there}
 use Rattle.wkt_explain.proofs.walked.driven.Goals as goal
 
 pub drive-requires : goal.drive-requires

@@ -2,7 +2,7 @@
 use Rattle.std.proofs.Common.{ℕ, ◌*◌, refl, ap, [], ◌∷◌}
 use Rattle.wkt_machine.specs.Events.{Event}
 use Rattle.wkt_machine.specs.declared.part.Axis.TheVariants as axis
-use Rattle.wkt_fill.proofs.Coordinates.{two-told, m-fits, three-told, four-told, with-z, with-m, with-zm}
+use Rattle.wkt_fill.proofs.Owing.{two-told, m-fits, three-told, four-told, with-z, with-m, with-zm}
 use Rattle.wkt_fill.proofs.telling.coordinate.Goals as goal
 
 pub number-requires-in-XYZM-3 : goal.number-requires-in-XYZM-3

@@ -1,6 +1,6 @@
 -- The coordinates of a ring are there.
 use Rattle.std.proofs.Common.{◌+◌}
-use Rattle.wkt_fill.proofs.Bounds.{ring-order, ring-within}
+use Rattle.wkt_fill.proofs.Between.{ring-order, ring-within}
 use Rattle.wkt_fill.proofs.telling.ring.Goals as goal
 
 pub line-requires-clause-order : goal.line-requires-clause-order

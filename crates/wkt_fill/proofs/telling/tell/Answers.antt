@@ -4,8 +4,8 @@ use Rattle.wkt_types.specs.declared.geometry_type.GeometryType.TheVariants as ki
 use Rattle.wkt_machine.specs.Events.{numbers, listed}
 use Rattle.wkt_machine.specs.declared.part.Part.TheVariants as part
 use Rattle.wkt_fill.specs.Parts.{ring_at, polygon_at, polygons_in}
-use Rattle.wkt_fill.proofs.Inverse.{point-events, line_string-events, polygon-events, multi_point-events, multi_line_string-events, multi_polygon-events}
-use Rattle.wkt_fill.proofs.Headed.{are-whole, parts-of-kind, header-fits, rest-fits, whole-told}
+use Rattle.wkt_fill.proofs.Between.{point-events, line_string-events, polygon-events, multi_point-events, multi_line_string-events, multi_polygon-events}
+use Rattle.wkt_fill.proofs.Owing.{are-whole, parts-of-kind, header-fits, rest-fits, whole-told}
 use Rattle.wkt_fill.proofs.telling.tell.Goals as goal
 
 pub begin-begun-requires : goal.begin-begun-requires

@@ -3,8 +3,7 @@ use Rattle.std.proofs.Common.{sym}
 use Rattle.wkt_flat.specs.Closed.{HasClosedRings}
 use Rattle.wkt_flat.specs.Tree.{flat_tree}
 use Rattle.wkt_flat.specs.declared.geometry.Geometry.{Geometry}
-use Rattle.wkt_flat.proofs.Closing.{all-next, closed-as, collection-closed}
-use Rattle.wkt_flat.proofs.TreeLemmas.{flat-collection, flat-polygon}
+use Rattle.wkt_flat.proofs.TreeLemmas.{all-next, closed-as, collection-closed, flat-collection, flat-polygon}
 use Rattle.wkt_flat.proofs.closed.+closed.Goals as goal
 
 pub collection_is_closed-returns : goal.collection_is_closed-returns

@@ -1,7 +1,7 @@
 -- Each round leaves fewer geometries.
 use Rattle.std.proofs.Common.{◌≡◌, ◌+◌, ap, ◌∙◌, arith}
 use Rattle.wkt_flat.specs.Weight.{total}
-use Rattle.wkt_flat.proofs.Weighing.{popped}
+use Rattle.wkt_flat.proofs.TreeLemmas.{popped}
 use Rattle.wkt_flat.proofs.dropping.drop_all.Goals as goal
 
 pub loop-geometry-smaller : goal.loop-geometry-smaller

@@ -2,7 +2,7 @@
 use Rattle.std.proofs.Common.{◌≡◌, ◌<◌, ap, ◌∙◌, length, arith}
 use Rattle.std.proofs.lemmas.Bool.Decides.{nat_tests}
 use Rattle.wkt_flat.specs.Weight.{total}
-use Rattle.wkt_flat.proofs.Weighing.{exchanged, first_within}
+use Rattle.wkt_flat.proofs.TreeLemmas.{exchanged, first_within}
 use Rattle.wkt_flat.proofs.dropping.drop_one.Goals as goal
 
 pub returns-in_default : goal.returns-in_default

@@ -1,4 +1,4 @@
-use Rattle.wkt_flat.proofs.Compared.{AreAlikeTo}
+use Rattle.wkt_flat.proofs.TreeLemmas.{AreAlikeTo}
 use Rattle.wkt_flat.specs.Tree.{flat_members}
 use Rattle.wkt_flat.specs.Trees.{flats_eq}
 use Rattle.wkt_flat.proofs.equal.+same.Given as goal

@@ -1,8 +1,7 @@
 -- The copy of a collection has the same tree.
 use Rattle.std.proofs.Common.{ap, ◌∙◌}
 use Rattle.wkt_flat.specs.Tree.{flat_tree, flats_of, collection}
-use Rattle.wkt_flat.proofs.Copied.{copied-in}
-use Rattle.wkt_flat.proofs.TreeLemmas.{flat-collection, flat-members}
+use Rattle.wkt_flat.proofs.TreeLemmas.{copied-in, flat-collection, flat-members}
 use Rattle.wkt_flat.proofs.geometry.+copy.Goals as goal
 
 pub push_copy-returns-in_ok-geometries-in-GeometryCollection : goal.push_copy-returns-in_ok-geometries-in-GeometryCollection

@@ -4,18 +4,17 @@ use Rattle.wkt_flat.specs.Equal.{coord_eq}
 use Rattle.wkt_flat.specs.declared.geometry.Geometry.TheVariants as geometry
 use Rattle.wkt_convert.specs.declared.flattened.Flattened.TheVariants.{Other}
 use Rattle.wkt_convert.specs.declared.flattened.Found.TheVariants as found
-use Rattle.wkt_read.proofs.LawLemmas.Few.{spanned-few}
+use Rattle.wkt_read.proofs.LawLemmas.OnePlacing.{spanned-few}
 use Rattle.wkt_read.proofs.Refusals.{said_bad}
 use Rattle.wkt_machine.specs.BytesView.{bytes_view}
 use Rattle.wkt_machine.specs.Growing.{rest}
 use Rattle.wkt_machine.proofs.ByteViews.{whole_left}
 use Rattle.wkt_machine.proofs.RoomForRest.{free_room}
-use Rattle.wkt_machine.proofs.Stopping.{stops_there, stops_message, stops_no_front}
-use Rattle.wkt_machine.proofs.Valued.{refused}
-use Rattle.wkt_flat_read.specs.Growers.{tree_maker, tree_of}
+use Rattle.wkt_machine.proofs.TableMessages.{stops_there, stops_message, stops_no_front}
+use Rattle.wkt_machine.proofs.FrontValues.{refused}
+use Rattle.wkt_flat_read.specs.Trees.{tree_maker, tree_of}
 use Rattle.wkt_flat_read.proofs.Ended.{gives_lone}
-use Rattle.wkt_flat_read.proofs.Flats.{answer_text, answer_message, answer_refusal, lent}
-use Rattle.wkt_flat_read.proofs.Fronts.{answer_found}
+use Rattle.wkt_flat_read.proofs.Flats.{answer_text, answer_message, answer_refusal, lent, answer_found}
 use Rattle.wkt_flat_read.proofs.text.front_of.Goals as goal
 
 pub drive-requires-clause-depth : goal.drive-requires-clause-depth

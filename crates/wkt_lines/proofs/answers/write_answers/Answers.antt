@@ -2,7 +2,7 @@
 use Rattle.std.proofs.Common.{◌≡◌, ◌≢◌, ◌∙◌, ℕ, [], ap, length, refl, arith}
 use Rattle.std.proofs.lemmas.Grind.{common_steps}
 use Rattle.wkt_lines.specs.Output.{IsAnswer}
-use Rattle.wkt_lines.proofs.Adding.{adds_to_none, adds_to_more, adds_to_last}
+use Rattle.wkt_lines.proofs.Answering.{adds_to_none, adds_to_more, adds_to_last}
 use Rattle.wkt_lines.proofs.answers.write_answers.Goals as goal
 
 pub lines-init : goal.lines-init

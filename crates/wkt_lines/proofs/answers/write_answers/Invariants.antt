@@ -1,6 +1,6 @@
 use Rattle.std.proofs.Common.{length}
 use Rattle.wkt_lines.specs.Output.{IsAnswer}
-use Rattle.wkt_lines.proofs.Adding.{AddsTo}
+use Rattle.wkt_lines.proofs.Answering.{AddsTo}
 use Rattle.wkt_lines.proofs.answers.write_answers.Given as goal
 
 abbrev pub invariant-lines : goal.invariant-lines

@@ -1,6 +1,6 @@
 -- The answers to the lines so far are out or in the output buffer, and an error says which.
 use Rattle.std.proofs.Common.{[], arith, Err, subst, sym}
-use Rattle.wkt_lines.specs.OutputBuffers.{output_text, PutsOut}
+use Rattle.wkt_lines.specs.Buffers.{output_text, PutsOut}
 use Rattle.wkt_lines.specs.declared.output_buffer.OutputBuffer.{OutputBuffer}
 use Rattle.wkt_lines.proofs.OutputBuffering.{Buffered, buffered_none, buffered_drained, buffered_next, near, ends_inside, ends_past}
 use Rattle.wkt_lines.proofs.buffered.answer_block.Goals as goal

@@ -1,5 +1,5 @@
 use Rattle.std.proofs.Common.{◌≤◌, ◌+◌, ◌-◌, length}
-use Rattle.wkt_lines.specs.OutputBuffers.{output_text}
+use Rattle.wkt_lines.specs.Buffers.{output_text}
 use Rattle.wkt_lines.proofs.OutputBuffering.{Buffered}
 use Rattle.wkt_lines.proofs.buffered.answer_block.Given as goal
 

@@ -2,8 +2,7 @@
 use Rattle.std.proofs.Common.{◌++◌, [], Err, append_assoc, refl, sym, ap, ◌∙◌}
 use Rattle.std.proofs.lemmas.List.{append-nil}
 use Rattle.std.proofs.KnownBytes.{Appends-trans}
-use Rattle.wkt_lines.proofs.Answering.{any_ok}
-use Rattle.wkt_lines.proofs.FirstLineAnswers.{puts_on}
+use Rattle.wkt_lines.proofs.Answering.{any_ok, puts_on}
 use Rattle.wkt_lines.proofs.buffered.put_pieces.Goals as goal
 
 pub pieces-preserved : goal.pieces-preserved

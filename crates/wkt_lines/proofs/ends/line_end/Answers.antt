@@ -1,6 +1,6 @@
 -- No line feed stands before the place, so the line ends at the first one.
 use Rattle.std.proofs.Common.{arith}
-use Rattle.wkt_lines.proofs.LineEnds.{none-more, no-more, found, found-one, found-none}
+use Rattle.wkt_lines.proofs.Lining.{none-more, no-more, found, found-one, found-none}
 use Rattle.wkt_lines.proofs.ends.line_end.Goals as goal
 
 pub returns-then-feed-lt32-clause-before : goal.returns-then-feed-lt32-clause-before

@@ -1,6 +1,6 @@
 -- No line feed stands before the place.
 use Rattle.std.proofs.Common.{◌≤◌, ◌-◌, length}
-use Rattle.wkt_lines.proofs.LineEnds.{NoFeed}
+use Rattle.wkt_lines.proofs.Lining.{NoFeed}
 use Rattle.wkt_lines.proofs.ends.line_end.Given as goal
 
 abbrev pub invariant-wide : goal.invariant-wide

@@ -1,6 +1,6 @@
 -- Where a line feed stands, the line ends.
 use Rattle.std.proofs.Common.{sym, ◌∙◌}
-use Rattle.wkt_lines.proofs.LineEnds.{ends-here}
+use Rattle.wkt_lines.proofs.Lining.{ends-here}
 use Rattle.wkt_lines.proofs.ends.text_end.Goals as goal
 
 pub returns-then-byte_at-eq10 : goal.returns-then-byte_at-eq10

@@ -1,5 +1,5 @@
 -- The line ends where its rest does, and is text where its rest is.
-use Rattle.wkt_lines.proofs.LineEnds.{ends-tested, none-tested}
+use Rattle.wkt_lines.proofs.Lining.{ends-tested, none-tested}
 use Rattle.wkt_lines.proofs.ends.text_end_behind.Goals as goal
 
 pub returns-in-Ok : goal.returns-in-Ok

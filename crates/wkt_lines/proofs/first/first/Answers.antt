@@ -1,7 +1,7 @@
 -- A line that ends nearby is answered with the bytes nearby alone.
 use Rattle.std.proofs.Common.{◌≡◌, arith, ◌∙◌, ap, length, length-take, take, ◌+◌}
 use Rattle.wkt_events.specs.Remaining.{before_feed}
-use Rattle.wkt_lines.proofs.FirstLineAnswers.{first-of, near-line}
+use Rattle.wkt_lines.proofs.Answering.{first-of, near-line}
 use Rattle.wkt_lines.proofs.first.first.Goals as goal
 
 pub slice_bounds-near-end : goal.slice_bounds-near-end

@@ -2,7 +2,7 @@
 use Rattle.std.proofs.Common.{◌≡◌, ◌∙◌, ap, length, take, ◌+◌}
 use Rattle.wkt_events.specs.Remaining.{before_feed}
 use Rattle.wkt_lines.specs.First.{AnswersFirst}
-use Rattle.wkt_lines.proofs.FirstLineAnswers.{first-of, ok-map, line-alone}
+use Rattle.wkt_lines.proofs.Answering.{first-of, ok-map, line-alone}
 use Rattle.wkt_lines.proofs.first.slow_first.Goals as goal
 
 pub returns-clause-answers : goal.returns-clause-answers

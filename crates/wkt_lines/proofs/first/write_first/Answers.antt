@@ -1,6 +1,6 @@
 -- The answer to the first line is UTF-8, and the line ends where it says.
 use Rattle.std.proofs.Common.{refl, sym, subst, take, IsUtf8}
-use Rattle.wkt_lines.proofs.FirstLineAnswers.{ends-line, first-utf8}
+use Rattle.wkt_lines.proofs.Answering.{ends-line, first-utf8}
 use Rattle.wkt_lines.proofs.first.write_first.Goals as goal
 
 pub put-requires : goal.put-requires

@@ -1,6 +1,6 @@
 -- A line is answered by its front and by what stands behind that.
 use Rattle.std.proofs.Common.{arith}
-use Rattle.wkt_lines.proofs.InRoom.{from-within, from-in-line, refused-line, no-front, no-text, text-line}
+use Rattle.wkt_lines.proofs.Answering.{from-within, from-in-line, refused-line, no-front, no-text, text-line}
 use Rattle.wkt_lines.proofs.in_room.answer_line.Goals as goal
 
 pub text_end-requires-clause-inside : goal.text_end-requires-clause-inside

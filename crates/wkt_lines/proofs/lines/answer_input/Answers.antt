@@ -1,7 +1,7 @@
 -- The answers to the lines so far are out or in the output buffer, and an error says which.
 use Rattle.std.proofs.Common.{[], Some, Err, refl, sym, inl, inr, take, drop, take-append-drop}
 use Rattle.std.proofs.lemmas.List.{append-nil}
-use Rattle.wkt_lines.proofs.Feeding.{parted}
+use Rattle.wkt_lines.proofs.Lining.{parted}
 use Rattle.wkt_lines.proofs.Answering.{any_ok}
 use Rattle.wkt_lines.proofs.Outcomes.{at_hand, answered, part_answered}
 use Rattle.wkt_lines.proofs.lines.answer_input.Goals as goal

@@ -1,5 +1,5 @@
 use Rattle.std.proofs.Common.{◌≡◌, [], Some, length}
-use Rattle.wkt_lines.specs.OutputBuffers.{output_text}
+use Rattle.wkt_lines.specs.Buffers.{output_text}
 use Rattle.wkt_lines.proofs.Outcomes.{Base}
 use Rattle.wkt_lines.proofs.lines.answer_input.Given as goal
 

@@ -1,5 +1,5 @@
 -- The reply and its line feed were added, or the sink broke off.
-use Rattle.wkt_lines.proofs.Adding.{adds_more, reply_failed}
+use Rattle.wkt_lines.proofs.Answering.{adds_more, reply_failed}
 use Rattle.wkt_lines.proofs.reply.reply_to_line.Goals as goal
 
 pub returns-in-Ok-write_str : goal.returns-in-Ok-write_str

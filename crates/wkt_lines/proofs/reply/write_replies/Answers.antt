@@ -1,7 +1,7 @@
 -- The replies to the lines so far were added, and the next line's follows them.
 use Rattle.std.proofs.Common.{◌≡◌, ◌≢◌, ◌∙◌, [], ap, length, arith}
 use Rattle.std.proofs.lemmas.Grind.{common_steps}
-use Rattle.wkt_lines.proofs.Adding.{adds_to_none, adds_to_more, adds_to_last}
+use Rattle.wkt_lines.proofs.Answering.{adds_to_none, adds_to_more, adds_to_last}
 use Rattle.wkt_lines.proofs.reply.write_replies.Goals as goal
 
 pub lines-init : goal.lines-init

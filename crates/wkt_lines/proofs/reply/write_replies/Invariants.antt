@@ -1,5 +1,5 @@
 use Rattle.std.proofs.Common.{length}
-use Rattle.wkt_lines.proofs.Adding.{AddsTo}
+use Rattle.wkt_lines.proofs.Answering.{AddsTo}
 use Rattle.wkt_lines.proofs.reply.write_replies.Given as goal
 
 abbrev pub invariant-lines : goal.invariant-lines

@@ -2,9 +2,9 @@
 use Rattle.std.proofs.Common.{◌≡◌, ◌++◌, ℕ, List, [], inl, inr, Err, refl, sym, ap, ◌∙◌, subst, take, drop, take-append-drop}
 use Rattle.std.proofs.lemmas.List.{append-nil}
 use Rattle.wkt_lines.specs.Laws.{IsWholeLines}
-use Rattle.wkt_lines.specs.InputBuffers.{unanswered}
-use Rattle.wkt_lines.specs.Feeds.{HasNoFeed}
-use Rattle.wkt_lines.proofs.Feeding.{seen_none, none_in_nothing}
+use Rattle.wkt_lines.specs.Buffers.{unanswered}
+use Rattle.wkt_lines.specs.Lines.{HasNoFeed}
+use Rattle.wkt_lines.proofs.Lining.{seen_none, none_in_nothing}
 use Rattle.wkt_lines.proofs.Answering.{any_ok}
 use Rattle.wkt_lines.proofs.Outcomes.{begins, filled, answered, block_answered, no_room, no_block}
 use Rattle.wkt_lines.proofs.streaming.stream_blocks.Goals as goal

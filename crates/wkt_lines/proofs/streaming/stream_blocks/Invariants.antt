@@ -1,7 +1,6 @@
 use Rattle.std.proofs.Common.{◌≡◌, []}
-use Rattle.wkt_lines.specs.OutputBuffers.{output_text}
-use Rattle.wkt_lines.specs.InputBuffers.{unanswered}
-use Rattle.wkt_lines.specs.Feeds.{HasNoFeed}
+use Rattle.wkt_lines.specs.Buffers.{output_text, unanswered}
+use Rattle.wkt_lines.specs.Lines.{HasNoFeed}
 use Rattle.wkt_lines.proofs.Outcomes.{Base}
 use Rattle.wkt_lines.proofs.streaming.stream_blocks.Given as goal
 

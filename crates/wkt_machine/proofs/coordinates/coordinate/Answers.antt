@@ -6,7 +6,7 @@ use Rattle.wkt_machine.specs.BytesView.{bytes_view}
 use Rattle.wkt_machine.specs.Machines.{next_after}
 use Rattle.wkt_machine.specs.declared.machine.State.TheVariants as next
 use Rattle.wkt_machine.specs.declared.part.Axis.TheVariants as axis
-use Rattle.wkt_machine.proofs.WaysWithinPart.{Way, on_true, on_false, way_on, way_stops, way_from, stop_from}
+use Rattle.wkt_machine.proofs.WaysJoin.{Way, on_true, on_false, way_on, way_stops, way_from, stop_from}
 use Rattle.wkt_machine.proofs.coordinates.coordinate.Goals as goal
 
 pub returns-then-not-has_y-clause-refused : goal.returns-then-not-has_y-clause-refused

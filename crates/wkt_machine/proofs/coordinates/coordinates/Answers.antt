@@ -7,7 +7,7 @@ use Rattle.wkt_machine.specs.Goes.{Goes, Refuses}
 use Rattle.wkt_machine.specs.Leads.{reached}
 use Rattle.wkt_machine.specs.declared.machine.State.TheVariants as next
 use Rattle.wkt_machine.proofs.ByteSteps.{turn_goes, last_goes, goes_less}
-use Rattle.wkt_machine.proofs.EmptyWays.{leads_none, goes_leads, leads_goes, leads_refuses}
+use Rattle.wkt_machine.proofs.WaysJoin.{leads_none, goes_leads, leads_goes, leads_refuses}
 use Rattle.wkt_num.specs.Bytes.{Close, Comma, class_of}
 use Rattle.wkt_machine.specs.Room.{owed}
 use Rattle.wkt_machine.specs.Machines.{state_of}

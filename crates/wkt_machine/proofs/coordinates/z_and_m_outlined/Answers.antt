@@ -6,7 +6,7 @@ use Rattle.wkt_machine.specs.BytesView.{bytes_view}
 use Rattle.wkt_machine.specs.Machines.{next_after}
 use Rattle.wkt_machine.specs.declared.machine.State.TheVariants as next
 use Rattle.wkt_machine.specs.declared.part.Axis.TheVariants as axis
-use Rattle.wkt_machine.proofs.WaysWithinPart.{Way, Stop, on_true, on_false, way_on, way_stops}
+use Rattle.wkt_machine.proofs.WaysJoin.{Way, Stop, on_true, on_false, way_on, way_stops}
 use Rattle.wkt_machine.proofs.coordinates.z_and_m_outlined.Goals as goal
 
 pub returns-else-not-has_z-clause-on : goal.returns-else-not-has_z-clause-on

@@ -4,7 +4,7 @@ use Rattle.wkt_machine.specs.Goes.{Refuses}
 use Rattle.wkt_machine.specs.declared.machine.Machine.{Machine}
 use Rattle.wkt_machine.specs.Place.{State}
 use Rattle.wkt_machine.proofs.WaysJoin.{from_start, refused_if}
-use Rattle.wkt_machine.proofs.Depths.{goes_room}
+use Rattle.wkt_machine.proofs.WholeRuns.{goes_room}
 use Rattle.wkt_machine.proofs.drive.drive.Goals as goal
 
 pub lexemes-init : goal.lexemes-init

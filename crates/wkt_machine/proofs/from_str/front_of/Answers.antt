@@ -11,7 +11,7 @@ use Rattle.wkt_read.specs.Front.{Front, HasNoFront}
 use Rattle.wkt_read.specs.Answered.{HasBadNumber, IsReadOff, OnText, OnMessage}
 use Rattle.wkt_read.specs.Items.{bad_number}
 use Rattle.wkt_read.specs.Spanned.{AreEnds}
-use Rattle.wkt_read.proofs.LawLemmas.FrontEnds.{front-some, front-within, front-boundary}
+use Rattle.wkt_read.proofs.LawLemmas.HeaderPlaces.{front-some, front-within, front-boundary}
 use Rattle.wkt_read.proofs.LawLemmas.OnePlacing.{spanned-only}
 use Rattle.wkt_read.proofs.ParserLemmas.Answering.{to-front, from-front, no-front, split-of, text-map, message-map}
 use Rattle.wkt_read.specs.Refusal.{IsRefused, IsTextRefused, IfText}

@@ -3,17 +3,15 @@ use Rattle.std.proofs.Common.{◌≤◌, subst, [], None, ◌∙◌, sym, ap, re
 use Rattle.std.specs.Borrow.{MutBor}
 use Rattle.wkt_read.specs.Ahead.{remaining, taken_of}
 use Rattle.wkt_read.specs.Standing.{Standing}
-use Rattle.wkt_machine.specs.Growers.{tree_maker}
+use Rattle.wkt_machine.specs.Trees.{tree_maker, tree_of}
 use Rattle.wkt_machine.specs.Goes.{IsStuck}
 use Rattle.wkt_machine.specs.TokensView.{tokens_view}
 use Rattle.wkt_machine.proofs.RoomForRest.{free_room}
 use Rattle.wkt_read.specs.Spanned.{AreEnds}
 use Rattle.wkt_read.proofs.LawLemmas.OnePlacing.{spanned-only}
-use Rattle.wkt_machine.specs.Growers.{tree_of}
 use Rattle.wkt_machine.specs.Growing.{rest as nothing}
 use Rattle.wkt_types.specs.declared.geometry.Wkt.TheVariants as geometry
-use Rattle.wkt_machine.proofs.Valued.{lent}
-use Rattle.wkt_machine.proofs.Driven.{answer_found, answer_free, answer_text, answer_message, answer_refusal, ended_found, pair_made, stuck_no_front, stuck_bad_number, stuck_refused}
+use Rattle.wkt_machine.proofs.FrontValues.{lent, answer_found, answer_free, answer_text, answer_message, answer_refusal, ended_found, pair_made, stuck_no_front, stuck_bad_number, stuck_refused}
 use Rattle.wkt_machine.proofs.from_str.of_text.Goals as goal
 
 pub drive-requires-clause-depth : goal.drive-requires-clause-depth

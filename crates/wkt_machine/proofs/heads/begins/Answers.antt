@@ -1,6 +1,6 @@
 -- One byte more is the same.
 use Rattle.std.proofs.Common.{arith}
-use Rattle.wkt_machine.proofs.TakeNext.{take_next}
+use Rattle.wkt_machine.proofs.NextLexeme.{take_next}
 use Rattle.wkt_machine.proofs.heads.begins.Goals as goal
 
 pub loop-i-preserved : goal.loop-i-preserved

@@ -1,6 +1,6 @@
 -- Each word is the name of its kind, of which what was compared stands there.
 use Rattle.std.proofs.Common.{arith, refl}
-use Rattle.wkt_machine.proofs.HeadSteps.{collection_name, line_string_name, polygon_name, point_name, multi_polygon_name, multi_line_string_name, multi_point_name, eight_stand}
+use Rattle.wkt_machine.proofs.ByteSteps.{collection_name, line_string_name, polygon_name, point_name, multi_polygon_name, multi_line_string_name, multi_point_name, eight_stand}
 use Rattle.wkt_machine.proofs.heads.head.Goals as goal
 
 pub named-requires : goal.named-requires

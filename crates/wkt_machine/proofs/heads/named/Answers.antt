@@ -1,7 +1,7 @@
 -- The word stands there, and the parenthesis behind it.
 use Rattle.std.proofs.Common.{sym, ap, ◌∙◌, arith, take}
 use Rattle.std.proofs.lemmas.List.{take_rest}
-use Rattle.wkt_machine.proofs.HeadSteps.{head_stands}
+use Rattle.wkt_machine.proofs.ByteSteps.{head_stands}
 use Rattle.wkt_machine.proofs.heads.named.Goals as goal
 
 pub returns-in-Some : goal.returns-in-Some

@@ -1,8 +1,8 @@
 -- The kind word and the parenthesis are two lexemes.
 use Rattle.std.proofs.Common.{sym, subst, arith, ◌+◌, ap, ◌∙◌}
 use Rattle.std.specs.Prelude.{not, ◌==◌}
-use Rattle.wkt_machine.specs.HeadBytes.{StandsHead}
-use Rattle.wkt_machine.proofs.HeadSteps.{head_goes}
+use Rattle.wkt_machine.specs.LexemesAhead.{StandsHead}
+use Rattle.wkt_machine.proofs.ByteSteps.{head_goes}
 use Rattle.wkt_machine.proofs.SourceRooms.{head_fits, head_after}
 use Rattle.wkt_machine.specs.Room.{header_cost, owed, HasRoom}
 use Rattle.wkt_machine.specs.BytesView.{bytes_view}

@@ -1,5 +1,5 @@
 -- A parenthesis, or a space before one.
-use Rattle.wkt_machine.proofs.HeadSteps.{ends_open, ends_spaced}
+use Rattle.wkt_machine.proofs.ByteSteps.{ends_open, ends_spaced}
 use Rattle.wkt_machine.proofs.heads.opens_behind.Goals as goal
 
 pub returns-then-text-at-eq40 : goal.returns-then-text-at-eq40

@@ -2,7 +2,7 @@
 use Rattle.std.proofs.Common.{sym, ap, ◌∙◌, arith, codes, take}
 use Rattle.std.proofs.lemmas.List.{take_rest}
 use Rattle.wkt_machine.specs.declared.part.Part.TheVariants as part
-use Rattle.wkt_machine.proofs.HeadSteps.{point_name, stands_if}
+use Rattle.wkt_machine.proofs.ByteSteps.{point_name, stands_if}
 use Rattle.wkt_machine.proofs.heads.point_head.Goals as goal
 
 pub returns : goal.returns

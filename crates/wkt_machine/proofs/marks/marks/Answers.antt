@@ -8,8 +8,8 @@ use Rattle.wkt_machine.specs.Leads.{Leads}
 use Rattle.wkt_machine.specs.Makers.{Maker}
 use Rattle.wkt_machine.specs.View.{View}
 use Rattle.wkt_machine.specs.declared.machine.Machine.{Machine}
-use Rattle.wkt_machine.proofs.Depths.{goes_room}
-use Rattle.wkt_machine.proofs.EmptyWays.{leads_none, leads_goes, leads_ok, leads_refused, goes_leads}
+use Rattle.wkt_machine.proofs.WholeRuns.{goes_room}
+use Rattle.wkt_machine.proofs.WaysJoin.{leads_none, leads_goes, leads_ok, leads_refused, goes_leads}
 use Rattle.wkt_machine.proofs.Stepping.{from_goes}
 use Rattle.wkt_machine.proofs.marks.marks.Goals as goal
 

@@ -5,10 +5,9 @@ use Rattle.wkt_num.specs.Bytes.{Lexeme}
 use Rattle.wkt_read.specs.Table.{closings}
 use Rattle.wkt_read.specs.declared.messages.Message.{Message}
 use Rattle.wkt_events.specs.Remaining.{remaining}
-use Rattle.wkt_machine.specs.Expecting.{expected_at}
+use Rattle.wkt_machine.specs.Refusing.{expected_at, blamed, own, refused}
 use Rattle.wkt_machine.specs.Machines.{state_of}
-use Rattle.wkt_machine.specs.Refusing.{blamed, own, refused}
-use Rattle.wkt_machine.proofs.Refusing.{closings_more}
+use Rattle.wkt_machine.proofs.Reading.{closings_more}
 use Rattle.wkt_machine.proofs.message.message_outlined.Goals as goal
 
 pub returns : goal.returns

@@ -1,6 +1,6 @@
 -- A NUL stands behind the bytes.
 use Rattle.std.proofs.Common.{length, ap}
-use Rattle.wkt_machine.proofs.Shown.{nul-behind}
+use Rattle.wkt_machine.proofs.ByteViews.{nul-behind}
 use Rattle.wkt_machine.proofs.numbers.pad.Goals as goal
 
 pub returns-clause-nul : goal.returns-clause-nul

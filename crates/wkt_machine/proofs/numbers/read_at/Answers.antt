@@ -1,5 +1,5 @@
 -- The number that the window shows stands there.
-use Rattle.wkt_machine.proofs.Shown.{shown-there}
+use Rattle.wkt_machine.proofs.ByteViews.{shown-there}
 use Rattle.wkt_machine.proofs.numbers.read_at.Goals as goal
 
 pub returns-in-Some-clause-some : goal.returns-in-Some-clause-some

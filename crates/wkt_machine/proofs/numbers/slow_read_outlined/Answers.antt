@@ -1,7 +1,7 @@
 -- The number that the window shows stands there.
 use Rattle.std.proofs.Common.{arith, length, length-drop, ◌-◌, take, drop}
 use Rattle.std.proofs.lemmas.List.{length-take-le}
-use Rattle.wkt_machine.proofs.Shown.{padded-shows, shown-there, zero-at}
+use Rattle.wkt_machine.proofs.ByteViews.{padded-shows, shown-there, zero-at}
 use Rattle.wkt_machine.proofs.numbers.slow_read_outlined.Goals as goal
 
 pub pad-requires-clause-zeros : goal.pad-requires-clause-zeros

@@ -1,5 +1,5 @@
 -- A number that is read from its first bytes is the lexeme that comes next.
-use Rattle.wkt_machine.proofs.FastPoints.{number-fast}
+use Rattle.wkt_machine.proofs.ByteSteps.{number-fast}
 use Rattle.wkt_machine.proofs.points.fast_number.Goals as goal
 
 pub returns-in-Some : goal.returns-in-Some

@@ -1,5 +1,5 @@
 -- The head, two numbers and a parenthesis stand there.
-use Rattle.wkt_machine.proofs.FastPoints.{point-held, shuts}
+use Rattle.wkt_machine.proofs.ByteSteps.{point-held, shuts}
 use Rattle.wkt_machine.proofs.points.fast_point.Goals as goal
 
 pub returns : goal.returns

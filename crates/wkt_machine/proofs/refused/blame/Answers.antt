@@ -4,11 +4,10 @@ use Rattle.wkt_read.specs.Ahead.{remaining, rest, Advances}
 use Rattle.wkt_read.specs.Parser.Walks.{TakesNext}
 use Rattle.wkt_read.specs.Standing.{Standing}
 use Rattle.wkt_read.specs.Tokenizer.Unread.{found}
-use Rattle.wkt_machine.specs.Expecting.{expected_at}
+use Rattle.wkt_machine.specs.Refusing.{expected_at, blamed}
 use Rattle.wkt_machine.specs.Machines.{state_of}
-use Rattle.wkt_machine.specs.Refusing.{blamed}
-use Rattle.wkt_machine.proofs.BadNumbers.{blames_first}
-use Rattle.wkt_machine.proofs.Refusing.{advances_then, advances_none, advances_one, blames_taken, blames_stays}
+use Rattle.wkt_machine.proofs.NextLexeme.{blames_first}
+use Rattle.wkt_machine.proofs.Reading.{advances_then, advances_none, advances_one, blames_taken, blames_stays}
 use Rattle.wkt_machine.proofs.refused.blame.Goals as goal
 use Rattle.wkt_machine.proofs.refused.blame.Goals.{then-not-stays, else-not-stays}
 

@@ -2,7 +2,7 @@
 use Rattle.std.proofs.Common.{◌-◌, ◌∙◌, arith}
 use Rattle.wkt_read.specs.Ahead.{rest}
 use Rattle.wkt_read.specs.Tokenizer.Unread.{found}
-use Rattle.wkt_machine.proofs.Refusing.{advances_then, advances_one, closes_one, first_taken}
+use Rattle.wkt_machine.proofs.Reading.{advances_then, advances_one, closes_one, first_taken}
 use Rattle.wkt_machine.proofs.refused.close_outlined.Goals as goal
 
 pub parens-preserved : goal.parens-preserved

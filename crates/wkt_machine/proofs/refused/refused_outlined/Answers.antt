@@ -5,10 +5,9 @@ use Rattle.std.specs.Prelude.{List}
 use Rattle.wkt_read.specs.Ahead.{rest}
 use Rattle.wkt_read.specs.declared.messages.Message.{Message}
 use Rattle.wkt_read.specs.Table.{closings}
-use Rattle.wkt_machine.specs.Expecting.{expected_at}
+use Rattle.wkt_machine.specs.Refusing.{expected_at, blamed, own}
 use Rattle.wkt_machine.specs.Machines.{state_of}
-use Rattle.wkt_machine.specs.Refusing.{blamed, own}
-use Rattle.wkt_machine.proofs.Refusing.{advances_then, closings_more}
+use Rattle.wkt_machine.proofs.Reading.{advances_then, closings_more}
 use Rattle.wkt_machine.proofs.refused.refused_outlined.Goals as goal
 
 pub returns-clause-message : goal.returns-clause-message

@@ -3,14 +3,13 @@ use Rattle.std.proofs.Common.{ap, sym, ◌∙◌, refl, subst}
 use Rattle.std.specs.Bool.{OnFalse}
 use Rattle.wkt_read.specs.Ahead.{remaining, first_of}
 use Rattle.wkt_machine.specs.Room.{RoomAt}
-use Rattle.wkt_machine.specs.Sight.{sight}
+use Rattle.wkt_machine.specs.View.{sight}
 use Rattle.wkt_machine.specs.TokensView.{NoKind, seen_found, tokens_view}
 use Rattle.wkt_machine.specs.declared.machine.State.TheVariants as next
 use Rattle.wkt_machine.proofs.RoomForRest.{kind_room, no_room}
 use Rattle.wkt_machine.proofs.SourceRooms.{looks_room}
 use Rattle.wkt_machine.proofs.Stepping.{put_back, is_err, kind_none}
-use Rattle.wkt_machine.proofs.TokenSteps.{there_in, stays_ok, stays_err}
-use Rattle.wkt_machine.proofs.TokenViews.{sees_first}
+use Rattle.wkt_machine.proofs.TokenSteps.{there_in, stays_ok, stays_err, sees_first}
 use Rattle.wkt_machine.proofs.tokens.kindless.Goals as goal
 
 pub step-requires-clause-room : goal.step-requires-clause-room

@@ -1,8 +1,8 @@
 -- What has grown where the machine is over, or where it is refused.
 use Rattle.std.proofs.Common.{[], None, refl}
-use Rattle.wkt_machine.specs.Growers.{tree_maker, tree_of}
+use Rattle.wkt_machine.specs.Trees.{tree_maker, tree_of}
 use Rattle.wkt_machine.specs.Growing.{rest}
-use Rattle.wkt_machine.proofs.Valued.{lent, taken, read_off, wants_memory, never_refused}
+use Rattle.wkt_machine.proofs.FrontValues.{lent, taken, read_off, wants_memory, never_refused}
 use Rattle.wkt_machine.proofs.RoomForRest.{free_room}
 use Rattle.wkt_machine.proofs.value.read.Goals as goal
 

@@ -1,7 +1,7 @@
 -- A digit more stands before those that are put, down to the first.
 use Rattle.std.proofs.Common.{◌∙◌, ◌+◌, ◌-◌, ◌/◌, ◌++◌, ◌<◌, ◌^◌, drop, set, ℕ, List, ap, arith, length-set}
 use Rattle.std.specs.Fmt.{decimal}
-use Rattle.wkt_num.proofs.DigitsLastFirst.{put-more, put-first, fewer}
+use Rattle.wkt_num.proofs.Printed.{put-more, put-first, fewer}
 use Rattle.wkt_num.proofs.digits.put_short.Goals as goal
 
 pub loop-rest-preserved : goal.loop-rest-preserved

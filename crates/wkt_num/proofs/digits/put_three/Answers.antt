@@ -1,7 +1,7 @@
 -- One, two or three digits, by where the first of them is that isn't zero.
 use Rattle.std.proofs.Common.{◌≡◌, ◌*◌, ◌/◌, ◌++◌, ℕ, drop, set, length, refl, arith, length-set}
 use Rattle.std.specs.Fmt.{decimal}
-use Rattle.wkt_num.proofs.DigitsLastFirst.{put-first, put-next, tenth, hundredth}
+use Rattle.wkt_num.proofs.Printed.{put-first, put-next, tenth, hundredth}
 use Rattle.wkt_num.proofs.digits.put_three.Goals as goal
 
 pub returns-then-tens-eq0-clause-value : goal.returns-then-tens-eq0-clause-value

@@ -2,7 +2,7 @@
 use Rattle.std.proofs.Common.{subst, sym, refl, arith}
 use Rattle.std.specs.Str.{IsUtf8}
 use Rattle.std.proofs.lemmas.Str.{IsUtf8-from_ascii}
-use Rattle.wkt_num.proofs.ArrayPiece.{whole-piece, whole-ascii}
+use Rattle.wkt_num.proofs.Printed.{whole-piece, whole-ascii}
 use Rattle.wkt_num.proofs.digits.write_whole.Goals as goal
 
 pub from_utf8_unchecked-requires : goal.from_utf8_unchecked-requires

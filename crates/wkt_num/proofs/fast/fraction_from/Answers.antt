@@ -1,6 +1,6 @@
 -- Digits that are read at once are those that are read one after the other.
 use Rattle.std.proofs.Common.{arith}
-use Rattle.wkt_num.proofs.DigitsAtOnce.{at-once}
+use Rattle.wkt_num.proofs.DecimalParts.{at-once}
 use Rattle.wkt_num.proofs.fast.fraction_from.Goals as goal
 
 pub overflow_mul-result : goal.overflow_mul-result

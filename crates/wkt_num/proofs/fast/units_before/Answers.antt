@@ -1,7 +1,7 @@
 -- A number of few digits is read as its units.
 use Rattle.std.proofs.Common.{◌+◌, slice_range, ap, ◌∙◌, arith, rules}
 use Rattle.std.specs.Str.Parse.{digits_value_after}
-use Rattle.wkt_num.proofs.FastUnits.{whole-fits, whole-units, fraction-fits, fraction-units, held}
+use Rattle.wkt_num.proofs.NumberInWindow.{whole-fits, whole-units, fraction-fits, fraction-units, held}
 use Rattle.wkt_num.proofs.fast.units_before.Goals as goal
 
 pub scaled-requires : goal.scaled-requires

@@ -1,6 +1,6 @@
 -- The text ends with the last digit that isn't zero, or before the point; a minus goes with the last zero.
 use Rattle.std.proofs.Common.{◌<◌, ◌+◌, subst, arith}
-use Rattle.wkt_num.specs.Parts.{HasZeros}
+use Rattle.wkt_num.specs.DigitParts.{HasZeros}
 use Rattle.wkt_num.proofs.DecimalParts.{keeps-point, keeps-fraction}
 use Rattle.wkt_num.proofs.FoundDecimal.{no-zeros, found-end}
 use Rattle.wkt_num.proofs.kept.kept_fraction.Goals as goal

@@ -1,7 +1,7 @@
 -- The whole number ends where its digits do.
 use Rattle.std.proofs.Common.{◌≡◌, ℕ, Some, get_or, ap, sym, subst, arith}
 use Rattle.wkt_num.specs.Bytes.{class_of, Run}
-use Rattle.wkt_num.specs.Parts.{IsPrinted}
+use Rattle.wkt_num.specs.DigitParts.{IsPrinted}
 use Rattle.wkt_num.proofs.FirstTextFound.{whole-end, whole-ends, whole-printed}
 use Rattle.wkt_num.proofs.kept_whole.end_in_window.Goals as goal
 use Rattle.wkt_num.proofs.kept_whole.end_in_window.Goals.{then-not-is_printed-via-then-not-is_printed, then-not-is_printed-via-else-not-is_printed+then-is_of_run}

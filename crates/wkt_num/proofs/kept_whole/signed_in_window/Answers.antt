@@ -1,7 +1,7 @@
 -- The whole number keeps its text, and is found.
 use Rattle.std.proofs.Common.{length}
 use Rattle.std.specs.Fmt.{signed_decimal}
-use Rattle.wkt_num.proofs.WholeKept.{keeps-signed}
+use Rattle.wkt_num.proofs.WindowDigits.{keeps-signed}
 use Rattle.wkt_num.proofs.FirstTextFound.{signed-text, found-both, found-none}
 use Rattle.wkt_num.proofs.kept_whole.signed_in_window.Goals as goal
 

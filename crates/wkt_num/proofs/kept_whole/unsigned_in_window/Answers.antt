@@ -1,7 +1,7 @@
 -- The whole number keeps its text, and is found.
 use Rattle.std.proofs.Common.{length}
 use Rattle.std.specs.Fmt.{decimal}
-use Rattle.wkt_num.proofs.WholeKept.{keeps-unsigned}
+use Rattle.wkt_num.proofs.WindowDigits.{keeps-unsigned}
 use Rattle.wkt_num.proofs.FirstTextFound.{unsigned-text, unsigned-first, found-both, found-none}
 use Rattle.wkt_num.proofs.kept_whole.unsigned_in_window.Goals as goal
 

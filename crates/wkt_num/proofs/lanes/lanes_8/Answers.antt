@@ -1,6 +1,6 @@
 -- The lanes are the last bytes of the body, each less 48.
 use Rattle.std.proofs.Common.{◌+◌, arith}
-use Rattle.wkt_num.proofs.Vectors.{kept, lanes-are}
+use Rattle.wkt_num.proofs.DigitLanes.{kept, lanes-are}
 use Rattle.wkt_num.proofs.lanes.lanes_8.Goals as goal
 
 pub returns : goal.returns

@@ -1,6 +1,6 @@
 -- No lane is past 9 exactly if all bytes are digits, whose value the lanes have then.
 use Rattle.std.proofs.Common.{◌∙◌, arith}
-use Rattle.wkt_num.proofs.Vectors.{last-digits, last-value}
+use Rattle.wkt_num.proofs.DigitLanes.{last-digits, last-value}
 use Rattle.wkt_num.proofs.lanes.last_16.Goals as goal
 
 pub returns-clause-digits : goal.returns-clause-digits

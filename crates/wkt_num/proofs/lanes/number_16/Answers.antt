@@ -1,6 +1,6 @@
 -- Pairs, fours and eights of digits make the number of sixteen.
 use Rattle.std.proofs.Common.{sym, ap, ◌∙◌}
-use Rattle.wkt_num.proofs.Vectors.{pairs-of, quads, joined, no-more}
+use Rattle.wkt_num.proofs.DigitLanes.{pairs-of, quads, joined, no-more}
 use Rattle.wkt_num.proofs.lanes.number_16.Goals as goal
 
 pub eight-requires : goal.eight-requires

@@ -1,6 +1,6 @@
 -- Pairs and fours of digits make the number of eight.
 use Rattle.std.proofs.Common.{sym, ap₂, ◌+◌, ◌*◌, ℕ, ◌∙◌}
-use Rattle.wkt_num.proofs.Vectors.{pairs-of, fours-are, alone, no-more}
+use Rattle.wkt_num.proofs.DigitLanes.{pairs-of, fours-are, alone, no-more}
 use Rattle.wkt_num.proofs.lanes.number_8.Goals as goal
 
 pub returns : goal.returns

@@ -2,7 +2,7 @@
 use Rattle.std.proofs.Common.{◌^◌, ◌==◌, slice_index_or, refl, arith}
 use borrow.Author.Tests.{eqb-true}
 use Rattle.wkt_num.specs.declared.powers.TheConstants.{FIVES}
-use Rattle.wkt_num.proofs.Table.{below-all}
+use Rattle.wkt_num.proofs.WindowDigits.{below-all}
 use Rattle.wkt_num.proofs.powers.five_to.Goals as goal
 
 pub returns : goal.returns

@@ -1,6 +1,6 @@
 -- Digit after digit is put until nothing of the fraction is left.
 use Rattle.std.proofs.Common.{arith}
-use Rattle.wkt_num.proofs.Scaled.{starts, puts, ends}
+use Rattle.wkt_num.proofs.Scan.{starts, puts, ends}
 use Rattle.wkt_num.proofs.Printed.{ten-fits, next-fits}
 use Rattle.wkt_num.proofs.printing.put_long.Goals as goal
 

@@ -1,6 +1,6 @@
 use Rattle.std.proofs.Common.{◌-◌, ◌++◌, take}
 use Rattle.wkt_num.specs.Decimal.{fraction_digits}
-use Rattle.wkt_num.proofs.Scaled.{Keeps}
+use Rattle.wkt_num.proofs.Scan.{Keeps}
 use Rattle.wkt_num.proofs.printing.put_long.Given as goal
 
 abbrev pub invariant-loop-rest : goal.invariant-loop-rest

@@ -1,6 +1,6 @@
 -- The fraction, padded to eighteen places, stands behind the point, and its last zeros are cut.
 use Rattle.std.proofs.Common.{◌∙◌, ◌++◌, ◌*◌, ◌/◌, ◌≤◌, ◌≡◌, length, take, refl, ap, arith}
-use Rattle.wkt_num.proofs.Padded.{length-padded}
+use Rattle.wkt_num.proofs.Printed.{length-padded}
 use Rattle.wkt_num.proofs.EighteenPlaces.{small, scaled, put, all, whole-ends, whole-long, copied, copied-there, copied-long}
 use Rattle.wkt_num.proofs.printing.put_short.Goals as goal
 

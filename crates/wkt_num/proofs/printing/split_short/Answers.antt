@@ -1,7 +1,7 @@
 -- Shifting by the places and dividing by the power of five splits as dividing by the power of ten does.
 use Rattle.std.proofs.Common.{◌/◌, ◌^◌, ◌∙◌, ap, arith}
 use Rattle.std.proofs.Math.Nat.{one-le-pow, mod-lt, pow-le-pow_right}
-use Rattle.wkt_num.specs.Units.{ten_pos}
+use Rattle.wkt_num.specs.DecimalLaws.{ten_pos}
 use Rattle.wkt_num.proofs.Printed.{whole-is, fraction-is}
 use Rattle.wkt_num.proofs.printing.split_short.Goals as goal
 

@@ -1,6 +1,6 @@
 -- The power of ten fits 128 bits and isn't zero.
 use Rattle.std.proofs.Common.{arith}
-use Rattle.wkt_num.specs.Units.{ten_pos}
+use Rattle.wkt_num.specs.DecimalLaws.{ten_pos}
 use Rattle.wkt_num.proofs.Printed.{ten-fits}
 use Rattle.wkt_num.proofs.printing.split_units.Goals as goal
 

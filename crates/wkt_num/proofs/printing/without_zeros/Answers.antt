@@ -1,6 +1,6 @@
 -- The bytes behind the loop's place are zeros, which are cut.
 use Rattle.std.proofs.Common.{arith}
-use Rattle.wkt_num.proofs.Padded.{kept-step, kept-end, kept-all}
+use Rattle.wkt_num.proofs.Printed.{kept-step, kept-end, kept-all}
 use Rattle.wkt_num.proofs.printing.without_zeros.Goals as goal
 
 pub loop-at-init : goal.loop-at-init

@@ -1,4 +1,4 @@
-use Rattle.wkt_num.proofs.Padded.{Trims}
+use Rattle.wkt_num.proofs.Printed.{Trims}
 use Rattle.wkt_num.proofs.printing.without_zeros.Given as goal
 
 abbrev pub invariant-loop-at : goal.invariant-loop-at

@@ -1,6 +1,6 @@
 -- One digit more still fits, since the digits so far are few.
 use Rattle.std.proofs.Common.{◌≤◌, get_or, sym, ◌∙◌, arith}
-use Rattle.wkt_num.proofs.Short.{digit-small, digits-more, fits-more, fits-within}
+use Rattle.wkt_num.proofs.TextInsideText.{digit-small, digits-more, fits-more, fits-within}
 use Rattle.wkt_num.proofs.reading.digits_from.Goals as goal
 
 pub overflow_mul-all : goal.overflow_mul-all

@@ -1,7 +1,7 @@
 -- The whole part, the fraction and its last zeros make the units of the body.
 use Rattle.std.proofs.Common.{◌≡◌, ◌+◌, ◌*◌, ◌-◌, ◌<◌, ◌≤◌, ◌^◌, ℕ, List, drop, length, sym, ap, subst, ◌∙◌, arith, length-drop}
 use Rattle.std.specs.Str.Parse.{AllDigits, digits_value}
-use Rattle.wkt_num.proofs.Short.{near-fraction, near-whole, near-tail, near-body}
+use Rattle.wkt_num.proofs.TextInsideText.{near-fraction, near-whole, near-tail, near-body}
 use Rattle.wkt_num.proofs.reading.fast_read.Goals as goal
 
 -- the whole part ends in the body

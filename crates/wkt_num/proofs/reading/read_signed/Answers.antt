@@ -1,6 +1,6 @@
 -- A magnitude that was read is small enough for its sign.
 use Rattle.std.proofs.Common.{◌^◌}
-use Rattle.wkt_num.specs.ReadDecimal.{magnitude-small}
+use Rattle.wkt_num.specs.DecimalLaws.{magnitude-small}
 use Rattle.wkt_num.proofs.reading.read_signed.Goals as goal
 
 pub with_sign-requires : goal.with_sign-requires

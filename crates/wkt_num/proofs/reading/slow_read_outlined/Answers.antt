@@ -1,8 +1,8 @@
 -- A body whose last byte is no digit and no point stands for nothing, and a magnitude that was read is small enough for its sign.
 use Rattle.std.proofs.Common.{◌-◌, ◌^◌, length, sym, ◌∙◌, arith}
 use borrow.Author.Tests.{eqb-true, eqb-false}
-use Rattle.wkt_num.specs.ReadDecimal.{magnitude-small}
-use Rattle.wkt_num.proofs.Ends.{none-at, none-of-none, signed-none}
+use Rattle.wkt_num.specs.DecimalLaws.{magnitude-small}
+use Rattle.wkt_num.proofs.ReadNumbers.{none-at, none-of-none, signed-none}
 use Rattle.wkt_num.proofs.reading.slow_read_outlined.Goals as goal
 use Rattle.wkt_num.proofs.reading.slow_read_outlined.Goals.{then-is_empty-via-then-is_empty, then-is_empty-via-else-is_empty+then-not-may_end}
 

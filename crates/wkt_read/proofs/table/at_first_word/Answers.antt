@@ -1,6 +1,6 @@
 -- The message says whether the word has only ASCII.
 use Rattle.std.proofs.Common.{refl}
-use Rattle.wkt_read.proofs.ParserLemmas.Ascii.{all_ascii, not_ascii}
+use Rattle.wkt_read.proofs.ParserLemmas.Answering.{all_ascii, not_ascii}
 use Rattle.wkt_read.proofs.table.at_first_word.Goals as goal
 
 pub returns-then-is_ascii : goal.returns-then-is_ascii

@@ -2,7 +2,7 @@ use Rattle.std.proofs.Common.{◌≡◌, ◌+◌, ◌*◌, map}
 use Rattle.wkt_types.specs.Canonical.{canonical}
 use Rattle.wkt_types.specs.Tree.{tree}
 use Rattle.wkt_types.specs.Weight.{weight, weights}
-use Rattle.wkt_types.proofs.InPlace.{replaced}
+use Rattle.wkt_types.proofs.TreeLemmas.{replaced}
 use Rattle.wkt_types.proofs.canonical.+canonical.Given as goal
 
 abbrev pub decreases-canonical_members : goal.decreases-canonical_members

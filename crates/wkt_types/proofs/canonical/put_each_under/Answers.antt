@@ -1,6 +1,6 @@
 -- One part more is put under the header, and the others are as they were.
 use Rattle.std.proofs.Common.{sym, ap, ◌∙◌, arith, length}
-use Rattle.wkt_types.proofs.InPlace.{replaced_next, length_same}
+use Rattle.wkt_types.proofs.TreeLemmas.{replaced_next, length_same}
 use Rattle.wkt_types.proofs.canonical.put_each_under.Goals as goal
 
 pub loop-part-preserved : goal.loop-part-preserved

@@ -1,5 +1,5 @@
 use Rattle.std.proofs.Common.{◌≡◌}
-use Rattle.wkt_types.proofs.InPlace.{replaced}
+use Rattle.wkt_types.proofs.TreeLemmas.{replaced}
 use Rattle.wkt_types.proofs.canonical.put_each_under.Given as goal
 
 abbrev pub invariant-loop-part : goal.invariant-loop-part

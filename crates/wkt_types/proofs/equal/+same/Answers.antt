@@ -1,5 +1,5 @@
 -- As far as the loop has come, the members are equal.
-use Rattle.wkt_flat.proofs.Compared.{stopped, went_on, ended}
+use Rattle.wkt_flat.proofs.TreeLemmas.{stopped, went_on, ended}
 use Rattle.wkt_types.proofs.TreeLemmas.{itemwise}
 use Rattle.wkt_types.proofs.equal.+same.Goals as goal
 

@@ -1,4 +1,4 @@
-use Rattle.wkt_flat.proofs.Compared.{AreAlikeTo}
+use Rattle.wkt_flat.proofs.TreeLemmas.{AreAlikeTo}
 use Rattle.wkt_types.specs.Tree.{members}
 use Rattle.wkt_types.specs.Trees.{trees_eq}
 use Rattle.wkt_types.proofs.equal.+same.Given as goal

@@ -1,6 +1,6 @@
 -- The copy of a collection has the same tree.
 use Rattle.std.proofs.Common.{ap, ◌∙◌}
-use Rattle.wkt_flat.proofs.Copied.{copied-in}
+use Rattle.wkt_flat.proofs.TreeLemmas.{copied-in}
 use Rattle.wkt_types.specs.Tree.{tree, trees_of, collection}
 use Rattle.wkt_types.proofs.TreeLemmas.{tree-collection, tree-members}
 use Rattle.wkt_types.proofs.geometry.+copy.Goals as goal

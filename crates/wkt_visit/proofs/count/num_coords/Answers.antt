@@ -1,6 +1,6 @@
 -- Each visit counts one, so the count is that of the coordinates.
 use Rattle.std.proofs.Common.{refl}
-use Rattle.wkt_visit.proofs.Counting.{counted}
+use Rattle.wkt_visit.proofs.Visiting.{counted}
 use Rattle.wkt_visit.proofs.count.num_coords.Goals as goal
 
 pub returns : goal.returns

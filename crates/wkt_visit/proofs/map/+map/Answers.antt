@@ -3,7 +3,7 @@ use Rattle.std.proofs.Common.{ap, sym, ◌∙◌, map}
 use Rattle.wkt_flat.specs.Tree.{Flat, flat_tree, flats_of}
 use Rattle.wkt_flat.proofs.TreeLemmas.{flat-point, flat-line, flat-line_string, flat-polygon, flat-multi_point, flat-multi_line_string, flat-multi_polygon, flat-rect, flat-triangle, flat-collection, flat-members}
 use Rattle.wkt_visit.specs.Mapped.{mapped, each_mapped, point_mapped, rings_mapped}
-use Rattle.wkt_visit.proofs.Mapping.{members_mapped, next_mapped, tree_mapped}
+use Rattle.wkt_visit.proofs.Visiting.{members_mapped, next_mapped, tree_mapped}
 use Rattle.wkt_visit.proofs.map.+map.Goals as goal
 
 pub map_collection-returns : goal.map_collection-returns

@@ -1,5 +1,5 @@
 -- The coordinates so far are mapped, in order.
-use Rattle.wkt_flat.proofs.Members.{grown}
+use Rattle.wkt_flat.proofs.TreeLemmas.{grown}
 use Rattle.wkt_visit.proofs.map.map_each.Goals as goal
 
 pub loop-coord-preserved : goal.loop-coord-preserved

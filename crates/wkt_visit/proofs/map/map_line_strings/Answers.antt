@@ -1,6 +1,6 @@
 -- The line strings so far are mapped, in order.
 use Rattle.std.proofs.Common.{map}
-use Rattle.wkt_flat.proofs.Members.{grown}
+use Rattle.wkt_flat.proofs.TreeLemmas.{grown}
 use Rattle.wkt_visit.proofs.map.map_line_strings.Goals as goal
 
 pub loop-line_string-preserved : goal.loop-line_string-preserved

@@ -1,6 +1,6 @@
 -- The points so far are mapped, in order.
 use Rattle.wkt_visit.specs.Mapped.{point_mapped}
-use Rattle.wkt_flat.proofs.Members.{grown}
+use Rattle.wkt_flat.proofs.TreeLemmas.{grown}
 use Rattle.wkt_visit.proofs.map.map_points.Goals as goal
 
 pub loop-point-preserved : goal.loop-point-preserved

@@ -4,7 +4,7 @@ use Rattle.std.specs.List.{AllByRecursion}
 use Rattle.wkt_flat.specs.Equal.{coord_eq, coord_exact}
 use Rattle.wkt_flat.specs.Exact.{exact_by}
 use Rattle.wkt_flat.specs.Rings.{IsClosed}
-use Rattle.wkt_visit.proofs.Mapping.{polygon_mapped, if_ok}
+use Rattle.wkt_visit.proofs.Visiting.{polygon_mapped, if_ok}
 use Rattle.wkt_visit.proofs.map.map_polygon.Goals as goal
 
 pub returns : goal.returns

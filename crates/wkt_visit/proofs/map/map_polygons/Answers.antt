@@ -1,6 +1,6 @@
 -- The polygons so far are mapped, in order.
 use Rattle.wkt_visit.specs.Mapped.{rings_mapped}
-use Rattle.wkt_flat.proofs.Members.{grown}
+use Rattle.wkt_flat.proofs.TreeLemmas.{grown}
 use Rattle.wkt_visit.proofs.map.map_polygons.Goals as goal
 
 pub loop-polygon-preserved : goal.loop-polygon-preserved

@@ -1,7 +1,7 @@
 -- The first members have no error, or the next one has the first.
 use Rattle.std.proofs.Common.{rules, ◌<◌, ◌∙◌}
 use Rattle.std.proofs.lemmas.Result.{err_from_is_err_and}
-use Rattle.wkt_write.proofs.Depth.{depth, member_below}
+use Rattle.wkt_write.proofs.Writable.{depth, member_below}
 use Rattle.wkt_write.proofs.FirstErrors.{clean_start, clean_more, clean_fault, clean_end}
 use Rattle.wkt_write.proofs.Members.{collection_refused, collection_checked, collection_known, members_counted}
 use Rattle.wkt_write.proofs.check.+geometries.Goals as goal

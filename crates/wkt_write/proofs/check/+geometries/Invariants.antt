@@ -1,6 +1,6 @@
 use Rattle.std.proofs.Common.{◌*◌, ◌+◌}
 use Rattle.wkt_write.proofs.FirstErrors.{Clean}
-use Rattle.wkt_write.proofs.Depth.{depth}
+use Rattle.wkt_write.proofs.Writable.{depth}
 use Rattle.wkt_access.specs.Faults.{fault}
 use Rattle.wkt_write.specs.Known.{Known}
 use Rattle.wkt_access.specs.Parts.{members_of}

@@ -1,7 +1,7 @@
 -- The body is the items in parentheses, or EMPTY.
 use Rattle.wkt_num.proofs.SinkCalls.{puts_err}
 use Rattle.wkt_write.proofs.Bracketed.{bracket_broken_opening, bracket_broken_items, bracket_adds}
-use Rattle.wkt_write.proofs.Lists.{none_counted}
+use Rattle.wkt_write.proofs.FirstErrors.{none_counted}
 use Rattle.wkt_write.proofs.items.put_body.Goals as goal
 
 pub returns-in_err-put_opening : goal.returns-in_err-put_opening

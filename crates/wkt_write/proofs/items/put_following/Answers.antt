@@ -1,5 +1,5 @@
 -- The first items are written, with a comma before each.
-use Rattle.wkt_write.proofs.Listing.{following_more_at}
+use Rattle.wkt_write.proofs.FirstErrors.{following_more_at}
 use Rattle.wkt_write.proofs.items.put_following.Goals as goal
 
 pub loop-i-preserved : goal.loop-i-preserved

@@ -1,5 +1,5 @@
 use Rattle.std.specs.Prelude.{codes}
-use Rattle.wkt_write.proofs.Listing.{Following}
+use Rattle.wkt_write.proofs.FirstErrors.{Following}
 use Rattle.wkt_write.proofs.items.put_following.Given as goal
 
 abbrev pub invariant-loop-i : goal.invariant-loop-i

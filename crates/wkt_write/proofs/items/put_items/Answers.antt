@@ -1,5 +1,5 @@
 -- The first items are written, with commas between them.
-use Rattle.wkt_write.proofs.Listing.{listing_start, listing_more_at}
+use Rattle.wkt_write.proofs.FirstErrors.{listing_start, listing_more_at}
 use Rattle.wkt_write.proofs.items.put_items.Goals as goal
 
 pub loop-i-init : goal.loop-i-init

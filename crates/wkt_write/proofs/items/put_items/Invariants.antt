@@ -1,5 +1,5 @@
 use Rattle.std.specs.Prelude.{codes}
-use Rattle.wkt_write.proofs.Listing.{Listing}
+use Rattle.wkt_write.proofs.FirstErrors.{Listing}
 use Rattle.wkt_write.proofs.items.put_items.Given as goal
 
 abbrev pub invariant-loop-i : goal.invariant-loop-i

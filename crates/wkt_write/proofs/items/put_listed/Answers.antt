@@ -1,7 +1,7 @@
 -- A header and the body of its items.
 use Rattle.wkt_num.proofs.SinkCalls.{puts_err}
-use Rattle.wkt_write.proofs.Headed.{headed_broken, headed_adds}
-use Rattle.wkt_write.proofs.Lists.{none_counted}
+use Rattle.wkt_write.proofs.Bracketed.{headed_broken, headed_adds}
+use Rattle.wkt_write.proofs.FirstErrors.{none_counted}
 use Rattle.wkt_write.proofs.items.put_listed.Goals as goal
 
 pub returns-in_err-put_header : goal.returns-in_err-put_header

@@ -1,8 +1,8 @@
 -- The first members of a collection are written, behind its header.
 use Rattle.std.proofs.Common.{rules, ◌≡◌, ◌<◌, None}
-use Rattle.wkt_write.proofs.Collected.{broken_header, broken_opening, broken_members, whole}
-use Rattle.wkt_write.proofs.Depth.{depth, member_below}
-use Rattle.wkt_write.proofs.Listing.{listing_broken_before, listing_broken, listing_start, listing_more, listing_end}
+use Rattle.wkt_write.proofs.Bracketed.{broken_header, broken_opening, broken_members, whole}
+use Rattle.wkt_write.proofs.Writable.{depth, member_below}
+use Rattle.wkt_write.proofs.FirstErrors.{listing_broken_before, listing_broken, listing_start, listing_more, listing_end}
 use Rattle.wkt_write.proofs.Members.{member_clean, members_counted}
 use Rattle.wkt_num.proofs.SinkCalls.{puts_err}
 use Rattle.wkt_access.specs.Faults.{fault}

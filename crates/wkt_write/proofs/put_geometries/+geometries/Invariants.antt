@@ -1,7 +1,7 @@
 use Rattle.std.proofs.Common.{◌*◌, ◌+◌}
 use Rattle.std.specs.Prelude.{codes}
-use Rattle.wkt_write.proofs.Depth.{depth}
-use Rattle.wkt_write.proofs.Listing.{Listing}
+use Rattle.wkt_write.proofs.Writable.{depth}
+use Rattle.wkt_write.proofs.FirstErrors.{Listing}
 use Rattle.wkt_access.specs.Parts.{members_of}
 use Rattle.wkt_access.specs.Texts.{shape_text}
 use Rattle.wkt_write.proofs.put_geometries.+geometries.Given as goal

@@ -1,7 +1,6 @@
 -- The first numbers are written, with spaces between them.
 use Rattle.wkt_num.proofs.SinkCalls.{puts_err}
-use Rattle.wkt_write.proofs.Listing.{listing_start, listing_more, listing_broken_before, listing_broken}
-use Rattle.wkt_write.proofs.Lists.{get_front, all_front}
+use Rattle.wkt_write.proofs.FirstErrors.{listing_start, listing_more, listing_broken_before, listing_broken, get_front, all_front}
 use Rattle.wkt_write.proofs.put_parts.put_numbers.Goals as goal
 
 pub loop-n-init : goal.loop-n-init

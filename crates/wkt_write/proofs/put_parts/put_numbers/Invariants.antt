@@ -1,5 +1,5 @@
 use Rattle.std.specs.Prelude.{codes}
-use Rattle.wkt_write.proofs.Listing.{Listing}
+use Rattle.wkt_write.proofs.FirstErrors.{Listing}
 use Rattle.std.proofs.Common.{take}
 use Rattle.wkt_write.proofs.put_parts.put_numbers.Given as goal
 

@@ -1,6 +1,6 @@
 -- What the sink over the string was given is what the string gained.
 use Rattle.std.proofs.Common.{rules}
-use Rattle.wkt_write.proofs.Strings.{pushed}
+use Rattle.wkt_write.proofs.Writable.{pushed}
 use Rattle.wkt_write.proofs.write.push_kind.Goals as goal
 
 pub returns : goal.returns

@@ -1,7 +1,6 @@
 -- The check's error is the writer's; without one, what the second pass leaves is.
 use Rattle.std.proofs.lemmas.Result.{err_from_is_err_and}
-use Rattle.wkt_write.proofs.Canon.{lawful}
-use Rattle.wkt_write.proofs.Refusals.{refusal}
+use Rattle.wkt_write.proofs.Writable.{lawful, refusal}
 use Rattle.wkt_write.proofs.write.write_kind.Goals as goal
 
 pub returns-in_err-check : goal.returns-in_err-check

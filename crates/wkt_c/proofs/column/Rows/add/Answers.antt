@@ -1,5 +1,5 @@
 -- A row more has its text and its status.
-use Rattle.wkt_c.proofs.CopiedOut.{match-map}
+use Rattle.wkt_c.proofs.Columns.{match-map}
 use Rattle.wkt_c.proofs.column.Rows.add.Goals as goal
 
 pub returns : goal.returns

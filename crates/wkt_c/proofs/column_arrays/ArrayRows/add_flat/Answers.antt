@@ -1,8 +1,7 @@
 -- A row is refused, followed by more than it may be, or has its arrays.
 use Rattle.wkt_calls.specs.Answer.{places_in, asks_whole}
 use Rattle.std.proofs.Common.{inl, refl}
-use Rattle.wkt_c.proofs.CopiedOut.{match-map}
-use Rattle.wkt_c.proofs.ArrayColumns.{refused-arrays, longer-arrays}
+use Rattle.wkt_c.proofs.Columns.{match-map, refused-arrays, longer-arrays}
 use Rattle.wkt_c.proofs.column_arrays.ArrayRows.add_flat.Goals as goal
 
 pub returns-else-status-eq-MEMORY : goal.returns-else-status-eq-MEMORY

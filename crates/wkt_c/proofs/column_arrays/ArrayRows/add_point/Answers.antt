@@ -1,8 +1,7 @@
 -- A point is followed by more than it may be, or has its arrays.
 use Rattle.wkt_calls.specs.Answer.{places_in, asks_whole}
 use Rattle.std.proofs.Common.{refl}
-use Rattle.wkt_c.proofs.CopiedOut.{match-map}
-use Rattle.wkt_c.proofs.ArrayColumns.{longer-arrays}
+use Rattle.wkt_c.proofs.Columns.{match-map, longer-arrays}
 use Rattle.wkt_c.proofs.column_arrays.ArrayRows.add_point.Goals as goal
 
 pub returns-then-not-ends_as_asked : goal.returns-then-not-ends_as_asked

@@ -1,7 +1,6 @@
 -- A row is null, a point, or another text.
 use Rattle.wkt_calls.specs.Answer.{places_in, asks_whole}
-use Rattle.wkt_c.proofs.CopiedOut.{match-map}
-use Rattle.wkt_c.proofs.ArrayColumns.{null-arrays}
+use Rattle.wkt_c.proofs.Columns.{match-map, null-arrays}
 use Rattle.wkt_c.proofs.column_arrays.ArrayRows.add_row.Goals as goal
 
 pub returns-then-null : goal.returns-then-null

@@ -2,7 +2,7 @@
 use Rattle.std.proofs.Common.{◌∙◌}
 use Rattle.wkt.proofs.Collections.{is_collection}
 use Rattle.wkt_callers.specs.Scene.{layer_shape}
-use Rattle.wkt_callers.proofs.Layers.{group_shape}
+use Rattle.wkt_callers.proofs.Groups.{layer_group_shape as group_shape}
 use Rattle.wkt_callers.proofs.scene.LayerGeometryTrait.as_type.Goals as goal
 
 pub returns-in-Group-clause-collection : goal.returns-in-Group-clause-collection

@@ -2,7 +2,7 @@
 use Rattle.std.proofs.Common.{arith}
 use Rattle.wkt.proofs.Collections.{count_is, member_at}
 use Rattle.wkt_callers.specs.Scene.{layer_shape}
-use Rattle.wkt_callers.proofs.Layers.{group_shape}
+use Rattle.wkt_callers.proofs.Groups.{layer_group_shape as group_shape}
 use Rattle.wkt_callers.proofs.scene.LayerGeometryTrait.geometry.Goals as goal
 
 pub index-requires : goal.index-requires

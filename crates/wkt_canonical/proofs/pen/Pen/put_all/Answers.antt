@@ -1,7 +1,7 @@
 -- The bytes stand behind what was written.
 use Rattle.std.proofs.Common.{◌≡◌, ◌+◌, ◌-◌, ◌++◌, length, take, refl, ap, ◌∙◌, arith}
 use Rattle.std.proofs.lemmas.Slice.{take-put_mid}
-use Rattle.wkt_canonical.proofs.AfterStore.{length-stored}
+use Rattle.wkt_canonical.proofs.PenOutput.{length-stored}
 use Rattle.wkt_canonical.proofs.pen.Pen.put_all.Goals as goal
 
 pub returns : goal.returns

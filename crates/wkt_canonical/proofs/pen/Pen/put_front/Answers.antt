@@ -3,7 +3,7 @@ use Rattle.std.proofs.Common.{◌≡◌, ◌+◌, ◌++◌, length, take, refl, 
 use Rattle.std.proofs.lemmas.List.{take-take}
 use Rattle.std.proofs.lemmas.Simd.{length-put_chunk}
 use lib.Lanes.{chunk}
-use Rattle.wkt_canonical.proofs.AfterStore.{front-stored}
+use Rattle.wkt_canonical.proofs.PenOutput.{front-stored}
 use Rattle.wkt_canonical.proofs.pen.Pen.put_front.Goals as goal
 
 pub returns : goal.returns

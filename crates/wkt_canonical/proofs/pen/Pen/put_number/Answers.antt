@@ -1,8 +1,7 @@
 -- A number that keeps its text: of a type that reads only texts it is one.
 use Rattle.std.proofs.Common.{rules}
 use Rattle.wkt_num.specs.Number.{ReadsTexts}
-use Rattle.wkt_canonical.proofs.Utf8Texts.{num_utf8}
-use Rattle.wkt_canonical.proofs.PenNumbers.{kept-numbered}
+use Rattle.wkt_canonical.proofs.PenOutput.{num_utf8, kept-numbered}
 use Rattle.wkt_canonical.proofs.pen.Pen.put_number.Goals as goal
 
 pub returns-in-Some-clause-some : goal.returns-in-Some-clause-some

@@ -1,10 +1,9 @@
 -- A number that keeps its text, also in a window that goes on behind the text's end.
 use Rattle.std.proofs.Common.{rules, arith, length, ◌-◌, take, drop, subst}
 use Rattle.wkt_num.specs.Number.{ReadsTexts}
-use Rattle.wkt_canonical.proofs.Utf8Texts.{num_utf8}
-use Rattle.wkt_machine.proofs.Shown.{zero-at}
-use Rattle.wkt_canonical.specs.Pens.{Extends}
-use Rattle.wkt_canonical.proofs.PenNumbers.{kept-numbered, padded-keeps}
+use Rattle.wkt_canonical.proofs.PenOutput.{num_utf8, kept-numbered, padded-keeps}
+use Rattle.wkt_machine.proofs.ByteViews.{zero-at}
+use Rattle.wkt_canonical.specs.PenMaker.{Extends}
 use Rattle.wkt_canonical.proofs.pen.Pen.slow_number_outlined.Goals as goal
 
 pub pad-requires-clause-zeros : goal.pad-requires-clause-zeros

@@ -1,5 +1,5 @@
 -- What stands before the number, and the number.
-use Rattle.wkt_canonical.proofs.PenNumbers.{makes-number, leaves-number}
+use Rattle.wkt_canonical.proofs.PenOutput.{makes-number, leaves-number}
 use Rattle.wkt_canonical.proofs.pen.PenBuilder.number_in.Goals as goal
 
 pub returns-clause-some : goal.returns-clause-some

@@ -2,7 +2,7 @@
 use Rattle.std.proofs.Common.{◌≡◌, ℕ, List, None, Some, ap, sym, ◌∙◌, subst, if◌then◌else◌, unwrap_or}
 use Rattle.std.specs.Str.{bytes_eq}
 use Rattle.wkt_command.specs.Seen.{first_of}
-use Rattle.wkt_command.proofs.Found.{found_after}
+use Rattle.wkt_command.proofs.Bytes.{found_after}
 use Rattle.wkt_command.proofs.dups.Seen.earlier.Goals as goal
 
 pub returns-clause-kept : goal.returns-clause-kept

@@ -3,7 +3,7 @@ use Rattle.std.proofs.Common.{ap, sym, subst, ◌∙◌}
 use Rattle.wkt_types.specs.Outcome.{value}
 use Rattle.wkt_flat.specs.Equal.{coord_eq}
 use Rattle.wkt_flat.proofs.TreeLemmas.{flat-collection}
-use Rattle.wkt_convert.specs.Flattening.{IsFlattened}
+use Rattle.wkt_convert.specs.Kinds.{IsFlattened}
 use Rattle.wkt_convert.proofs.flattened.Flattened.into_geometry.Goals as goal
 
 pub returns-in-Collection : goal.returns-in-Collection

@@ -3,7 +3,7 @@ use Rattle.std.proofs.Common.{ap}
 use Rattle.std.proofs.lemmas.Result.{err_from_is_err_and}
 use Rattle.wkt_flat.specs.Tree.{flat_tree}
 use Rattle.wkt_convert.specs.Kinds.{only}
-use Rattle.wkt_convert.proofs.Outcomes.{passes_on}
+use Rattle.wkt_convert.proofs.Opened.{passes_on}
 use Rattle.wkt_convert.proofs.kinds.AnyFromAny.from_flattened.Goals as goal
 
 pub returns-in_err-into_geometry : goal.returns-in_err-into_geometry

@@ -1,5 +1,5 @@
 -- A flat value has no error, so that of memory alone comes.
-use Rattle.wkt_convert.proofs.ShapeSends.{memory_of, refused_of}
+use Rattle.wkt_convert.proofs.FlatAndBackShapes.{memory_of, refused_of}
 use Rattle.wkt_convert.proofs.to_text.AnyToWkt.wkt_string.Goals as goal
 
 pub returns-clause-memory : goal.returns-clause-memory

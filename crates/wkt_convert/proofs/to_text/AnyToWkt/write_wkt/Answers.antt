@@ -1,5 +1,5 @@
 -- A flat value has no error, so that of a shape never comes, and its text is that of its `Wkt`.
-use Rattle.wkt_convert.proofs.ShapeSends.{never_of, sends_of}
+use Rattle.wkt_convert.proofs.FlatAndBackShapes.{never_of, sends_of}
 use Rattle.wkt_convert.proofs.to_text.AnyToWkt.write_wkt.Goals as goal
 
 pub returns-clause-sends : goal.returns-clause-sends

@@ -1,5 +1,5 @@
 -- The number that comes next is added.
-use Rattle.wkt_fill.proofs.FastNumbers.{makes-fast}
+use Rattle.wkt_fill.proofs.Finished.{makes-fast}
 use Rattle.wkt_fill.proofs.filler.FillerBuilderDecimal.number_in.Goals as goal
 
 pub returns-in-Some-clause-some : goal.returns-in-Some-clause-some

@@ -2,7 +2,7 @@
 use Rattle.std.proofs.Common.{rules}
 use Rattle.wkt_flat.specs.Exact.{exact_by, pointwise_exact}
 use Rattle.wkt_flat.specs.Equal.{coord_exact}
-use Rattle.wkt_flat.proofs.ExactTests.{reported}
+use Rattle.wkt_flat.proofs.TreeLemmas.{reported}
 use Rattle.wkt_flat.proofs.equal.LineStringPartialEq.eq.Goals as goal
 
 pub returns-clause-exact : goal.returns-clause-exact

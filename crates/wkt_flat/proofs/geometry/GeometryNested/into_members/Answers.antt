@@ -1,5 +1,5 @@
 -- What is inside a collection are its members.
-use Rattle.wkt_flat.proofs.Weighing.{opened}
+use Rattle.wkt_flat.proofs.TreeLemmas.{opened}
 use Rattle.wkt_flat.proofs.geometry.GeometryNested.into_members.Goals as goal
 
 pub returns-in-GeometryCollection : goal.returns-in-GeometryCollection

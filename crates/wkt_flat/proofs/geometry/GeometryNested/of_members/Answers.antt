@@ -1,6 +1,6 @@
 -- What is inside a collection are its members.
 use Rattle.std.proofs.Common.{refl}
-use Rattle.wkt_flat.proofs.Weighing.{opened}
+use Rattle.wkt_flat.proofs.TreeLemmas.{opened}
 use Rattle.wkt_flat.proofs.geometry.GeometryNested.of_members.Goals as goal
 
 pub returns : goal.returns

@@ -1,7 +1,7 @@
 -- The collection that was opened last is taken.
 use Rattle.std.proofs.Common.{arith}
 use Rattle.wkt_flat.specs.Equal.{coord_eq}
-use Rattle.wkt_flat_read.proofs.Lists.{no_items}
+use Rattle.wkt_flat_read.proofs.Ended.{no_items}
 use Rattle.wkt_flat_read.proofs.Holding.{gives_last, gives_none}
 use Rattle.wkt_flat_read.proofs.tree.FlatTree.last_members.Goals as goal
 

@@ -1,7 +1,7 @@
 -- What came stands behind what was held.
 use Rattle.std.proofs.Common.{◌≡◌, ◌≤◌, ◌+◌, ◌++◌, ℕ, List, length, take, ap, ◌∙◌, arith, rules}
 use Rattle.std.proofs.lemmas.List.{with_items_is, places, length-take-le}
-use Rattle.wkt_lines.proofs.Feeding.{comes}
+use Rattle.wkt_lines.proofs.Lining.{comes}
 use Rattle.wkt_lines.proofs.input_buffer.InputBuffer.fill.Goals as goal
 
 pub returns-in-Ok-clause-ok : goal.returns-in-Ok-clause-ok

@@ -1,7 +1,7 @@
 -- The output buffer grows until the answer fits.
 use Rattle.std.proofs.Common.{◌≡◌, ◌-◌, ◌^◌, length}
 use Rattle.std.specs.Prelude.{vec_len}
-use Rattle.wkt_lines.specs.OutputBuffers.{output_text, HasRoomFor}
+use Rattle.wkt_lines.specs.Buffers.{output_text, HasRoomFor}
 use Rattle.wkt_lines.proofs.into_output.ByMachineAnswers.add_first.Given as goal
 
 abbrev pub invariant-room : goal.invariant-room

@@ -1,6 +1,6 @@
 -- A reply to the first line is in the output buffer, or the output buffer is as it was.
 use Rattle.std.proofs.Common.{◌++◌, ◌∷◌, [], ◌∙◌, take, arith}
-use Rattle.wkt_lines.specs.OutputBuffers.{output_text, reply_of}
+use Rattle.wkt_lines.specs.Buffers.{output_text, reply_of}
 use Rattle.wkt_lines.proofs.Answering.{reply_to_first, grew_cut}
 use Rattle.wkt_lines.proofs.into_output.ByReplyAnswers.add_first.Goals as goal
 

@@ -2,7 +2,7 @@
 use Rattle.std.proofs.Common.{◌∙◌, ◌++◌, ap}
 use Rattle.wkt_num.specs.Sink.{next_count}
 use Rattle.wkt_num.proofs.FailedCalls.{none_grew}
-use Rattle.wkt_lines.specs.OutputBuffers.{output_text}
+use Rattle.wkt_lines.specs.Buffers.{output_text}
 use Rattle.wkt_lines.proofs.output_buffer.OutputBufferTextSink.write_str.Goals as goal
 
 pub returns-then-keep : goal.returns-then-keep

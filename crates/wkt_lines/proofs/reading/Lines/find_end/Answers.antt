@@ -3,8 +3,7 @@ use Rattle.std.proofs.Common.{◌≡◌, ◌+◌, ◌≤◌, ℕ, List, length, 
 use Rattle.std.proofs.KnownBytes.{Keeps-trans}
 use Rattle.wkt_lines.specs.First.{EndsLine}
 use Rattle.wkt_lines.specs.Reading.{unread}
-use Rattle.wkt_lines.proofs.Feeding.{seen_none}
-use Rattle.wkt_lines.proofs.Lining.{seen_line, none_to_end, came_keeps, none_came}
+use Rattle.wkt_lines.proofs.Lining.{seen_none, seen_line, none_to_end, came_keeps, none_came}
 use Rattle.wkt_lines.proofs.reading.Lines.find_end.Goals as goal
 
 pub returns-then-end-rest-clause-ends : goal.returns-then-end-rest-clause-ends

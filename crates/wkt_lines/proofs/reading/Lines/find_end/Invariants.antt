@@ -1,6 +1,6 @@
 use Rattle.std.proofs.Common.{◌≡◌, ◌≤◌, [], length, take}
 use Rattle.std.specs.Io.KnownBytes.{Keeps}
-use Rattle.wkt_lines.specs.Feeds.{HasNoFeed}
+use Rattle.wkt_lines.specs.Lines.{HasNoFeed}
 use Rattle.wkt_lines.specs.Reading.{source_of, line_of, unread, to_come}
 use Rattle.wkt_lines.proofs.reading.Lines.find_end.Given as goal
 

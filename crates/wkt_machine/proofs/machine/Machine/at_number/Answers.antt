@@ -1,6 +1,6 @@
 -- What is no number stays.
 use Rattle.wkt_machine.specs.Machines.{state_for}
-use Rattle.wkt_machine.proofs.Numbering.{other_none, open_at}
+use Rattle.wkt_machine.proofs.NextLexeme.{other_none, open_at}
 use Rattle.wkt_machine.proofs.Stepping.{put_back, is_err}
 use Rattle.wkt_machine.specs.Room.{RoomAt}
 use Rattle.wkt_machine.proofs.RoomForRest.{no_room}

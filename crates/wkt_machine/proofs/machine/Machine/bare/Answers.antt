@@ -2,7 +2,7 @@
 use Rattle.std.proofs.Common.{ap, arith}
 use Rattle.wkt_machine.specs.Drives.{over_at}
 use Rattle.wkt_machine.specs.Machines.{place_of, state_of}
-use Rattle.wkt_machine.proofs.Numbering.{bare_number, unread}
+use Rattle.wkt_machine.proofs.NextLexeme.{bare_number, unread}
 use Rattle.wkt_machine.specs.Room.{owed}
 use Rattle.wkt_machine.specs.declared.machine.Seen.TheVariants as sees
 use Rattle.wkt_machine.proofs.RoomForRest.{fits_seen, room_at, bare_room, bare_after}

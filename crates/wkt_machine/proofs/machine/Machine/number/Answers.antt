@@ -1,6 +1,6 @@
 -- A number is taken, or stays.
 use Rattle.std.proofs.Common.{sym, ap, ◌∙◌, arith}
-use Rattle.wkt_machine.proofs.Numbering.{last_number, inner_number, unread, over_number}
+use Rattle.wkt_machine.proofs.NextLexeme.{closes_number, inner_number, unread, over_number}
 use Rattle.wkt_machine.specs.Machine.{at}
 use Rattle.wkt_machine.specs.Machines.{state_of, place_of}
 use Rattle.wkt_machine.specs.Room.{owed}
@@ -9,7 +9,7 @@ use Rattle.wkt_machine.proofs.machine.Machine.number.Goals as goal
 
 pub returns-in-Item-clause-on : goal.returns-in-Item-clause-on
 returns-in-Item-clause-on g c =
-    last_number g.T.WktNum.read g.S.Source.view g.B.Builder.maker c.args.self c.args.source c.in-Ok.behind c.args.builder c.in-Ok.made c.args.axis c.requires.axis c.requires.sound c.in-Ok.ensures.takes c.behind_coordinate.result (sym c.after-state.ensures ∙ c.in-Item.is) c.behind_coordinate.ensures.ends
+    closes_number g.T.WktNum.read g.S.Source.view g.B.Builder.maker c.args.self c.args.source c.in-Ok.behind c.args.builder c.in-Ok.made c.args.axis c.requires.axis c.requires.sound c.in-Ok.ensures.takes c.behind_coordinate.result (sym c.after-state.ensures ∙ c.in-Item.is) c.behind_coordinate.ensures.ends
 
 pub returns-in_default-clause-on : goal.returns-in_default-clause-on
 returns-in_default-clause-on g c =

@@ -1,7 +1,6 @@
 -- What is displayed is the decimal's text, plain and under the formatter's options.
 use Rattle.std.proofs.Common.{rules}
-use Rattle.wkt_num.proofs.SinkCalls.{when_ok}
-use Rattle.wkt_num.proofs.BorrowedSink.{displayed_styled, displayed_plain}
+use Rattle.wkt_num.proofs.SinkCalls.{when_ok, displayed_styled, displayed_plain}
 use Rattle.wkt_num.proofs.decimal.DecimalDisplay.fmt.Goals as goal
 
 pub returns-clause-styled : goal.returns-clause-styled

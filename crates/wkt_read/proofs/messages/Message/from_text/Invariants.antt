@@ -1,5 +1,5 @@
 use Rattle.std.proofs.Common.{◌≤◌, ◌-◌}
-use Rattle.wkt_read.proofs.MessageTexts.{NoneBelow}
+use Rattle.wkt_read.proofs.Refusals.{NoneBelow}
 use Rattle.wkt_read.proofs.messages.Message.from_text.Given as goal
 
 abbrev pub invariant-number : goal.invariant-number

@@ -1,6 +1,6 @@
 -- The bytes so far are white space, or one isn't.
 use Rattle.std.proofs.Common.{refl}
-use Rattle.wkt_read.proofs.TokenizerLemmas.Blanks.{white_on, white_here, none_left}
+use Rattle.wkt_read.proofs.TokenizerLemmas.Placings.{white_on, white_here, none_left}
 use Rattle.wkt_read.proofs.tokenizer.scan.is_blank.Goals as goal
 
 pub returns-then-not-is_white : goal.returns-then-not-is_white

@@ -1,7 +1,7 @@
 -- The member at a place is the geometry at that place, which the list has.
 use Rattle.std.proofs.Common.{arith}
 use Rattle.wkt_access.proofs.Collections.{count_is, member_at}
-use Rattle.wkt_types.proofs.Collections.{member_shape, collection_is}
+use Rattle.wkt_types.proofs.TreeLemmas.{member_shape, collection_is}
 use Rattle.wkt_types.proofs.access.GeometryCollectionGeometryCollectionTrait.geometry.Goals as goal
 
 pub offset_bounds-geometries-i : goal.offset_bounds-geometries-i

@@ -1,7 +1,7 @@
 -- The collection has as many members as its list.
 use Rattle.std.proofs.Common.{sym}
 use Rattle.wkt_access.proofs.Collections.{count_is}
-use Rattle.wkt_types.proofs.Collections.{member_shape, collection_is}
+use Rattle.wkt_types.proofs.TreeLemmas.{member_shape, collection_is}
 use Rattle.wkt_types.proofs.access.GeometryCollectionGeometryCollectionTrait.num_geometries.Goals as goal
 
 pub returns : goal.returns

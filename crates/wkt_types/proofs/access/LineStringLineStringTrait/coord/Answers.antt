@@ -1,5 +1,5 @@
 -- The coordinate at a place is the part at that place.
-use Rattle.wkt_types.proofs.Members.{part_is}
+use Rattle.wkt_types.proofs.TreeLemmas.{part_is}
 use Rattle.wkt_types.proofs.access.LineStringLineStringTrait.coord.Goals as goal
 
 pub returns : goal.returns

@@ -1,5 +1,5 @@
 -- The point at a place is the part at that place.
-use Rattle.wkt_types.proofs.Members.{part_is}
+use Rattle.wkt_types.proofs.TreeLemmas.{part_is}
 use Rattle.wkt_types.proofs.access.MultiPointMultiPointTrait.point.Goals as goal
 
 pub returns : goal.returns

@@ -1,6 +1,6 @@
 -- The polygon at a place is the part at that place.
 use Rattle.std.proofs.Common.{rules}
-use Rattle.wkt_types.proofs.Members.{polygon_is}
+use Rattle.wkt_types.proofs.TreeLemmas.{polygon_is}
 use Rattle.wkt_types.proofs.access.MultiPolygonMultiPolygonTrait.polygon.Goals as goal
 
 pub returns : goal.returns

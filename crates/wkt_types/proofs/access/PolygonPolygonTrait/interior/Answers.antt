@@ -1,6 +1,6 @@
 -- The interior at a place is the ring behind it.
 use Rattle.std.proofs.Common.{rules}
-use Rattle.wkt_types.proofs.Members.{interior_is}
+use Rattle.wkt_types.proofs.TreeLemmas.{interior_is}
 use Rattle.wkt_types.proofs.access.PolygonPolygonTrait.interior.Goals as goal
 
 pub returns : goal.returns

@@ -1,7 +1,7 @@
 -- A collection is displayed as the geometry with its header and its members.
 use Rattle.std.proofs.Common.{subst}
 use Rattle.wkt_types.specs.Shown.{Shows}
-use Rattle.wkt_types.proofs.Collections.{reported_whole}
+use Rattle.wkt_types.proofs.TreeLemmas.{reported_whole}
 use Rattle.wkt_types.proofs.display.GeometryCollectionDisplay.fmt.Goals as goal
 
 pub returns : goal.returns

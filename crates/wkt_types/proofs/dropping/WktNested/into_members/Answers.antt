@@ -1,5 +1,5 @@
 -- What is inside a collection are its members.
-use Rattle.wkt_types.proofs.Weighing.{inside_opened}
+use Rattle.wkt_types.proofs.TreeLemmas.{inside_opened}
 use Rattle.wkt_types.proofs.dropping.WktNested.into_members.Goals as goal
 
 pub returns-in-GeometryCollection : goal.returns-in-GeometryCollection

@@ -1,7 +1,7 @@
 -- `==` decides whether the trees are equal.
 use Rattle.wkt_flat.specs.Exact.{exact_by}
 use Rattle.wkt_types.specs.Trees.{tree_exact}
-use Rattle.wkt_flat.proofs.ExactTests.{reported}
+use Rattle.wkt_flat.proofs.TreeLemmas.{reported}
 use Rattle.wkt_types.proofs.equal.GeometryCollectionPartialEq.eq.Goals as goal
 
 pub returns-clause-exact : goal.returns-clause-exact

@@ -3,7 +3,7 @@ use Rattle.std.proofs.Common.{rules}
 use Rattle.wkt_flat.specs.Exact.{exact_by}
 use Rattle.wkt_types.specs.Exact.{held_exact}
 use Rattle.wkt_types.specs.Equal.{wkt_point_exact}
-use Rattle.wkt_flat.proofs.ExactTests.{reported}
+use Rattle.wkt_flat.proofs.TreeLemmas.{reported}
 use Rattle.wkt_types.proofs.equal.MultiPointPartialEq.eq.Goals as goal
 
 pub returns-clause-exact : goal.returns-clause-exact

@@ -1,8 +1,7 @@
 -- The collection has the given geometries, and the dimension of the first.
 use Rattle.std.proofs.Common.{◌≡◌, ap, sym, ◌∙◌, [], map, slice_get, Some}
 use Rattle.wkt_types.specs.Tree.{tree, collected}
-use Rattle.wkt_types.proofs.TreeLemmas.{collected_some}
-use Rattle.wkt_types.proofs.FirstDimension.{first_none}
+use Rattle.wkt_types.proofs.TreeLemmas.{collected_some, first_none}
 use Rattle.wkt_types.proofs.geometry.GeometryCollection.from_geometries.Goals as goal
 
 pub returns-in-None : goal.returns-in-None

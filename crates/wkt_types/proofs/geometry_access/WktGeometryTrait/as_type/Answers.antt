@@ -1,7 +1,7 @@
 -- A collection has as many members as its list.
 use Rattle.std.proofs.Common.{refl}
 use Rattle.wkt_access.proofs.Collections.{is_collection}
-use Rattle.wkt_types.proofs.Collections.{member_shape, geometry_is}
+use Rattle.wkt_types.proofs.TreeLemmas.{member_shape, geometry_is}
 use Rattle.wkt_types.proofs.geometry_access.WktGeometryTrait.as_type.Goals as goal
 
 pub returns-in-GeometryCollection-clause-collection : goal.returns-in-GeometryCollection-clause-collection

@@ -1,5 +1,5 @@
 -- It has the given line strings, and the dimension of the first.
-use Rattle.wkt_types.proofs.FirstDimension.{made_none, made_some}
+use Rattle.wkt_types.proofs.TreeLemmas.{made_none, made_some}
 use Rattle.wkt_types.proofs.multilinestring.MultiLineString.from_line_strings.Goals as goal
 
 pub returns-in-None : goal.returns-in-None

@@ -1,5 +1,5 @@
 -- It has the given points, and the dimension of the first.
-use Rattle.wkt_types.proofs.FirstDimension.{made_none, made_some}
+use Rattle.wkt_types.proofs.TreeLemmas.{made_none, made_some}
 use Rattle.wkt_types.proofs.multipoint.MultiPoint.from_points.Goals as goal
 
 pub returns-in-None : goal.returns-in-None

@@ -1,5 +1,5 @@
 -- It has the given polygons, and the dimension of the first.
-use Rattle.wkt_types.proofs.FirstDimension.{made_none, made_some}
+use Rattle.wkt_types.proofs.TreeLemmas.{made_none, made_some}
 use Rattle.wkt_types.proofs.multipolygon.MultiPolygon.from_polygons.Goals as goal
 
 pub returns-in-None : goal.returns-in-None

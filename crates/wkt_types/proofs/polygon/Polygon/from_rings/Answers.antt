@@ -1,5 +1,5 @@
 -- The polygon has the given rings, and the dimension of the first.
-use Rattle.wkt_types.proofs.FirstDimension.{made_none, made_some}
+use Rattle.wkt_types.proofs.TreeLemmas.{made_none, made_some}
 use Rattle.wkt_types.proofs.polygon.Polygon.from_rings.Goals as goal
 
 pub returns-in-None : goal.returns-in-None

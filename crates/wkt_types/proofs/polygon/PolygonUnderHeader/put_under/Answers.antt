@@ -3,7 +3,7 @@ use Rattle.std.proofs.Common.{◌≡◌, ap, sym, ◌∙◌, map, ◌==◌, not,
 use Rattle.std.proofs.lemmas.List.{with_items_is}
 use Rattle.wkt_types.specs.Canonical.{line_under, polygon_under, rings_written}
 use Rattle.wkt_types.specs.Held.{held}
-use Rattle.wkt_types.proofs.KeptRings.{kept, kept_some, kept_none}
+use Rattle.wkt_types.proofs.TreeLemmas.{kept, kept_some, kept_none}
 use Rattle.wkt_types.proofs.polygon.PolygonUnderHeader.put_under.Goals.{in-Some, in-None, then-not-written, else-not-written}
 use Rattle.wkt_types.proofs.polygon.PolygonUnderHeader.put_under.Goals as goal
 

@@ -3,7 +3,7 @@ use Rattle.std.proofs.Common.{sym, ◌∙◌}
 use Rattle.wkt_access.specs.Faults.{faults}
 use Rattle.wkt_access.specs.Parts.{gathered}
 use Rattle.wkt_access.specs.Shapes.{printed}
-use Rattle.wkt_write.proofs.Headed.{collection_of_text}
+use Rattle.wkt_write.proofs.Bracketed.{collection_of_text}
 use Rattle.wkt_write.proofs.Members.{faults_gathered, inside_clean}
 use Rattle.wkt_write.proofs.kinds.CollectionKind.put.Goals as goal
 

@@ -3,8 +3,7 @@ use Rattle.std.proofs.Common.{refl, [], ◌∷◌, false}
 use Rattle.wkt_write.specs.Pieces.{cut_coordinate}
 use Rattle.wkt_access.specs.Values.{size}
 use Rattle.wkt_num.proofs.SinkCalls.{puts_err}
-use Rattle.wkt_write.proofs.Headed.{headed_broken, headed_adds}
-use Rattle.wkt_write.proofs.Bracketed.{two_coordinates_listed}
+use Rattle.wkt_write.proofs.Bracketed.{headed_broken, headed_adds, two_coordinates_listed}
 use Rattle.wkt_write.proofs.kinds.LineKind.put.Goals as goal
 
 pub returns-in_err-put_header : goal.returns-in_err-put_header

@@ -1,5 +1,5 @@
 -- The text is a header and the coordinates.
-use Rattle.wkt_write.proofs.Headed.{line_string_text}
+use Rattle.wkt_write.proofs.Bracketed.{line_string_text}
 use Rattle.wkt_write.proofs.kinds.LineStringKind.put.Goals as goal
 
 pub returns : goal.returns

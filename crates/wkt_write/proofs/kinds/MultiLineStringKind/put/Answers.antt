@@ -1,5 +1,5 @@
 -- The text is a header and the line strings.
-use Rattle.wkt_write.proofs.Headed.{multi_line_string_text}
+use Rattle.wkt_write.proofs.Bracketed.{multi_line_string_text}
 use Rattle.wkt_write.proofs.kinds.MultiLineStringKind.put.Goals as goal
 
 pub returns : goal.returns

@@ -1,5 +1,5 @@
 -- The text is a header and the points.
-use Rattle.wkt_write.proofs.Headed.{multi_point_text}
+use Rattle.wkt_write.proofs.Bracketed.{multi_point_text}
 use Rattle.wkt_write.proofs.kinds.MultiPointKind.put.Goals as goal
 
 pub returns : goal.returns

@@ -1,5 +1,5 @@
 -- The text is a header and the polygons.
-use Rattle.wkt_write.proofs.Headed.{multi_polygon_text}
+use Rattle.wkt_write.proofs.Bracketed.{multi_polygon_text}
 use Rattle.wkt_write.proofs.kinds.MultiPolygonKind.put.Goals as goal
 
 pub returns : goal.returns

@@ -1,7 +1,7 @@
 -- The text is a header and the coordinate, if there is one.
 use Rattle.std.specs.Prelude.{option_to_list}
 use Rattle.wkt_num.proofs.SinkCalls.{puts_err}
-use Rattle.wkt_write.proofs.Headed.{headed_broken, headed_adds, point_text}
+use Rattle.wkt_write.proofs.Bracketed.{headed_broken, headed_adds, point_text}
 use Rattle.wkt_write.proofs.kinds.PointKind.put.Goals as goal
 
 pub returns-in_err-put_header : goal.returns-in_err-put_header

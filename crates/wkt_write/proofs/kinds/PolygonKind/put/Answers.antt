@@ -1,7 +1,7 @@
 -- The text is a header and the rings.
 use Rattle.wkt_access.specs.Shapes.{rings_of}
 use Rattle.wkt_num.proofs.SinkCalls.{puts_err}
-use Rattle.wkt_write.proofs.Headed.{headed_broken, headed_adds, rings_text}
+use Rattle.wkt_write.proofs.Bracketed.{headed_broken, headed_adds, rings_text}
 use Rattle.wkt_write.proofs.kinds.PolygonKind.put.Goals as goal
 
 pub returns-in_err-put_header : goal.returns-in_err-put_header

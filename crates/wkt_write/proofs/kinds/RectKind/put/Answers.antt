@@ -1,5 +1,5 @@
 -- The text is the ring in its parentheses.
-use Rattle.wkt_write.proofs.Headed.{rect_text}
+use Rattle.wkt_write.proofs.Bracketed.{rect_text}
 use Rattle.wkt_num.proofs.SinkCalls.{puts_err, puts_then, breaks_first, breaks_then}
 use Rattle.wkt_write.proofs.kinds.RectKind.put.Goals as goal
 

@@ -1,5 +1,5 @@
 -- The token that is taken was looked at, or is the next.
-use Rattle.wkt_read.proofs.TokenizerLemmas.Afters.{goes-moves, takes-moves}
+use Rattle.wkt_read.proofs.TokenizerLemmas.Placings.{goes-moves, takes-moves}
 use Rattle.wkt_read.proofs.tokenizer.peekable.PeekableTokens.take.Goals as goal
 
 pub returns-clause-goes_on : goal.returns-clause-goes_on
