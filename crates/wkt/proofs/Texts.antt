@@ -1,5 +1,5 @@
 -- The answers to texts and JSON values: the flat value of the front, or a refusal with its message.
-use Rattle.std.proofs.Common.{◌≡◌, ℕ, List, Option, Some, None, Result, Ok, Err, Bool, subst, sym, ◌∙◌, refl, IfNone, IsSome, ◌↔◌, true, false, IsTrue, [], ◌∷◌, arith}
+use Rattle.std.proofs.Common.{◌≡◌, ℕ, List, Option, Some, None, Result, Ok, Err, Bool, subst, sym, ◌∙◌, refl, IfNone, IsSome, ◌↔◌, false, IsTrue, [], ◌∷◌, arith}
 use Rattle.std.specs.Prelude.{IfSome, IsUtf8}
 use Rattle.std.proofs.lemmas.Option.{none-some}
 use Rattle.wkt_types.specs.Tree.{Tree}

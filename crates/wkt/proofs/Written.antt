@@ -13,7 +13,7 @@ use Rattle.wkt.specs.WrittenAlike.{tree_alike, trees_alike, written_rings, coord
 use Rattle.wkt_access.specs.declared.dimensions.Dimension.{Dimension}
 use Rattle.wkt_access.specs.declared.dimensions.Dimension.TheVariants.{XY, XYZ, XYM, XYZM}
 use Rattle.wkt_access.specs.Values.{Value, Values, size}
-use Rattle.wkt_access.specs.Shapes.{canon, canons, shapes_of, rings_of, polygon_of, header_of, dimension}
+use Rattle.wkt_access.specs.Shapes.{canon, canons, shapes_of, rings_of, polygon_of}
 use Rattle.wkt_access.proofs.Canonical.{header_back}
 use Rattle.wkt_flat.specs.Exact.{IsExact, both, and_true, pointwise_exact}
 use Rattle.wkt_types.specs.Held.{Held, HeldPoint}

@@ -1,12 +1,12 @@
 -- What a text, the bytes of a source, a whole text and a JSON value are answered with: the flat value of the geometry, or the error by name.
-use Rattle.std.specs.Prelude.{◌≡◌, ℕ, List, Option, Result, Ok, Err, Bool, IsUtf8, drop, [], ◌∷◌, Some, None, codes}
+use Rattle.std.specs.Prelude.{◌≡◌, ℕ, List, Option, Result, Ok, Err, Bool, IsUtf8, drop, [], Some, None, codes}
 use Rattle.serde_json.specs.Find.{as_str}
 use Rattle.serde_json.specs.View.{view}
 use Rattle.serde_json.specs.declared.value.Value.{Value}
 use Rattle.wkt_types.specs.Tree.{Tree}
 use Rattle.wkt_types.specs.Outcome.{Outcome, value, refused, empty_point, mismatched}
 use Rattle.wkt_types.specs.declared.convert.ConvertError.{ConvertError}
-use Rattle.wkt_types.specs.declared.convert.ConvertError.TheVariants.{PointConversionError, MismatchedGeometry, WrongNumberOfGeometries, InvalidWKT, Reader, Utf8, Memory}
+use Rattle.wkt_types.specs.declared.convert.ConvertError.TheVariants.{PointConversionError, MismatchedGeometry, InvalidWKT, Reader, Utf8, Memory}
 use Rattle.wkt_read.specs.Front.{HasNoFront}
 use Rattle.wkt_read.specs.Answered.{IsFront, HasBadNumber, IsFrontTo}
 use Rattle.wkt_read.specs.Items.{bad_number}

@@ -1,5 +1,5 @@
 -- Texts that are keys: of flat values, of lines and of what is displayed.
-use Rattle.std.proofs.Common.{◌≡◌, ◌↔◌, ℕ, Bool, List, Option, Result, Ok, Err, subst, sym, ◌+◌, ◌<◌, length, take, get_or, map, [], ◌∷◌, ◌++◌, ◌⊎◌, inl, inr, refl, ap, ◌∙◌, None, IfSome, IsTrue, String, string_bytes, zero, suc, Some, append_assoc, slice_get}
+use Rattle.std.proofs.Common.{◌≡◌, ◌↔◌, ℕ, Bool, List, Option, Result, Ok, Err, subst, sym, ◌+◌, ◌<◌, length, take, get_or, map, [], ◌∷◌, ◌++◌, inl, inr, refl, ap, ◌∙◌, None, IfSome, IsTrue, String, string_bytes, zero, suc, Some, append_assoc, slice_get}
 use Rattle.std.specs.Prelude.{IfOk, OnOk}
 use Rattle.std.proofs.lemmas.List.{take_more, map-append}
 use Rattle.std.specs.String.{string_eq}

@@ -185,36 +185,28 @@ fn is_unchanged(rt: &impl Abort, alloc: Global, came: &io::Error, want: &io::Err
     equal(rt, words(rt, alloc, came), words(rt, alloc, want));
 }
 
-/// The sink's error comes of the call, which makes one call on it.
-fn comes_of_sink(rt: &impl Abort, alloc: Global, call: usize, given: CallGiven) {
-    let mut sink = Failing { given, failures: 0 };
-    let came = of_sink(alloc, call, &mut sink).expect(rt, "no error of the sink");
-    is_unchanged(rt, alloc, &came, &error(given));
-    equal(rt, sink.failures, 1);
-}
-
-#[test]
-fn comes_unchanged_from_sinks(rt: HostRuntime) {
-    for &given in GIVEN {
-        for call in 0..8 {
-            comes_of_sink(&rt, rt.alloc(), call, given);
-        }
+/// What comes of each of those sixteen calls.
+fn of_call(alloc: Global, call: usize, failing: &mut Failing) -> Option<io::Error> {
+    if call < 8 {
+        of_sink(alloc, call, failing)
+    } else {
+        of_source(alloc, call - 8, failing)
     }
 }
 
-/// The source's error comes of the call, which makes one call on it.
-fn comes_of_source(rt: &impl Abort, alloc: Global, call: usize, given: CallGiven) {
-    let mut source = Failing { given, failures: 0 };
-    let came = of_source(alloc, call, &mut source).expect(rt, "no error of the source");
+/// The error comes of the call, which makes one call on the sink or the source.
+fn comes_unchanged(rt: &impl Abort, alloc: Global, call: usize, given: CallGiven) {
+    let mut failing = Failing { given, failures: 0 };
+    let came = of_call(alloc, call, &mut failing).expect(rt, "no error of the sink or the source");
     is_unchanged(rt, alloc, &came, &error(given));
-    equal(rt, source.failures, 1);
+    equal(rt, failing.failures, 1);
 }
 
 #[test]
-fn comes_unchanged_from_sources(rt: HostRuntime) {
+fn errors_come_unchanged(rt: HostRuntime) {
     for &given in GIVEN {
-        for call in 0..8 {
-            comes_of_source(&rt, rt.alloc(), call, given);
+        for call in 0..16 {
+            comes_unchanged(&rt, rt.alloc(), call, given);
         }
     }
 }

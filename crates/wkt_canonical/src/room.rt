@@ -1,5 +1,5 @@
 //! Rooms for canonical texts, which grow as longer ones come.
-ghost use Rattle.std.specs.Prelude.{◌≡◌, ◌+◌, ◌*◌, ◌<◌, ◌≤◌, IfSome, OnOk, take, vec_len, true, false};
+ghost use Rattle.std.specs.Prelude.{◌≡◌, ◌+◌, ◌*◌, ◌^◌, ◌<◌, ◌≤◌, OnOk, SomeIff, take, vec_len, true, false};
 ghost use Rattle.wkt_canonical.specs.Through.{HoldsCanonical};
 
 use crate::canonical::{NoRoom, TextWritten, canonical_into};
@@ -25,7 +25,7 @@ pub fn has_room(room: usize, n: usize) -> bool
 /// How many bytes that takes; `None` where it is no size.
 #[inline]
 pub fn room_for(n: usize) -> Option<usize>
-    ensures { IfSome result (λ room. room ≡ 2 * n + 65) }
+    ensures { SomeIff result (2 * n + 65 < 2 ^ 64) (2 * n + 65) }
 {
     n.checked_mul(2)?.checked_add(SPARE)
 }

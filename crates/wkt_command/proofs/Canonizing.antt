@@ -1,5 +1,5 @@
 -- What becomes of a text that `wkt canon` answers.
-use Rattle.std.proofs.Common.{◌≡◌, ℕ, ℤ, List, [], ◌∷◌, ◌++◌, take, drop, min, Option, Result, Ok, Err, OnOk, IsUtf8, ◌⊎◌, inl, inr, ⊎_elim, true, false, sym, ap, ◌∙◌, subst}
+use Rattle.std.proofs.Common.{◌≡◌, ℕ, ℤ, List, [], ◌∷◌, ◌++◌, take, drop, min, Option, Result, Ok, Err, OnOk, IsUtf8, ◌⊎◌, ⊎_elim, true, false, sym, ap, ◌∙◌, subst}
 use Rattle.std.specs.Io.KnownBytes.{Appends, Keeps}
 use Rattle.std.proofs.KnownBytes.{Appends-kept}
 use Rattle.wkt_num.specs.Bytes.{AllWhite}

@@ -3,7 +3,6 @@ use Rattle.std.proofs.Common.{◌≡◌, ap, sym, ◌∙◌}
 use Rattle.wkt_types.specs.Tree.{point, line_string, multi_point, Tree, tree, wkt_step, collection_step}
 use Rattle.wkt_types.specs.Held.{Held, HeldPoint}
 use Rattle.wkt_types.specs.declared.coord.Coord.{Coord}
-use Rattle.wkt_types.specs.declared.geometry.Wkt.{Wkt}
 use Rattle.wkt_types.specs.declared.geometry.Wkt.TheVariants as variants
 use Rattle.wkt_types.specs.declared.geometry.Wkt.TheFolds as folds
 use Rattle.wkt_types.specs.declared.geometry.Wkt.TheOpen as opened

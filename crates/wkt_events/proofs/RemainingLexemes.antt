@@ -1,5 +1,5 @@
 -- What is left of a text's lexemes, by what a byte is, and the numbers among them.
-use Rattle.std.proofs.Common.{◌≡◌, ◌≢◌, ℕ, suc, ◌+◌, ◌-◌, ◌<◌, ◌≤◌, List, [], ◌∷◌, ◌++◌, length, get_or, drop, slice_range, refl, sym, ap, ◌∙◌, subst, arith, add-one, Bool, true, false, ◌==◌, if◌then◌else◌, ⊎_elim, append_assoc, length-append, ◌↔◌, ◌||◌, IsTrue, nat_le, ◌&&◌, inl, inr, IsUtf8, Option, None}
+use Rattle.std.proofs.Common.{◌≡◌, ◌≢◌, ℕ, suc, ◌+◌, ◌-◌, ◌<◌, ◌≤◌, List, [], ◌∷◌, ◌++◌, length, get_or, drop, slice_range, refl, sym, ap, ◌∙◌, subst, arith, add-one, Bool, true, false, ◌==◌, if◌then◌else◌, ⊎_elim, length-append, ◌↔◌, ◌||◌, IsTrue, nat_le, ◌&&◌, inl, inr, IsUtf8, Option, None}
 use Rattle.std.specs.Prelude.{not}
 use Rattle.std.proofs.lemmas.Bool.{cases_lt, ne_eqb, cases_eq, eq-eqb, cases_Bool, eqb-true, leb-true}
 use Rattle.std.proofs.lemmas.List.{drop_all, get_or_past, drop_more, length-drop, length-take, get_or-drop}

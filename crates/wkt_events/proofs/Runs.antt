@@ -1,12 +1,12 @@
 -- Runs of bytes: where they end, and the numbers that they are.
-use Rattle.std.proofs.Common.{w8, ◌≡◌, ◌≢◌, ℕ, zero, suc, ◌+◌, ◌-◌, ◌*◌, ◌^◌, ◌%◌, ◌<◌, ◌≤◌, List, [], ◌∷◌, length, get_or, drop, map, slice_range, replicate, refl, sym, ap, ◌∙◌, arith, Bool, true, false, cond, if◌then◌else◌, inl, inr, nat_lt, take, Option, Some, IsTrue, IsUtf8, ◌||◌, ◌==◌, subst}
+use Rattle.std.proofs.Common.{w8, ◌≡◌, ◌≢◌, ℕ, zero, suc, ◌+◌, ◌-◌, ◌*◌, ◌^◌, ◌%◌, ◌<◌, ◌≤◌, List, [], ◌∷◌, length, get_or, drop, map, slice_range, replicate, refl, sym, ap, ◌∙◌, arith, Bool, true, false, cond, if◌then◌else◌, inl, inr, nat_lt, take, Option, IsTrue, ◌||◌, ◌==◌, subst}
 use Rattle.std.specs.Prelude.{not}
 use Rattle.std.specs.List.{prefix_len}
 use Rattle.std.proofs.lemmas.Bool.{ne_eqb, leb-false, cases_lt, cases_eq, eq-eqb}
-use Rattle.std.proofs.lemmas.List.{get_or_past, get_or-drop, get_or-take, length-drop, length-take, length-map, take_rest, drop-take, drop-drop, length-take-le}
+use Rattle.std.proofs.lemmas.List.{get_or_past, get_or-drop, get_or-take, length-drop, length-take, length-map, drop-take, drop-drop, length-take-le}
 use Rattle.std.proofs.lemmas.Simd.{length-chunk, bitmask_splat, trailing_mask_l, run_in_chunk_fails, tops_compared, zip2_splat_left, mask_l-mod, none_from_empty_mask}
 use Rattle.std.specs.Str.{IsAscii}
-use Rattle.std.proofs.lemmas.List.Edits.{length-between, get_or-between}
+use Rattle.std.proofs.lemmas.List.Edits.{get_or-between}
 use Rattle.std.proofs.lemmas.Bool.Decides.{nat_tests}
 use lib.Count.{count_trailing_zeros}
 use lib.Dec.{leb}

@@ -1,24 +1,23 @@
 -- The whole geometry that a tree holds, as a flat value.
-use Rattle.std.proofs.Common.{◌≡◌, ◌+◌, ℕ, List, [], ◌∷◌, ◌++◌, length, length-append, sym, refl, ap, ap₂, ◌∙◌, subst, append_assoc, append-nil, arith, Option, Some, None, Bool, true, false, ◌||◌, IfSome}
+use Rattle.std.proofs.Common.{◌≡◌, ◌+◌, List, [], ◌∷◌, ◌++◌, length, length-append, sym, refl, ap, ap₂, ◌∙◌, subst, append_assoc, arith, Option, Some, None, Bool, true, false, ◌||◌}
 use Rattle.std.specs.Prelude.{map, option_to_list, codes, Vec}
-use Rattle.std.proofs.lemmas.List.{map-append}
 use Rattle.std.specs.declared.alloc.Global.{Global}
-use Rattle.wkt_access.specs.Values.{Value, Values}
-use Rattle.wkt_flat.specs.Tree.{Flat, flats_of, more_flats, Flats, flat_tree, flat_trees, flat_members}
+use Rattle.wkt_access.specs.Values.{Value}
+use Rattle.wkt_flat.specs.Tree.{Flat, flats_of, more_flats, Flats, flat_trees, flat_members}
 use Rattle.wkt_flat.specs.declared.coord.Coord.{Coord}
 use Rattle.wkt_machine.specs.Growing.{numbers_by, members_of, Frame}
-use Rattle.wkt_flat_read.specs.Trees.{flat_coord, flat_line, flat_point, flat_points, plain, plains, is_empty, some_empty, holds_empty, hold_empty, flat_area, alone, coord_by, point_at, some_holds, found_of, members, opened, frames, FlatHoldsEnded, FlatHoldsWhole, GivesCollection, GivesFlat, GivesOther, GivesMembers, FlatGives, IsLone}
+use Rattle.wkt_flat_read.specs.Trees.{flat_coord, flat_line, flat_point, flat_points, plain, plains, is_empty, some_empty, holds_empty, hold_empty, flat_area, alone, coord_by, point_at, some_holds, found_of, members, FlatHoldsEnded, GivesCollection, GivesFlat, GivesOther, GivesMembers, FlatGives, IsLone}
 use Rattle.wkt_access.specs.declared.dimensions.Dimension.{Dimension}
 use Rattle.wkt_types.specs.Coords.{numbers_of}
-use Rattle.wkt_types.specs.Flattened.{xy, point_or_fault}
+use Rattle.wkt_types.specs.Flattened.{xy}
 use Rattle.wkt_types.specs.Held.{Held, HeldPoint}
 use Rattle.wkt_types.specs.Outcome.{Outcome, value, refused, empty_point, mismatched}
 use Rattle.wkt_types.specs.Tree.{Tree, Trees}
 use Rattle.wkt_types.specs.Values.{value_of, values_of, point_numbers, line_string_numbers, polygon_numbers}
 use Rattle.wkt_flat.specs.declared.point.Point.{Point}
 use Rattle.wkt_convert.specs.Flatten.{sequence, first_outside, rings, points, point_or_none, flat, flat_all, flat_collection}
-use Rattle.wkt_convert.specs.Kinds.{found_name, IsFlattened}
-use Rattle.wkt_convert.specs.Outcomes.{outcome_map, outcome_both, outcomes}
+use Rattle.wkt_convert.specs.Kinds.{found_name}
+use Rattle.wkt_convert.specs.Outcomes.{outcome_map, outcome_both}
 use Rattle.wkt_convert.specs.declared.flattened.Found.{Found}
 use Rattle.wkt_types.specs.declared.coord.Coord as wkt_coord
 use Rattle.wkt_convert.specs.declared.flattened.Found.TheVariants as found

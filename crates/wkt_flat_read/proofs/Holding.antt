@@ -4,17 +4,16 @@ use Rattle.std.specs.Prelude.{map, option_to_list, get_or, slice_set, IsSome, Ve
 use Rattle.std.specs.Vec.{with_item}
 use Rattle.std.specs.declared.alloc.Global.{Global}
 use Rattle.std.proofs.lemmas.List.{map-append, get_or_at, set_at}
-use Rattle.wkt_access.specs.declared.dimensions.Dimension.{Dimension}
-use Rattle.wkt_access.specs.Values.{Value, Values}
+use Rattle.wkt_access.specs.Values.{Value}
 use Rattle.wkt_flat.specs.Tree.{Flat, flats_of, flat_tree, flat_members}
 use Rattle.wkt_flat.specs.declared.coord.Coord.{Coord}
 use Rattle.wkt_flat.specs.declared.geometry.Geometry.{Geometry}
 use Rattle.wkt_flat.specs.declared.point.Point.{Point}
 use Rattle.wkt_machine.specs.Events.{Event}
-use Rattle.wkt_machine.specs.Growing.{Frame, Growing, coord, headed, rest, members_of, joined, opened as grown_open, with_coord, with_line, with_point, ended, grow, shut, HasMember, HasNumbers, HasPoint, MayCome, MayEnd, MayOpen}
+use Rattle.wkt_machine.specs.Growing.{Frame, Growing, coord, rest, joined, opened as grown_open, with_coord, with_line, with_point, ended, grow, shut, HasMember, HasNumbers, HasPoint, MayCome, MayEnd, MayOpen}
 use Rattle.wkt_machine.specs.declared.part.Part.{Part}
 use Rattle.wkt_machine.specs.declared.part.Part.TheVariants as part
-use Rattle.wkt_flat_read.specs.Trees.{flat_line, flat_area, flat_point, flat_points, plain, plains, is_empty, some_empty, holds_empty, coord_by, coord_of, point_at, members, opened, frames, frames_hold, some_holds, FlatHasOnly, FlatIsLost, FlatHoldsParts, FlatHoldsEnded, FlatHoldsWhole, FlatHoldsBy, FlatHolds, FlatBecomes, FlatGrew, FlatGives, FlatGivesLast, GivesMembers, FlatJoins}
+use Rattle.wkt_flat_read.specs.Trees.{flat_line, flat_area, flat_point, flat_points, plain, is_empty, some_empty, holds_empty, coord_by, coord_of, point_at, members, opened, frames, frames_hold, some_holds, FlatHasOnly, FlatIsLost, FlatHoldsParts, FlatHoldsEnded, FlatHoldsWhole, FlatHoldsBy, FlatHolds, FlatBecomes, FlatGrew, FlatGives, FlatGivesLast, GivesMembers, FlatJoins}
 use Rattle.wkt_flat_read.specs.declared.tree.FlatEnded.TheVariants as last
 use Rattle.wkt_flat_read.specs.declared.tree.FlatTree.{FlatTree}
 use Rattle.wkt_flat_read.proofs.Ended.{or_false, or_true, or_assoc, unmap-last, none-last, line-append, points-append, empty-last, holds-last, members-hold, members-plain, hand_line, hand_point, hand_empty}

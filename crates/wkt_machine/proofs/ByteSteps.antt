@@ -8,7 +8,6 @@ use Rattle.wkt_access.specs.declared.dimensions.Dimension.{Dimension}
 use Rattle.wkt_read.specs.Spanned.{Spanned, AreEnds}
 use Rattle.wkt_events.specs.Remaining.{Legible, remaining_spanned, class_in, IsRunEnd, TakesOne}
 use Rattle.wkt_events.specs.Numbers.{NoNumber, IsNumberAt}
-use Rattle.wkt_machine.specs.Action.{Action}
 use Rattle.wkt_machine.specs.Action as act
 use Rattle.wkt_machine.specs.BytesView.{IsBetween, IsDark, bytes_view, has_coordinates}
 use Rattle.wkt_machine.specs.Events.{Event}

@@ -1,10 +1,10 @@
 -- Where a drive over a text ends its front does, and what is read there is its value.
-use Rattle.std.proofs.Common.{◌≡◌, ℕ, List, [], ◌∷◌, ◌++◌, sym, refl, ap, ◌∙◌, subst, append_assoc, append-nil, Option, Some, None, false, true, ◌⊎◌, inl, inr, Result, Ok, Err, IfOk, IfSome, Bool, ◌||◌, option_map}
+use Rattle.std.proofs.Common.{◌≡◌, ℕ, List, [], ◌∷◌, ◌++◌, sym, refl, ap, ◌∙◌, subst, append_assoc, append-nil, Option, Some, None, false, true, ◌⊎◌, inl, inr, Result, Ok, Err, IfOk, IfSome, ◌||◌, option_map}
 use Rattle.std.specs.Borrow.{MutBor}
 use Rattle.std.specs.declared.alloc.AllocError.{AllocError}
 use Rattle.std.specs.Result.{IsOk}
 use Rattle.wkt_num.specs.Bytes.{Lexeme}
-use Rattle.wkt_access.specs.Values.{Value, Values}
+use Rattle.wkt_access.specs.Values.{Value}
 use Rattle.wkt_read.specs.Begun.{NoneBegins}
 use Rattle.wkt_read.specs.Front.{Front, HasNoFront, NeedsNoMemory}
 use Rattle.wkt_read.specs.Spanned.{Spanned, lexemes_of, end_after, AreEnds, spanned}

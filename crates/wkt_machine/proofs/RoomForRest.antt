@@ -1,20 +1,20 @@
 -- How much lexemes take, and room that is left for what they make.
-use Rattle.std.proofs.Common.{◌≡◌, ◌≢◌, ℕ, suc, ◌+◌, ◌-◌, ◌*◌, ◌<◌, ◌≤◌, List, [], ◌∷◌, length, get_or, drop, slice_range, Option, Some, None, Bool, true, false, cond, if◌then◌else◌, ◌&&◌, ◌||◌, ◌==◌, nat_le, inl, inr, refl, sym, ap, ◌∙◌, subst, arith, lit≤, codes}
+use Rattle.std.proofs.Common.{◌≡◌, ◌≢◌, ℕ, suc, ◌+◌, ◌-◌, ◌*◌, ◌≤◌, List, [], ◌∷◌, length, get_or, drop, Option, Some, None, Bool, true, false, cond, if◌then◌else◌, ◌&&◌, ◌||◌, ◌==◌, nat_le, refl, sym, ap, ◌∙◌, subst, arith, lit≤, codes}
 use Rattle.std.specs.Prelude.{Result, Ok, Err, IfOk}
 use Rattle.std.specs.Str.{bytes_eq, str_to_ascii_uppercase}
 use Rattle.std.specs.Char.{to_ascii_uppercase}
-use Rattle.std.proofs.lemmas.Bool.{leb-true, cases_lt}
-use Rattle.std.proofs.lemmas.List.{length-map, length-drop, drop_all}
+use Rattle.std.proofs.lemmas.Bool.{leb-true}
+use Rattle.std.proofs.lemmas.List.{length-map, length-drop}
 use Rattle.std.proofs.lemmas.Slice.Eq.{bytes_eq-Decides}
 use Rattle.wkt_num.specs.Bytes.{Lexeme, Open, Close, Comma, Word, Num, Class, Nul, White, Mark, Run, class_of}
 use Rattle.wkt_access.specs.declared.dimensions.Dimension.{Dimension}
 use Rattle.wkt_types.specs.declared.geometry_type.GeometryType.{GeometryType}
 use Rattle.wkt_read.specs.Grammar.{KindWord, kind_words, entry_in, kind_word, dim_word, is_empty_word}
 use Rattle.wkt_read.specs.Lexemes.{lexeme_of, starts_number, without_plus}
-use Rattle.wkt_read.specs.Spanned.{Spanned, marks, front, after_run, joined, spanned_from}
+use Rattle.wkt_read.specs.Spanned.{Spanned, front, after_run, joined, spanned_from}
 use Rattle.wkt_read.proofs.LawLemmas.KindWords.{empty_is}
 use Rattle.wkt_events.specs.Remaining.{before_feed, line_of, class_in, remaining_spanned}
-use Rattle.wkt_events.proofs.RemainingLexemes.{class-in-mark, class-in-run, spanned-class, spanned-past, within}
+use Rattle.wkt_events.proofs.RemainingLexemes.{class-in-mark, class-in-run, spanned-class, within}
 use Rattle.wkt_machine.specs.Machine.{part_of, at, inside, outside}
 use Rattle.wkt_machine.specs.Room.{name_length, header_cost, shortest, number_cost, cost, need, owed, owed_at, Leaves, HasRoom, RoomAt, HasNumberRoom, LeavesNumber}
 use Rattle.wkt_machine.specs.View.{seen_of, seen_word, seen_other, sight, View}
@@ -22,7 +22,7 @@ use Rattle.wkt_machine.specs.declared.machine.Seen.{Seen}
 use Rattle.wkt_types.specs.declared.geometry_type.GeometryType.TheVariants as kind
 use Rattle.wkt_machine.specs.declared.machine.Seen.TheVariants as seen
 use Rattle.wkt_access.specs.declared.dimensions.Dimension.TheVariants.{XY, XYZ, XYM, XYZM}
-use Rattle.wkt_machine.specs.Goes.{Stays, Skips, MakesOneNumber}
+use Rattle.wkt_machine.specs.Goes.{Stays, Skips}
 use Rattle.wkt_machine.specs.Machines.{state_of, place_of, next_after}
 use Rattle.wkt_machine.specs.Makers.{Maker}
 use Rattle.wkt_machine.specs.declared.machine.Machine.{Machine}

@@ -1,5 +1,5 @@
 -- Room for headers and numbers of bytes and of tokens.
-use Rattle.std.proofs.Common.{◌≡◌, ℕ, ◌+◌, ◌*◌, ◌≤◌, List, length, get_or, Bool, Option, Some, refl, sym, ap, ◌∙◌, subst, arith, [], ◌-◌, ◌<◌, slice_range, IsTrue}
+use Rattle.std.proofs.Common.{◌≡◌, ℕ, ◌+◌, ◌*◌, ◌≤◌, List, length, get_or, Bool, Option, Some, refl, sym, ap, ◌∙◌, subst, arith, ◌-◌, ◌<◌, slice_range, IsTrue}
 use Rattle.wkt_num.specs.Bytes.{Lexeme, Mark, class_of, Num}
 use Rattle.wkt_access.specs.declared.dimensions.Dimension.{Dimension}
 use Rattle.wkt_types.specs.declared.geometry_type.GeometryType.{GeometryType}

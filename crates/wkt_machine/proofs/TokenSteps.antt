@@ -1,5 +1,5 @@
 -- Tokens as a source, and kind words, numbers and marks of them as steps of the machine.
-use Rattle.std.proofs.Common.{◌≡◌, ◌≢◌, ◌≤◌, ◌+◌, ℕ, List, [], ◌∷◌, arith, sym, refl, ap, ◌∙◌, subst, Option, Some, None, false, ◌-◌, true, ◌<◌, length, length-append}
+use Rattle.std.proofs.Common.{◌≡◌, ◌≢◌, ℕ, List, [], ◌∷◌, arith, sym, refl, ap, ◌∙◌, subst, Option, Some, None, false, ◌-◌, true, ◌<◌, length, length-append}
 use Rattle.std.specs.Prelude.{Ok, Result, Err, IfOk, IfErr}
 use Rattle.wkt_num.specs.Bytes.{Lexeme, Open, Close, Comma, Word, Num}
 use Rattle.wkt_read.specs.Ahead.{remaining, end_of, first_of, Moves}

@@ -1,5 +1,5 @@
 -- A value grows from its events.
-use Rattle.std.proofs.Common.{◌≡◌, ◌+◌, ℕ, zero, suc, List, [], ◌∷◌, ◌++◌, length, sym, refl, ap, ◌∙◌, subst, append_assoc, append-nil, arith, Option, Some, None, IfSome}
+use Rattle.std.proofs.Common.{◌≡◌, ◌+◌, ℕ, List, [], ◌∷◌, ◌++◌, length, sym, refl, ap, ◌∙◌, subst, append_assoc, append-nil, arith, Option, Some, None, IfSome}
 use Rattle.std.specs.Prelude.{option_to_list}
 use Rattle.std.specs.List.{AllByRecursion}
 use Rattle.wkt_access.specs.declared.dimensions.Dimension.{Dimension}
@@ -9,7 +9,7 @@ use Rattle.wkt_access.specs.WellFormed.{CoordFits, LineStringFits, PolygonFits, 
 use Rattle.wkt_types.specs.Coords.{dim_by}
 use Rattle.wkt_machine.specs.Events.{Event, numbers, further, listed, perhaps, events, geometries, members}
 use Rattle.wkt_machine.specs.Trees.{grow_append}
-use Rattle.wkt_machine.specs.Growing.{Frame, Hand, Growing, bare, coord, numbers_by, headed, rest, members_of, shut, opened, with_coord, with_item, ended, without_items, grow, grow_all, HasParts, HasNumbers, HasPoint, MayOpen, MayJoin, MayEnd, MayCome, MayAll}
+use Rattle.wkt_machine.specs.Growing.{Frame, Hand, Growing, bare, coord, numbers_by, headed, rest, members_of, opened, with_coord, with_item, ended, without_items, grow, grow_all, HasParts, HasNumbers, MayOpen, MayJoin, MayEnd, MayCome, MayAll}
 use Rattle.wkt_machine.specs.declared.part.Part.{Part}
 use Rattle.wkt_machine.specs.declared.part.Part.TheVariants as part
 

@@ -1,5 +1,5 @@
 -- How much room what is made takes, at most, and whether there is so much.
-use Rattle.std.specs.Prelude.{◌≡◌, ℕ, suc, ◌+◌, ◌-◌, ◌*◌, ◌≤◌, ◌<◌, List, [], ◌∷◌, length, get_or, slice_range, IsTrue, ◌==◌, if◌then◌else◌}
+use Rattle.std.specs.Prelude.{◌≡◌, ℕ, ◌+◌, ◌-◌, ◌*◌, ◌≤◌, ◌<◌, List, [], ◌∷◌, length, get_or, slice_range, IsTrue, ◌==◌, if◌then◌else◌}
 use Rattle.wkt_num.specs.Bytes.{Lexeme}
 use Rattle.wkt_num.specs.Bytes as lex
 use Rattle.wkt_read.specs.Lexemes.{starts_number, without_plus}

@@ -1,15 +1,12 @@
 //! Values that `from_str` reads, beside the same made by hand.
 use crate::from_str::FromWktStr;
+use crate::made_by_hand::{coord, line};
 use std::alloc::{AllocError, Global};
 use std::process::Abort;
 use wkt_read::ReadError;
 use wkt_types::{
     Coord, Dimension, GeometryCollection, LineString, MultiPoint, Point, Polygon, Wkt,
 };
-
-fn coord(x: i32, y: i32, z: Option<i32>, m: Option<i32>) -> Coord<i32> {
-    Coord { x, y, z, m }
-}
 
 fn point(coord: Option<Coord<i32>>, dim: Dimension) -> Wkt<i32> {
     Wkt::from(Point::new(coord, dim))
@@ -33,18 +30,6 @@ fn is_refused(rt: &impl Abort, alloc: Global, text: &str, message: &str) -> Resu
         Err(ReadError::Memory(error)) => return Err(error),
     }
     Ok(())
-}
-
-fn line(
-    alloc: Global,
-    coords: &[Coord<i32>],
-    dim: Dimension,
-) -> Result<LineString<i32>, AllocError> {
-    let mut all = Vec::new(alloc);
-    for coord in coords {
-        all.push(*coord)?;
-    }
-    Ok(LineString::new(all, dim))
 }
 
 #[test]

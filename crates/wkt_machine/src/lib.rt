@@ -46,6 +46,8 @@ pub use value::{Unread, read};
 #[cfg(test)]
 mod from_str_tests;
 #[cfg(test)]
+mod made_by_hand;
+#[cfg(test)]
 mod tests;
 #[cfg(test)]
 mod value_tests;

@@ -1,4 +1,5 @@
 //! Values that are read, beside the same made by hand.
+use crate::made_by_hand::{coord, line};
 use crate::text::read_text;
 use crate::tokens::OneByOne;
 use crate::value::{Unread, read};
@@ -41,24 +42,8 @@ fn is_read(rt: &impl Abort, alloc: Global, text: &str, want: Made) -> Result<(),
     Ok(())
 }
 
-fn coord(x: i32, y: i32, z: Option<i32>, m: Option<i32>) -> Coord<i32> {
-    Coord { x, y, z, m }
-}
-
 fn xy(x: i32, y: i32) -> Coord<i32> {
     coord(x, y, None, None)
-}
-
-fn line(
-    alloc: Global,
-    coords: &[Coord<i32>],
-    dim: Dimension,
-) -> Result<LineString<i32>, AllocError> {
-    let mut all = Vec::new(alloc);
-    for coord in coords {
-        all.push(*coord)?;
-    }
-    Ok(LineString::new(all, dim))
 }
 
 fn lines(

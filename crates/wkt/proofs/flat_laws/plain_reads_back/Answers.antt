@@ -1,5 +1,5 @@
 -- The text of a plain flat value with closed rings is read as this value.
-use Rattle.std.proofs.Common.{◌≡◌, length, ap, sym, subst, ◌∙◌}
+use Rattle.std.proofs.Common.{length, ap, sym, subst, ◌∙◌}
 use Rattle.wkt_access.specs.Shapes.{canon}
 use Rattle.wkt_access.specs.Texts.{shape_text}
 use Rattle.wkt_access.specs.Values.{Value}

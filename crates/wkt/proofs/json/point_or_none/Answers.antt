@@ -1,5 +1,4 @@
 -- A flat value of another kind is no point, and its kind is reported.
-use Rattle.std.proofs.Common.{◌≡◌, ap, rules}
 use Rattle.wkt_flat.specs.Tree.{flat_tree}
 use Rattle.wkt_convert.proofs.FlatKinds.{no_point}
 use Rattle.wkt.proofs.Texts.{gives_no_point}

@@ -1,5 +1,5 @@
 -- The bytes so far are swapped, and the others are as they were.
-use Rattle.std.proofs.Common.{◌≡◌, ℕ, ◌<◌, ap, sym, ◌∙◌, arith, length}
+use Rattle.std.proofs.Common.{◌≡◌, ◌<◌, ap, ◌∙◌, arith, length}
 use Rattle.wkt_command.specs.Place.{other_end}
 use Rattle.wkt_command.proofs.Bytes.{replaced_next, length_same}
 use Rattle.wkt_command.proofs.input.swap_ends.Goals as goal

@@ -12,7 +12,7 @@ use Rattle.wkt_num.specs.Bytes.{Close, Comma, class_of}
 use Rattle.wkt_machine.specs.Room.{owed}
 use Rattle.wkt_machine.specs.Machines.{state_of}
 use Rattle.wkt_machine.proofs.ByteViews.{close_mark, comma_mark}
-use Rattle.wkt_machine.proofs.RoomForRest.{outside_owes, room_at, no_room}
+use Rattle.wkt_machine.proofs.RoomForRest.{outside_owes, room_at}
 use Rattle.wkt_machine.proofs.SourceRooms.{byte_fits, byte_after}
 use Rattle.wkt_machine.proofs.coordinates.coordinates.Goals as goal
 

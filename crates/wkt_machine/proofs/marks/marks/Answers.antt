@@ -1,8 +1,7 @@
 -- Each way goes on from the one before.
-use Rattle.std.proofs.Common.{◌≡◌, ◌+◌, ◌++◌, ◌∙◌, ℕ, List, Option, ap, sym, arith, rules, IfErr}
+use Rattle.std.proofs.Common.{◌+◌, ◌++◌, ◌∙◌, ℕ, List, Option, ap, sym, arith, rules, IfErr}
 use Rattle.std.proofs.Math.Nat.{le_refl}
 use Rattle.std.proofs.lemmas.Bool.{OnTrue_at}
-use Rattle.std.specs.Prelude.{length}
 use Rattle.wkt_machine.specs.Goes.{Refuses, Stays}
 use Rattle.wkt_machine.specs.Leads.{Leads}
 use Rattle.wkt_machine.specs.Makers.{Maker}

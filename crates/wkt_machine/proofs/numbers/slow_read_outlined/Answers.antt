@@ -1,6 +1,5 @@
 -- The number that the window shows stands there.
-use Rattle.std.proofs.Common.{arith, length, length-drop, ◌-◌, take, drop}
-use Rattle.std.proofs.lemmas.List.{length-take-le}
+use Rattle.std.proofs.Common.{arith, length, ◌-◌, take, drop}
 use Rattle.wkt_machine.proofs.ByteViews.{padded-shows, shown-there, zero-at}
 use Rattle.wkt_machine.proofs.numbers.slow_read_outlined.Goals as goal
 

@@ -4,9 +4,9 @@ use Rattle.wkt_machine.specs.TokensView.{tokens_view}
 use Rattle.wkt_machine.proofs.WaysJoin.{leads_none, leads_ok, leads_refused}
 use Rattle.wkt_machine.proofs.TokenSteps.{there_in, no_y, item_goes, last_goes, turn_leads}
 use Rattle.wkt_num.specs.Bytes.{Close, Comma}
-use Rattle.wkt_machine.specs.Room.{owed, RoomAt}
+use Rattle.wkt_machine.specs.Room.{owed}
 use Rattle.wkt_machine.specs.Machines.{state_of}
-use Rattle.wkt_machine.proofs.RoomForRest.{outside_owes, room_at, no_room}
+use Rattle.wkt_machine.proofs.RoomForRest.{outside_owes, room_at}
 use Rattle.wkt_machine.proofs.SourceRooms.{mark_fits, mark_after, number_fits, number_passed, standing_room}
 use Rattle.wkt_machine.proofs.pairs.pairs.Goals as goal
 

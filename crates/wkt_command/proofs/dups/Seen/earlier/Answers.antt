@@ -1,5 +1,5 @@
 -- The key is found where it was put first, and all keys are kept.
-use Rattle.std.proofs.Common.{◌≡◌, ℕ, List, None, Some, ap, sym, ◌∙◌, subst, if◌then◌else◌, unwrap_or}
+use Rattle.std.proofs.Common.{◌≡◌, ℕ, List, Some, ap, sym, ◌∙◌, subst, if◌then◌else◌, unwrap_or}
 use Rattle.std.specs.Str.{bytes_eq}
 use Rattle.wkt_command.specs.Seen.{first_of}
 use Rattle.wkt_command.proofs.Bytes.{found_after}

@@ -1,5 +1,4 @@
 -- The verdict says which line was written.
-use Rattle.std.proofs.Common.{OnOk}
 use Rattle.wkt_command.specs.Canon.{out_bytes}
 use Rattle.wkt_command.proofs.Canonizing.{ok-map, canonizes-read, canonizes-refused, none-refused, none-rest}
 use Rattle.wkt_command.proofs.run.Run.answer.Goals as goal

@@ -1,7 +1,7 @@
 -- The collection that was opened last has one member more.
 use Rattle.std.proofs.Common.{◌+◌, ◌≡◌, ◌-◌, refl, arith, length}
 use Rattle.wkt_flat.specs.Equal.{coord_eq}
-use Rattle.wkt_flat_read.proofs.Holding.{lost_joins, member_put, none_joins, none_open}
+use Rattle.wkt_flat_read.proofs.Holding.{member_put}
 use Rattle.wkt_flat_read.proofs.tree.FlatTree.put_member.Goals as goal
 
 pub returns-else-not-add_one : goal.returns-else-not-add_one
