@@ -26,12 +26,14 @@ pub fn gathered_grows<S: TextSink>()
 
 /// A `WriterWrapper` over a writer that reveals its bytes: these and what is held still have together grown by the whole
 /// text; after an error a beginning of what was held and of the text is out.
+#[tactic(auto, using(crate::proofs::SinkSteps::wrapper))]
 pub fn wrapper_grows<W: ByteSink>()
     ensures { WrapperGrows W.sink }
 {}
 
 /// A `CountedText` over a writer whose text is known: after Ok it has grown by the whole text. After an error a beginning
 /// of the text was written before the call that failed.
+#[tactic(auto, using(crate::proofs::SinkSteps::counted))]
 pub fn counted_grows<W: fmt::Write>()
     ensures { (text : W → List ℕ) → AddsPieces W.write_str_gives text → CountedGrows W.write_str_gives text }
 {}

@@ -21,3 +21,5 @@ pub tree-multi_point : {T : Type 0} (x : Held (HeldPoint (Coord T))) → tree (v
 tree-multi_point {T} x =
     ap tree (sym (variants.rolls-MultiPoint x))
     ∙ folds.fold-roll-Wkt T (Tree T) (Tree T) wkt_step collection_step (opened.Wkt-F.MultiPoint x)
+
+pub ruleset tree_line_string = tree-line_string

@@ -173,6 +173,7 @@ impl<T: WktNum> OneKind for flat::Point<T> {
 
     ghost kind = { point_kind };
 
+    #[tactic(auto, using(crate::proofs::FlatKinds::no_point))]
     fn of_kind(geometry: Geometry<T>) -> Result<Self, ConvertError>
         ensures { IsOfKind point_kind (flat_tree geometry) result }
     {
@@ -189,6 +190,7 @@ impl<T: WktNum> OneKind for flat::Line<T> {
 
     ghost kind = { line_kind };
 
+    #[tactic(auto, using(crate::proofs::FlatKinds::no_line))]
     fn of_kind(geometry: Geometry<T>) -> Result<Self, ConvertError>
         ensures { IsOfKind line_kind (flat_tree geometry) result }
     {
@@ -204,6 +206,7 @@ impl<T: WktNum> OneKind for flat::LineString<T> {
 
     ghost kind = { line_string_kind };
 
+    #[tactic(auto, using(crate::proofs::FlatKinds::no_line_string))]
     fn of_kind(geometry: Geometry<T>) -> Result<Self, ConvertError>
         ensures { IsOfKind line_string_kind (flat_tree geometry) result }
     {
@@ -219,6 +222,7 @@ impl<T: WktNum> OneKind for flat::Polygon<T> {
 
     ghost kind = { polygon_kind };
 
+    #[tactic(auto, using(crate::proofs::FlatKinds::no_rings))]
     fn of_kind(geometry: Geometry<T>) -> Result<Self, ConvertError>
         ensures { IsOfKind polygon_kind (flat_tree geometry) result }
     {
@@ -234,6 +238,7 @@ impl<T: WktNum> OneKind for flat::MultiPoint<T> {
 
     ghost kind = { multi_point_kind };
 
+    #[tactic(auto, using(crate::proofs::FlatKinds::no_points))]
     fn of_kind(geometry: Geometry<T>) -> Result<Self, ConvertError>
         ensures { IsOfKind multi_point_kind (flat_tree geometry) result }
     {
@@ -249,6 +254,7 @@ impl<T: WktNum> OneKind for flat::MultiLineString<T> {
 
     ghost kind = { multi_line_string_kind };
 
+    #[tactic(auto, using(crate::proofs::FlatKinds::no_line_strings))]
     fn of_kind(geometry: Geometry<T>) -> Result<Self, ConvertError>
         ensures { IsOfKind multi_line_string_kind (flat_tree geometry) result }
     {
@@ -264,6 +270,7 @@ impl<T: WktNum> OneKind for flat::MultiPolygon<T> {
 
     ghost kind = { multi_polygon_kind };
 
+    #[tactic(auto, using(crate::proofs::FlatKinds::no_polygons))]
     fn of_kind(geometry: Geometry<T>) -> Result<Self, ConvertError>
         ensures { IsOfKind multi_polygon_kind (flat_tree geometry) result }
     {
@@ -280,6 +287,7 @@ impl<T: WktNum> OneKind for flat::Rect<T> {
 
     ghost kind = { rect_kind };
 
+    #[tactic(auto, using(crate::proofs::FlatKinds::no_corners))]
     fn of_kind(geometry: Geometry<T>) -> Result<Self, ConvertError>
         ensures { IsOfKind rect_kind (flat_tree geometry) result }
     {
@@ -296,6 +304,7 @@ impl<T: WktNum> OneKind for flat::Triangle<T> {
 
     ghost kind = { triangle_kind };
 
+    #[tactic(auto, using(crate::proofs::FlatKinds::no_triangle))]
     fn of_kind(geometry: Geometry<T>) -> Result<Self, ConvertError>
         ensures { IsOfKind triangle_kind (flat_tree geometry) result }
     {

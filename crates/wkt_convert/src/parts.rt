@@ -15,6 +15,7 @@ pub(crate) trait Turn<Y> {
 }
 
 /// The list with the form of each part added.
+#[tactic(auto, using(wkt_flat::proofs::TreeLemmas::grown_after))]
 pub(crate) fn turn_after<X: Turn<Y>, Y: Drop>(
     alloc: Global,
     parts: &[X],

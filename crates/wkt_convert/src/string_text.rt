@@ -27,6 +27,7 @@ fn write_gathered<S: TextSink, G: Written>(sink: S, g: &G) -> (S, Result<(), Err
 }
 
 /// Adds the text of a geometry to a string. A piece that there is no memory for is no part of it.
+#[tactic(auto, using(wkt_write::proofs::Writable::pushed))]
 fn push_text<G: Written>(out: &mut String, g: &G) -> Result<(), Error>
     ensures { Pushes G.T.is_value G.T.num (string_bytes out.old) (G.shape g.now) (string_bytes out.new) result }
 {

@@ -211,3 +211,9 @@ behind-plus text at end start order inside is =
           ∙ ap (λ (b : ℕ). drop (plus_len b) (slice_range text at end)) (sym first)
           ∙ sym (dropped (slice_range text at end)),
     )
+
+pub ruleset high_lanes = high-lanes
+
+pub ruleset ascii_run = ascii-run
+
+pub ruleset low_lanes = low-lanes

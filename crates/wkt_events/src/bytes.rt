@@ -98,6 +98,7 @@ pub fn run_end(text: &[u8], from: usize) -> usize
 
 /// The bytes of the window that are no more than a comma, as bits: what ends a run is among them.
 #[inline(always)]
+#[tactic(auto, using(crate::proofs::Runs::low_lanes))]
 fn low_bytes(text: &[u8], from: usize) -> u64
     requires { from + 32 ≤ length text.now }
     ensures { result ≡ low_mask text.now from }
@@ -108,6 +109,7 @@ fn low_bytes(text: &[u8], from: usize) -> u64
 
 /// Whether the bytes of a run are ASCII; of one that is long, or ends near the text's end, it isn't asked.
 #[inline(always)]
+#[tactic(auto, using(crate::proofs::Runs::ascii_run, std::proofs::lemmas::Bool::OnTrue_from, std::proofs::lemmas::Bool::Decides::nat_tests))]
 pub(crate) fn is_ascii_fast(text: &[u8], from: usize, end: usize) -> bool
     requires order { from ≤ end }
     requires inside { end ≤ length text.now }
@@ -121,6 +123,7 @@ pub(crate) fn is_ascii_fast(text: &[u8], from: usize, end: usize) -> bool
 
 /// The bytes of the window that aren't ASCII, as bits.
 #[inline(always)]
+#[tactic(auto, using(crate::proofs::Runs::high_lanes))]
 fn high_bytes(text: &[u8], from: usize) -> u64
     requires { from + 32 ≤ length text.now }
     ensures { result ≡ high_mask text.now from }

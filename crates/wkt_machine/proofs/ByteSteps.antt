@@ -392,3 +392,5 @@ module _ (D : ℕ) (text : List ℕ) where
     pub point-held : IsSigned 63 x → IsSigned 63 y → IsPointFront D text (to_z w64 (of_z w64 x)) (to_z w64 (of_z w64 y)) end
     point-held fx fy =
         subst (λ u. IsPointFront D text u (to_z w64 (of_z w64 y)) end) (sym (held-is x fx)) (subst (λ v. IsPointFront D text x v end) (sym (held-is y fy)) point-front)
+
+pub ruleset number_fast = number-fast

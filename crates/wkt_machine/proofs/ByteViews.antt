@@ -314,3 +314,5 @@ module _ {T : Type 0} (read : List ℕ → Option T) where
           reads = b.reads;
           text = refl;
         })
+
+pub ruleset nul_behind = nul-behind

@@ -21,11 +21,13 @@ pub fn goes_on<T: WktNum>()
 {}
 
 /// The lexeme with which the machine doesn't move is the first with which the lexemes are dead.
+#[tactic(auto, using(crate::proofs::WholeRuns::refuses))]
 pub fn refuses<T: WktNum>()
     ensures { Refuses T.read }
 {}
 
 /// What is expected at the machine's place is exactly each lexeme with which the lexemes before it aren't dead.
+#[tactic(auto, using(crate::proofs::ExpectedIsTaken::expected_after))]
 pub fn expects<T: WktNum>()
     ensures { Expects T.read }
 {}

@@ -41,6 +41,7 @@ pub fn fast_point<const D: u32>(text: &[u8]) -> Option<FastPoint>
 
 /// The number that comes next, and where it ends. `None` doesn't imply that none comes.
 #[inline(always)]
+#[tactic(auto, using(crate::proofs::ByteSteps::number_fast))]
 fn fast_number<const D: u32>(text: &[u8], at: usize) -> Option<(i64, usize)>
     requires { at ≤ length text.now }
     ensures { IfSome result (λ r. (run : List ℕ) × TakesOne false text.now at (Num run) r.1

@@ -53,6 +53,7 @@ impl From<AllocError> for InferError {
 }
 
 // Whether the word, which is in capitals, stands in the text.
+#[tactic(auto, using(crate::proofs::LawLemmas::HeaderPlaces::holds_next))]
 fn holds(word: &[u8], text: &[u8]) -> bool
     requires capitals { AllByRecursion IsCapital word.now }
     ensures { result ≡ holds word.now (str_to_ascii_uppercase text.now) }

@@ -12,6 +12,7 @@ use wkt_types::GeometryType;
 
 // Whether the text begins with the word, which is in capitals, whatever the text's case.
 #[inline(always)]
+#[tactic(auto, using(crate::proofs::LawLemmas::HeaderPlaces::upper_short))]
 pub(crate) fn begins(word: &[u8], text: &[u8]) -> bool
     requires capitals { AllByRecursion IsCapital word.now }
     ensures { result ≡ begins word.now (str_to_ascii_uppercase text.now) }
@@ -32,6 +33,7 @@ pub(crate) fn begins(word: &[u8], text: &[u8]) -> bool
 
 // What follows the word, which is in capitals, at the start of the text, whatever the text's case.
 #[inline(always)]
+#[tactic(auto, using(crate::proofs::LawLemmas::HeaderPlaces::upper_long, crate::proofs::LawLemmas::HeaderPlaces::upper_rest))]
 fn strip<'a>(word: &[u8], text: &'a [u8]) -> Option<&'a [u8]>
     requires capitals { AllByRecursion IsCapital word.now }
     ensures { Strips result word.now (str_to_ascii_uppercase text.now) }
@@ -163,6 +165,7 @@ pub fn is_empty(word: &str) -> bool
 }
 
 /// Whether these bytes are the word EMPTY.
+#[tactic(auto, using(crate::proofs::LawLemmas::HeaderPlaces::empty_word))]
 pub fn is_empty_in(word: &[u8]) -> bool
     ensures { result ≡ is_empty_word word.now }
 {

@@ -102,6 +102,7 @@ impl Message {
     }
 
     /// The message with this text, as `ReadError::Text` carries it; None of any other text.
+    #[tactic(auto, using(crate::proofs::Refusals::none_first))]
     pub fn from_text(said: &str) -> Option<Message>
         ensures some { IfSome result (λ m. said.now ≡ message_text m) }
         ensures none { IfNone result ((m : Message) → said.now ≢ message_text m) }

@@ -67,6 +67,7 @@ fn map_line_string<T, U: WktNum, M: Mapper<T, U>>(
     Ok(LineString(map_each(alloc, &line_string.0, mapper)?))
 }
 
+#[tactic(auto, using(wkt_flat::proofs::TreeLemmas::grown))]
 fn map_each<T, U: WktNum, M: Mapper<T, U>>(
     alloc: Global,
     coords: &[Coord<T>],
@@ -81,6 +82,7 @@ fn map_each<T, U: WktNum, M: Mapper<T, U>>(
     Ok(all)
 }
 
+#[tactic(auto, using(wkt_flat::proofs::TreeLemmas::grown))]
 fn map_line_strings<T, U: WktNum, M: Mapper<T, U>>(
     alloc: Global,
     line_strings: &[LineString<T>],
@@ -101,6 +103,7 @@ fn map_point<T, U: WktNum, M: Mapper<T, U>>(point: &Point<T>, mapper: &M) -> Poi
     Point(mapper.coord(&point.0))
 }
 
+#[tactic(auto, using(wkt_flat::proofs::TreeLemmas::grown))]
 fn map_points<T, U: WktNum, M: Mapper<T, U>>(
     alloc: Global,
     points: &[Point<T>],
@@ -127,6 +130,7 @@ fn map_polygon<T, U: WktNum, M: Mapper<T, U>>(
     Polygon::new(alloc, exterior, interiors)
 }
 
+#[tactic(auto, using(wkt_flat::proofs::TreeLemmas::grown))]
 fn map_polygons<T, U: WktNum, M: Mapper<T, U>>(
     alloc: Global,
     polygons: &[Polygon<T>],

@@ -36,6 +36,7 @@ pub fn visit_coords<T: Copy, V: Visitor<T>>(geometry: &Geometry<T>, visitor: &mu
     visit_geometry(geometry, visitor);
 }
 
+#[tactic(auto, using(crate::proofs::Visiting::visits_next_self))]
 fn visit_each<T: Copy, V: Visitor<T>>(coords: &[Coord<T>], visitor: &mut V)
     ensures { Visits V.visits visitor.old coords.now visitor.new }
 {
@@ -44,6 +45,7 @@ fn visit_each<T: Copy, V: Visitor<T>>(coords: &[Coord<T>], visitor: &mut V)
     }
 }
 
+#[tactic(auto, using(crate::proofs::Visiting::visits_next_one))]
 fn visit_points<T: Copy, V: Visitor<T>>(points: &[Point<T>], visitor: &mut V)
     ensures { Visits V.visits visitor.old (map (λ p. p.0) points.now) visitor.new }
 {
@@ -52,6 +54,7 @@ fn visit_points<T: Copy, V: Visitor<T>>(points: &[Point<T>], visitor: &mut V)
     }
 }
 
+#[tactic(auto, using(crate::proofs::Visiting::visits_next))]
 fn visit_line_strings<T: Copy, V: Visitor<T>>(line_strings: &[LineString<T>], visitor: &mut V)
     ensures { Visits V.visits visitor.old (flat_map (λ l. l) line_strings.now) visitor.new }
 {
@@ -60,6 +63,7 @@ fn visit_line_strings<T: Copy, V: Visitor<T>>(line_strings: &[LineString<T>], vi
     }
 }
 
+#[tactic(auto, using(crate::proofs::Visiting::visits_then))]
 fn visit_polygon<T: Copy, V: Visitor<T>>(polygon: &Polygon<T>, visitor: &mut V)
     ensures { Visits V.visits visitor.old (polygon_coords polygon.now) visitor.new }
 {
@@ -67,6 +71,7 @@ fn visit_polygon<T: Copy, V: Visitor<T>>(polygon: &Polygon<T>, visitor: &mut V)
     visit_line_strings(polygon.interiors(), visitor);
 }
 
+#[tactic(auto, using(crate::proofs::Visiting::visits_next))]
 fn visit_polygons<T: Copy, V: Visitor<T>>(polygons: &[Polygon<T>], visitor: &mut V)
     ensures { Visits V.visits visitor.old (flat_map polygon_coords polygons.now) visitor.new }
 {

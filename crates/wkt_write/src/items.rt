@@ -124,6 +124,7 @@ pub(crate) fn put_body<W: TextSink, X: Items>(f: &mut W, items: &X, k: usize) ->
 
 /// Writes a geometry of these items: its kind word, its dimension, and its body.
 #[inline(always)]
+#[tactic(auto, using(wkt_num::proofs::SinkCalls::puts_err, crate::proofs::Bracketed::headed_broken, crate::proofs::Bracketed::headed_adds, crate::proofs::FirstErrors::none_counted))]
 pub(crate) fn put_listed<W: TextSink, X: Items>(
     f: &mut W,
     word: &str,

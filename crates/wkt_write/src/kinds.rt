@@ -101,6 +101,7 @@ impl<L: LineStringTrait> Kind for LineString<'_, L> {
     }
 
     #[inline(never)]
+    #[tactic(auto, using(crate::proofs::FirstErrors::none_at, crate::proofs::Bracketed::line_string_text))]
     fn put<W: TextSink>(&self, f: &mut W) -> fmt::Result {
         put_listed(f, "LINESTRING", self.0.dim(), &Coords(self.0))
     }
@@ -184,6 +185,7 @@ impl<M: MultiPolygonTrait> Kind for MultiPolygon<'_, M> {
     }
 
     #[inline(never)]
+    #[tactic(auto, using(crate::proofs::FirstErrors::none_at, crate::proofs::Bracketed::multi_polygon_text))]
     fn put<W: TextSink>(&self, f: &mut W) -> fmt::Result {
         put_listed(f, "MULTIPOLYGON", self.0.dim(), &Polygons(self.0))
     }

@@ -21,6 +21,7 @@ use wkt_num::{StringText, TextSink, WktNum};
 
 /// Writes a geometry of one kind, if its check finds no error.
 #[inline(always)]
+#[tactic(auto, using(crate::proofs::Writable::lawful, crate::proofs::Writable::refusal, std::proofs::lemmas::Result::err_from_is_err_and))]
 fn write_kind<W: TextSink, K: Kind>(f: &mut W, g: &K) -> Result<(), Error>
     ensures { Writes W.sink K.T.is_value K.T.num f.old (K.shape g.now) f.new result }
 {
@@ -31,6 +32,7 @@ fn write_kind<W: TextSink, K: Kind>(f: &mut W, g: &K) -> Result<(), Error>
 
 /// Adds the text of a geometry of one kind to a string.
 #[inline(always)]
+#[tactic(auto, using(crate::proofs::Writable::pushed))]
 fn push_kind<K: Kind>(out: &mut String, g: &K) -> Result<(), Error>
     ensures { Pushes K.T.is_value K.T.num (string_bytes out.old) (K.shape g.now) (string_bytes out.new) result }
 {

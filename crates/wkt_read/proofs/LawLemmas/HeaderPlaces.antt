@@ -271,3 +271,5 @@ module _ {N : Type 0} (read : List ℕ → Option N) where
   front-of-lexemes text given later v are g =
       let (after, taken, ends) = are given later refl in
       record { lexemes = lexemes_of given; rest = after; taken = taken; reads = g; ends = ends }
+
+pub ruleset empty_word = (empty-word, not-empty-word)

@@ -207,3 +207,5 @@ module _ {N : Type 0} (read : List ℕ → Option N) where
     further_old : (vs : Values N) (ls : List Lexeme) → Further read ls vs → AreOldForms vs → OldFurther read ls vs
     further_old Values.no_values ls e o = e
     further_old (Values.more_values v vs) ls (a, b, e, p, m) o = (a, b, e, value_old v a p o.0, further_old vs b m o.1)
+
+pub ruleset wkt_one = wkt-one

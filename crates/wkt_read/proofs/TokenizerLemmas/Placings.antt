@@ -182,3 +182,7 @@ behind text remaining some within is =
 pub taken-within : (c : Cursor) → taken_in c ≤ length c.text.now
 unfolding taken_in
 taken-within c = omega arith
+
+pub ruleset goes_moves = (goes-moves, takes-moves)
+
+pub ruleset taken_within = taken-within

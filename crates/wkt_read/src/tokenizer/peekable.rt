@@ -112,6 +112,7 @@ impl<'a, T: WktNum> PeekableTokens<'a, T> {
 
     /// The next lexeme, which is taken.
     #[inline(always)]
+    #[tactic(auto, using(crate::proofs::TokenizerLemmas::Placings::goes_moves))]
     pub fn take(&mut self) -> Lexeme<'a>
         ensures goes_on { StreamGoesOn self.old self.new }
         ensures near { OnSome (found result) (IsNear self.new) }

@@ -43,6 +43,7 @@ pub fn is_white(byte: u8) -> bool
 }
 
 /// Whether there is nothing but white space.
+#[tactic(auto, using(crate::proofs::TokenizerLemmas::Placings::white_on, crate::proofs::TokenizerLemmas::Placings::white_here, crate::proofs::TokenizerLemmas::Placings::none_left))]
 pub fn is_blank(bytes: &[u8]) -> bool
     ensures { IsTrue result ↔ AllWhite bytes.now }
 {
@@ -115,6 +116,7 @@ fn run_ends(bytes: &mut Cursor<'_>) -> Option<(usize, ByteClass)>
 /// The end of the run that begins at `from`, and the class of the byte after it, which is taken. The cursor
 /// is held by value, and asked once for eight bytes how many are left, so that it stays in registers.
 #[inline(always)]
+#[tactic(auto, using(crate::proofs::TokenizerLemmas::Placings::taken_within))]
 pub(crate) fn end_of_run<'a>(bytes: Cursor<'a>, from: usize) -> (Cursor<'a>, usize, ByteClass)
     requires { IsRunSoFar bytes.text.now from (taken_in bytes) }
     ensures text { result.0.text ≡ bytes.entry.text }
