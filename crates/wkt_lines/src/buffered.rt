@@ -1,6 +1,5 @@
 //! The answers to the lines of a block.
 ghost use Rattle.std.specs.Prelude.{◌≡◌, ◌<◌, [], OnOk};
-ghost use Rattle.wkt_bytes.specs.Sinks.{PutsAll};
 ghost use Rattle.wkt_lines.specs.Output.{OnRunMemory};
 ghost use Rattle.wkt_lines.specs.Buffers.{output_text, HasRoomFor, PutsOut, AnswersAll};
 
@@ -8,11 +7,11 @@ use crate::into_output::Answers;
 use crate::lines::RunError;
 use crate::output_buffer::OutputBuffer;
 use std::alloc::AllocError;
-use std::io;
 use wkt_bytes::{ByteSink, put_all};
 
-/// Puts out the answers to all lines of the block, by an output buffer that is empty before and after.
-pub(crate) fn answer_block<A: Answers, W: ByteSink>(
+/// Puts out the answers to all lines of the block, by an output buffer that is empty before and after. Where `OFTEN` is
+/// set, it is put out for each line.
+pub(crate) fn answer_block<A: Answers, W: ByteSink, const OFTEN: bool>(
     answers: &A,
     input: &[u8],
     output: &mut OutputBuffer,
@@ -28,9 +27,16 @@ pub(crate) fn answer_block<A: Answers, W: ByteSink>(
         let rest = &input[at..];
         // No result is made of an output buffer that is ready, since it would be carried along.
         if !output.is_ready(rest.len()) {
-            match make_ready(rest.len(), output, writer) {
-                Ok(()) => {}
-                Err(e) => return Err(e),
+            if OFTEN {
+                match make_ready(rest.len(), output, writer) {
+                    Ok(()) => {}
+                    Err(e) => return Err(e),
+                }
+            } else {
+                match make_ready_outlined(rest.len(), output, writer) {
+                    Ok(()) => {}
+                    Err(e) => return Err(e),
+                }
             }
         }
         match answers.add_first(rest, output) {
@@ -70,7 +76,7 @@ fn make_ready<W: ByteSink>(
     ensures room { OnOk result (HasRoomFor output.new n) }
     ensures keeps { W.sink.keeps writer.old writer.new }
 {
-    match put_pieces(writer, output.written(), output.piece()) {
+    match put_all(writer, output.written()) {
         Ok(()) => {}
         Err(e) => {
             output.cut(0);
@@ -84,6 +90,21 @@ fn make_ready<W: ByteSink>(
     }
 }
 
+/// As [`make_ready`], out of the loop.
+#[cold]
+#[inline(never)]
+fn make_ready_outlined<W: ByteSink>(
+    n: usize,
+    output: &mut OutputBuffer,
+    writer: &mut W,
+) -> Result<(), RunError>
+    ensures puts { PutsOut W.sink result (output_text output.old) (output_text output.new) writer.old writer.new }
+    ensures room { OnOk result (HasRoomFor output.new n) }
+    ensures keeps { W.sink.keeps writer.old writer.new }
+{
+    make_ready(n, output, writer)
+}
+
 /// Puts out what is written, and empties the output buffer.
 #[inline(never)]
 fn put_out<W: ByteSink>(output: &mut OutputBuffer, writer: &mut W) -> Result<(), RunError>
@@ -92,27 +113,10 @@ fn put_out<W: ByteSink>(output: &mut OutputBuffer, writer: &mut W) -> Result<(),
     ensures memory { OnRunMemory result ⊥ }
     ensures keeps { W.sink.keeps writer.old writer.new }
 {
-    let put = put_pieces(writer, output.written(), output.piece());
+    let put = put_all(writer, output.written());
     output.cut(0);
     match put {
         Ok(()) => Ok(()),
         Err(e) => Err(RunError::Write(e)),
     }
-}
-
-/// Puts out the bytes, so many at a time.
-#[inline(always)]
-fn put_pieces<W: ByteSink>(writer: &mut W, bytes: &[u8], piece: usize) -> Result<(), io::Error>
-    requires { 0 < piece }
-    ensures { PutsAll W.sink bytes.now writer.old writer.new result }
-{
-    let mut rest = bytes;
-    'pieces: while rest.len() > piece {
-        let (first, more) = rest.split_at(piece);
-        match put_all(writer, first) {
-            Ok(()) => rest = more,
-            Err(e) => return Err(e),
-        }
-    }
-    put_all(writer, rest)
 }

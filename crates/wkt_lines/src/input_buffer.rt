@@ -2,16 +2,20 @@
 ghost use Rattle.std.specs.Prelude.{◌≡◌, ◌≢◌, ℕ, List, ◌≤◌, ◌<◌, [], ◌++◌, OnOk, OnErr, IfOk, length, take, drop, get_or, vec_len};
 ghost use Rattle.std.specs.Io.KnownBytes.{Consumes, Keeps, IsAtEnd};
 ghost use Rattle.wkt_num.specs.Sink.{next_count};
+ghost use Rattle.wkt_bytes.specs.ReadAll.{OnRead, UnlessRead};
 ghost use Rattle.wkt_lines.specs.Laws.{IsWholeLines};
 ghost use Rattle.wkt_lines.specs.Lines.{HasNoFeed};
 
 use crate::ends::line_end;
 use std::alloc::{AllocError, Global};
 use std::io;
-use wkt_bytes::ByteSource;
+use wkt_bytes::{ByteSource, ReadAllError};
 
-// How many bytes of room are made at once.
+// How many bytes of room are made at once,
 const BLOCK: usize = 131072;
+
+// by pieces of so many: longer ones are filled by `rep`, an instruction a byte and no faster.
+const PIECE: usize = 2048;
 
 // How much of an input is answered at once, where all of it is at hand.
 const ANSWERED_AT_ONCE: usize = 1_048_576;
@@ -53,6 +57,27 @@ fn before_no_feeds(bytes: &[u8], seen: usize) -> usize
         at = from;
     }
     at
+}
+
+/// Adds a block of room.
+#[cold]
+#[inline(never)]
+fn add_block(bytes: &mut Vec<u8>) -> Result<(), AllocError>
+    ensures kept { take (vec_len bytes.old) bytes.new.items ≡ bytes.old.items }
+    ensures len { vec_len bytes.old ≤ vec_len bytes.new }
+    ensures grows { OnOk result (vec_len bytes.old < vec_len bytes.new) }
+{
+    match bytes.reserve(BLOCK) {
+        Ok(()) => {}
+        Err(e) => return Err(e),
+    }
+    for _ in 1..BLOCK / PIECE {
+        match bytes.extend_from_slice(&[0; PIECE]) {
+            Ok(()) => {}
+            Err(e) => return Err(e),
+        }
+    }
+    bytes.extend_from_slice(&[0; PIECE])
 }
 
 /// A buffer at whose front stands what was read and not answered yet.
@@ -101,10 +126,7 @@ impl InputBuffer {
         if self.len < self.bytes.len() {
             return Ok(());
         }
-        match self.bytes.len().checked_add(BLOCK) {
-            Some(n) => self.bytes.resize(n, 0),
-            None => Err(AllocError),
-        }
+        add_block(&mut self.bytes)
     }
 
     /// Takes what the source gives in one call, and returns how much.
@@ -127,6 +149,29 @@ impl InputBuffer {
                 Ok(n)
             }
             Err(e) => Err(e),
+        }
+    }
+
+    /// Takes all that is left in the source.
+    ///
+    /// # Errors
+    /// The source's first error, or out of memory.
+    pub fn fill_all<R: ByteSource>(&mut self, reader: &mut R) -> Result<(), ReadAllError>
+        requires { unanswered self.old ≡ [] }
+        ensures bytes { OnOk result (Consumes (R.left reader.old) (R.left reader.new) (unanswered self.new)) }
+        ensures end { OnOk result (IsAtEnd (R.left reader.new)) }
+        ensures read { OnRead result (R.failures reader.new ≡ next_count (R.failures reader.old)) }
+        ensures count { UnlessRead result (R.failures reader.new ≡ R.failures reader.old) }
+    {
+        'turns: loop {
+            if let Err(e) = self.make_room() {
+                return Err(ReadAllError::Memory(e));
+            }
+            match self.fill(reader) {
+                Ok(0) => return Ok(()),
+                Ok(_) => {}
+                Err(e) => return Err(ReadAllError::Read(e)),
+            }
         }
     }
 

@@ -6,13 +6,13 @@ ghost use Rattle.wkt_lines.specs.Buffers.{AnswersAll};
 ghost use Rattle.wkt_lines.specs.Streaming.{Runs};
 
 use crate::buffered::answer_block;
-use crate::input_buffer::whole_lines;
+use crate::input_buffer::{InputBuffer, whole_lines};
 use crate::into_output::{Answers, ByMachine};
 use crate::output_buffer::OutputBuffer;
 use std::alloc::{AllocError, Global};
 use std::io;
 use thiserror::Error;
-use wkt_bytes::{ByteSink, ByteSource, ReadAllError, read_all};
+use wkt_bytes::{ByteSink, ByteSource, ReadAllError};
 use wkt_num::{Decimal, WktNum};
 
 /// Why a run ended before its input.
@@ -65,8 +65,9 @@ pub fn run_over<T: WktNum, R: ByteSource, W: ByteSink>(
     ensures { Runs (IsAnswer T.read T.num) R.left R.failures W.sink
         reader.old writer.old result reader.new writer.new }
 {
-    match read_all(alloc, reader) {
-        Ok(bytes) => answer_input(alloc, &ByMachine::<T>::new(), &bytes, writer),
+    let mut buffer = InputBuffer::new(alloc);
+    match buffer.fill_all(reader) {
+        Ok(()) => answer_input(alloc, &ByMachine::<T>::new(), buffer.front(), writer),
         Err(ReadAllError::Read(e)) => Err(RunError::Read(e)),
         Err(ReadAllError::Memory(e)) => Err(RunError::Memory(e)),
     }
@@ -86,9 +87,9 @@ fn answer_input<A: Answers, W: ByteSink>(
     'parts: loop {
         let whole = whole_lines(rest);
         if whole == 0 {
-            return answer_block(answers, rest, &mut output, writer);
+            return answer_block::<A, W, true>(answers, rest, &mut output, writer);
         }
-        match answer_block(answers, &rest[..whole], &mut output, writer) {
+        match answer_block::<A, W, true>(answers, &rest[..whole], &mut output, writer) {
             Ok(()) => rest = &rest[whole..],
             Err(e) => return Err(e),
         }

@@ -12,27 +12,21 @@ use wkt_num::{TextSink, WktNum};
 // How much is gathered, before it is put out, where answers are gathered.
 const HELD: usize = 65536;
 
-// How much is put out at once of an answer that is put out by itself.
-const PIECE: usize = 256;
-
 /// Bytes, of which the first are answers that were written.
 #[derive(Drop)]
 pub struct OutputBuffer {
     bytes: Vec<u8>,
     len: usize,
-    // An output buffer that holds so much is put out,
+    // An output buffer that holds so much is put out.
     held: usize,
-    // so many bytes a write.
-    piece: usize,
     failures: u64,
     ghost fits: { len ≤ vec_len bytes },
-    ghost some: { 0 < piece },
 }
 
 impl OutputBuffer {
     ghost use Rattle.wkt_lines.specs.Buffers.{output_text, output_failures, HasRoomFor, AnswersNext};
 
-    /// An output buffer with no room yet, which is put out when it holds 64 KiB, by one write.
+    /// An output buffer with no room yet, which is put out when it holds 64 KiB.
     pub fn of_blocks(alloc: Global) -> OutputBuffer
         ensures { output_text result ≡ [] }
     {
@@ -40,12 +34,11 @@ impl OutputBuffer {
             bytes: Vec::new(alloc),
             len: 0,
             held: HELD,
-            piece: usize::MAX,
             failures: 0,
         }
     }
 
-    /// An output buffer with no room yet, which is put out after each answer, by 256 bytes a write.
+    /// An output buffer with no room yet, which is put out after each answer.
     pub fn of_lines(alloc: Global) -> OutputBuffer
         ensures { output_text result ≡ [] }
     {
@@ -53,7 +46,6 @@ impl OutputBuffer {
             bytes: Vec::new(alloc),
             len: 0,
             held: 1,
-            piece: PIECE,
             failures: 0,
         }
     }
@@ -70,13 +62,6 @@ impl OutputBuffer {
         ensures { result ≡ length (output_text self.now) }
     {
         self.len
-    }
-
-    /// How many bytes of it are put out by one write.
-    pub fn piece(&self) -> usize
-        ensures { 0 < result }
-    {
-        self.piece
     }
 
     /// Drops what was written behind the first bytes.
