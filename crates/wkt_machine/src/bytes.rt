@@ -7,6 +7,7 @@ ghost use Rattle.wkt_machine.specs.View.{seen_word};
 use crate::builder::Builder;
 use crate::coordinates::{coordinates, has_coordinates};
 use crate::heads::header;
+use crate::inner_heads::inner_header;
 use crate::machine::{Machine, Seen};
 use crate::part::Axis;
 use crate::source::{Source, Walk, Walked};
@@ -125,7 +126,7 @@ impl<'a, T: WktNum, const FEED_ENDS: bool> Walk<T> for Bytes<'a, FEED_ENDS> {
         if self.at > self.text.len() {
             return machine.step(self, builder);
         }
-        header::<T, B, FEED_ENDS, true>(machine, self, builder)
+        inner_header::<T, B, FEED_ENDS>(machine, self, builder)
     }
 
     #[inline(always)]
@@ -134,7 +135,7 @@ impl<'a, T: WktNum, const FEED_ENDS: bool> Walk<T> for Bytes<'a, FEED_ENDS> {
         if self.at > self.text.len() {
             return machine.step(self, builder);
         }
-        header::<T, B, FEED_ENDS, false>(machine, self, builder)
+        header::<T, B, FEED_ENDS>(machine, self, builder)
     }
 
     #[inline(always)]

@@ -24,24 +24,23 @@ use wkt_events::skip_white;
 use wkt_num::WktNum;
 
 /// The bytes of `GEOMETRYCOLLECTION (`.
-const LONGEST_HEAD: usize = 20;
+pub(crate) const LONGEST_HEAD: usize = 20;
 
 // The first eight bytes of words, each as one number.
-const GEOMETRY: u64 = 0x5952_5445_4d4f_4547;
+pub(crate) const GEOMETRY: u64 = 0x5952_5445_4d4f_4547;
 
-const LINESTRI: u64 = 0x4952_5453_454e_494c;
+pub(crate) const LINESTRI: u64 = 0x4952_5453_454e_494c;
 
-const MULTIPOL: u64 = 0x4c4f_5049_544c_554d;
+pub(crate) const MULTIPOL: u64 = 0x4c4f_5049_544c_554d;
 
-const MULTILIN: u64 = 0x4e49_4c49_544c_554d;
+pub(crate) const MULTILIN: u64 = 0x4e49_4c49_544c_554d;
 
-const MULTIPOI: u64 = 0x494f_5049_544c_554d;
+pub(crate) const MULTIPOI: u64 = 0x494f_5049_544c_554d;
 
-/// Behind the header that comes next, and its parenthesis; of a point behind its coordinate. `INNER` differs
-/// between its two callers, so that it is built into each.
+/// Behind the header that comes first, and its parenthesis; of a point behind its coordinate.
 #[inline(always)]
 #[tactic(auto, using(crate::proofs::TokenSteps::kind_open, crate::proofs::TokenSteps::kind_sound, crate::proofs::RoomForRest::kind_room))]
-pub(crate) fn header<'a, T: WktNum, B: Builder<T>, const FEED_ENDS: bool, const INNER: bool>(
+pub(crate) fn header<'a, T: WktNum, B: Builder<T>, const FEED_ENDS: bool>(
     machine: Machine,
     source: Bytes<'a, FEED_ENDS>,
     builder: B,
@@ -66,18 +65,42 @@ pub(crate) fn header<'a, T: WktNum, B: Builder<T>, const FEED_ENDS: bool, const 
         return coordinates::<T, B, FEED_ENDS>(begun, behind, made);
     }
     match head::<FEED_ENDS>(text, at) {
-        Some((part, end)) => {
-            let within = machine.begun(State::Opening, part, Dimension::XY).inside();
-            Ok(opened::<T, B, FEED_ENDS>(part, at, end, machine, within, source, builder))
-        }
+        Some((part, end)) => Ok(inside_of::<T, B, FEED_ENDS>(
+            part, at, end, machine, source, builder,
+        )),
         None => machine.step(source, builder),
     }
 }
 
-/// Behind the header of a part that stands there in two dimensions, and its parenthesis, which ends at `end`. The machine
-/// `within` is there.
+/// Behind the header of a part that stands there in two dimensions, and its parenthesis, which ends at `end`.
 #[inline(always)]
-fn opened<'a, T: WktNum, B: Builder<T>, const FEED_ENDS: bool>(
+pub(crate) fn inside_of<'a, T: WktNum, B: Builder<T>, const FEED_ENDS: bool>(
+    part: Part,
+    at: usize,
+    end: usize,
+    machine: Machine,
+    source: Bytes<'a, FEED_ENDS>,
+    builder: B,
+) -> At<Bytes<'a, FEED_ENDS>, B>
+    requires state { machine.state ≡ next.Kind }
+    requires depth { machine.depth + length (remaining_spanned FEED_ENDS source.text.now source.at) ≤ usize.MAX }
+    requires between { IsBetween FEED_ENDS source.text.now source.at at }
+    requires line { Legible FEED_ENDS source.text.now source.at → Legible FEED_ENDS source.text.now at }
+    requires head { StandsHead FEED_ENDS source.text.now at part end }
+    requires room { HasRoom (bytes_view FEED_ENDS) B.maker 0 source builder }
+    ensures on { Goes T.read (bytes_view FEED_ENDS) B.maker machine source.entry builder result }
+    ensures room { HasRoom (bytes_view FEED_ENDS) B.maker 0 result.source result.builder }
+    ensures stands { RoomAt (bytes_view FEED_ENDS) B.maker result }
+    ensures at { result.source.at ≤ length result.source.text.now }
+    ensures machine { state_of result.machine ≡ inside part dim_of.XY machine.depth }
+{
+    let within = machine.begun(State::Opening, part, Dimension::XY).inside();
+    opened::<T, B, FEED_ENDS>(part, at, end, machine, within, source, builder)
+}
+
+/// The same, where the machine `within` is there.
+#[inline(always)]
+pub(crate) fn opened<'a, T: WktNum, B: Builder<T>, const FEED_ENDS: bool>(
     part: Part,
     at: usize,
     end: usize,
@@ -146,7 +169,7 @@ fn head<const FEED_ENDS: bool>(text: &[u8], at: usize) -> Option<(Part, usize)>
 
 /// The head of one kind, of whose word the first bytes are known to stand there, and where it ends.
 #[inline(always)]
-fn named<const N: usize, const KNOWN: usize, const FEED_ENDS: bool>(
+pub(crate) fn named<const N: usize, const KNOWN: usize, const FEED_ENDS: bool>(
     part: Part,
     word: &[u8; N],
     text: &[u8],
@@ -181,7 +204,7 @@ pub(crate) fn point_head<const FEED_ENDS: bool>(text: &[u8], at: usize) -> Optio
 
 /// Behind a parenthesis, or a space and a parenthesis.
 #[inline(always)]
-fn opens_behind<const FEED_ENDS: bool>(text: &[u8], at: usize) -> Option<usize>
+pub(crate) fn opens_behind<const FEED_ENDS: bool>(text: &[u8], at: usize) -> Option<usize>
     requires { at + 2 ≤ length text.now }
     ensures { IfSome result (EndsWord FEED_ENDS text.now at) }
 {
@@ -240,7 +263,7 @@ fn four_bytes(bytes: &[u8]) -> u32
 
 /// The first eight bytes as one number, the lowest first.
 #[inline(always)]
-fn eight_bytes(bytes: &[u8]) -> u64
+pub(crate) fn eight_bytes(bytes: &[u8]) -> u64
     requires { 8 ≤ length bytes.now }
     ensures { to_le_bytes w64 result ≡ take 8 bytes.now }
 {

@@ -11,6 +11,7 @@ pub mod drive;
 mod from_str;
 pub mod front;
 mod heads;
+mod inner_heads;
 pub mod laws;
 pub mod machine;
 mod marks;
