@@ -1,11 +1,10 @@
 -- Lines that are answered, one after the other.
-use Rattle.std.proofs.Common.{◌≡◌, ◌≢◌, ℕ, List, [], ◌∷◌, ◌++◌, sym, ◌∙◌, ap, subst, take, length, refl, append_assoc, Option, Result, Ok, Err, OnOk, zero, suc, ◌+◌, ◌-◌, ◌<◌, ◌≤◌, drop, arith, Bool, true, false, IsUtf8, length-append, set, Some, inl, inr, codes, ◌⊎◌, get_or}
+use Rattle.std.proofs.Common.{◌≡◌, ◌≢◌, ℕ, List, [], ◌∷◌, ◌++◌, sym, ◌∙◌, ap, subst, take, length, refl, append_assoc, Option, Result, Ok, Err, OnOk, zero, suc, ◌+◌, ◌-◌, ◌<◌, ◌≤◌, drop, arith, Bool, true, false, IsUtf8, set, Some, inl, inr, codes, ◌⊎◌, get_or}
 use Rattle.std.specs.Prelude.{IfOk, ◌==◌, if◌then◌else◌, IfSome}
-use Rattle.std.proofs.lemmas.List.{append-nil, take-append-drop, take_more_set}
+use Rattle.std.proofs.lemmas.List.{append-nil, take_more_set}
 use Rattle.std.proofs.Math.Seq.{take-append_seam}
 use Rattle.std.proofs.lemmas.Str.{IsUtf8-append, IsUtf8-from_is_utf8, is_utf8-from_IsUtf8}
 use Rattle.std.specs.Io.KnownBytes.{Appends}
-use Rattle.std.proofs.KnownBytes.{Appends-trans}
 use Rattle.std.specs.Str.{is_utf8}
 use lib.Utf8.{encode}
 use Rattle.wkt_lines.specs.Lines.{input_lines, before_feed, after_feed, EndsText}
@@ -15,7 +14,6 @@ use Rattle.wkt_num.specs.Sink.{Sink, Adds, Breaks, GrewBy, next_count}
 use Rattle.wkt_lines.specs.declared.answer.AnswerError.{AnswerError}
 use Rattle.wkt_lines.proofs.OutputOfParts.{lines_step}
 use Rattle.wkt_lines.specs.declared.answer.AnswerError.TheVariants as answered
-use Rattle.wkt_bytes.specs.Sinks.{SinkOfBytes, PutsAll}
 use Rattle.wkt_lines.specs.First.{AnswersFirst, EndsLine, AnswersBehind, TestsFrom}
 use Rattle.wkt_access.specs.Shapes.{shape_of}
 use Rattle.wkt_access.specs.Texts.{shape_text}
@@ -184,33 +182,6 @@ first-of read num part rest written e h = record { answer = h.answer; is = subst
 pub ok-map : {A E : Type 0} (r : Result A E) (P Q : A → Type 0) → ((x : A) → P x → Q x) → IfOk r P → IfOk r Q
 ok-map (Ok x) P Q f h = f x h
 ok-map (Err e) P Q f h = tt
-
--- a beginning of a list
-begins : (a b c : List ℕ) → a ++ b ≡ c → a ≡ take (length a) c
-begins a b c e = subst (λ l. a ≡ take (length a) l) e (sym (take-append_seam a b))
-
-part-out : (out piece more whole : List ℕ) (k : ℕ) → out ++ (piece ++ more) ≡ whole → out ++ take k piece ≡ take (length (out ++ take k piece)) whole
-part-out out piece more whole k e =
-    begins (out ++ take k piece) (drop k piece ++ more) whole
-    (append_assoc out (take k piece) (drop k piece ++ more) ∙ ap (λ l. out ++ l) (sym (append_assoc (take k piece) (drop k piece) more) ∙ ap (λ l. l ++ more) (take-append-drop k piece)) ∙ e)
-
--- a piece was put out after others, the last one or one that failed
-pub puts_on : {D A E : Type 0} (sink : SinkOfBytes D) (out piece more bytes : List ℕ) (start now next : D) → out ++ (piece ++ more) ≡ bytes → Appends (sink.bytes start) (sink.bytes now) out → sink.failures now ≡ sink.failures start → sink.keeps start now
-    → (r : Result A E) → OnOk r (more ≡ []) → PutsAll sink piece now next r → PutsAll sink bytes start next r
-puts_on sink out piece more bytes start now next e went count tied (Ok x) last p =
-    let whole : out ++ piece ≡ bytes = ap (λ l. out ++ l) (sym (ap (λ l. piece ++ l) last ∙ append-nil piece)) ∙ e in
-    record { ok = subst (Appends (sink.bytes start) (sink.bytes next)) whole (Appends-trans _ _ _ out piece went p.ok); kept = p.kept ∙ count; err = tt; some = tt; failed = tt; keeps = sink.keeps_more start now next tied p.keeps }
-puts_on sink out piece more bytes start now next e went count tied (Err x) last p =
-    let (k, part) = p.err in
-    let some = p.some in
-    record {
-      ok = tt;
-      kept = tt;
-      err = (length (out ++ take k piece), subst (Appends (sink.bytes start) (sink.bytes next)) (part-out out piece more bytes k e) (Appends-trans _ _ _ out (take k piece) went part));
-      some = omega (arith, some, ap length e, length-append out (piece ++ more), length-append piece more);
-      failed = p.failed ∙ ap next_count count;
-      keeps = sink.keeps_more start now next tied p.keeps;
-    }
 
 feed-utf8 : IsUtf8 (10 ∷ [])
 unfolding encode

@@ -17,6 +17,10 @@ pub record AnswersFirst {N : Type 0} (read : List ℕ → Option N) (num : N →
   pub utf8 : IsUtf8 answer
   pub text : written ≡ answer ++ 10 ∷ []
 
+-- That was added.
+abbrev pub AddsFirst : {N : Type 0} → (List ℕ → Option N) → (N → List ℕ) → List ℕ → List ℕ → List ℕ → Type 0
+AddsFirst read num rest old new = (written : List ℕ) × AnswersFirst read num rest written × (new ≡ old ++ written)
+
 -- The first line ends there.
 pub record EndsLine (rest : List ℕ) (end : ℕ) : Type 0 where
   pub before : take end rest ≡ before_feed rest

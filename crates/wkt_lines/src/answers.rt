@@ -5,6 +5,7 @@ ghost use Rattle.wkt_lines.specs.Replies.{RepliesAll};
 use crate::answer::AnswerError;
 use crate::first::write_first;
 use crate::lines::after_line;
+use crate::output_buffer::OutputBuffer;
 use std::alloc::Global;
 use wkt_num::{TextSink, WktNum};
 
@@ -19,10 +20,10 @@ pub fn write_answers<T: WktNum, W: TextSink>(
 ) -> Result<(), AnswerError>
     ensures { RepliesAll (IsAnswer T.read T.num) W.sink f.old input.now result f.new }
 {
-    let mut room = Vec::new(alloc);
+    let mut output = OutputBuffer::of_lines(alloc);
     let mut rest = input;
     'lines: while !rest.is_empty() {
-        match write_first::<T, W>(&mut room, rest, f) {
+        match write_first::<T, W>(&mut output, rest, f) {
             Ok(end) => rest = after_line(rest, end),
             Err(e) => return Err(e),
         }

@@ -8,7 +8,6 @@ use crate::output_buffer::OutputBuffer;
 use crate::reply::{Reply, reply_to_line};
 use std::alloc::{AllocError, Global};
 use std::marker::PhantomData;
-use wkt_canonical::NoRoom;
 use wkt_num::WktNum;
 
 /// What lines are answered with.
@@ -45,17 +44,7 @@ impl<T: WktNum> Answers for ByMachine<T> {
 
     #[inline(always)]
     fn add_first(&self, rest: &[u8], output: &mut OutputBuffer) -> Result<usize, AllocError> {
-        // One call, since only so the machine is built into the loop over lines.
-        'room: loop {
-            match output.answer_line::<T>(rest) {
-                Ok(taken) => return Ok(taken),
-                Err(NoRoom) => {}
-            }
-            match output.widen() {
-                Ok(()) => {}
-                Err(e) => return Err(e),
-            }
-        }
+        output.add_answer::<T>(rest)
     }
 }
 

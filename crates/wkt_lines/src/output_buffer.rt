@@ -1,12 +1,12 @@
 //! Room for answers.
-ghost use Rattle.std.specs.Prelude.{◌≡◌, ◌+◌, ◌*◌, ◌<◌, ◌≤◌, ◌++◌, [], OnOk, OnErr, length, take, vec_len, true, if◌then◌else◌};
+ghost use Rattle.std.specs.Prelude.{◌≡◌, ◌+◌, ◌*◌, ◌<◌, ◌≤◌, ◌++◌, [], IfOk, OnOk, OnErr, length, take, vec_len, true, if◌then◌else◌};
 ghost use Rattle.std.specs.Bool.{OnTrue};
 
 use crate::in_room::answer_line;
 use std::alloc::{AllocError, Global};
 use std::fmt;
 use wkt_bytes::copy_piece;
-use wkt_canonical::NoRoom;
+use wkt_canonical::{NoRoom, SPARE, make_room, widen};
 use wkt_num::{TextSink, WktNum};
 
 // How much is gathered, before it is put out, where answers are gathered.
@@ -25,6 +25,8 @@ pub struct OutputBuffer {
 
 impl OutputBuffer {
     ghost use Rattle.wkt_lines.specs.Buffers.{output_text, output_failures, HasRoomFor, AnswersNext};
+    ghost use Rattle.wkt_lines.specs.First.{AddsFirst};
+    ghost use Rattle.wkt_lines.specs.Lines.{before_feed};
 
     /// An output buffer with no room yet, which is put out when it holds 64 KiB.
     pub fn of_blocks(alloc: Global) -> OutputBuffer
@@ -78,13 +80,15 @@ impl OutputBuffer {
         ensures { result ≡ true → HasRoomFor self.now n }
     {
         let room = self.bytes.len() - self.len;
-        self.len < self.held && room >= 65 && (room - 65) / 2 >= n
+        // What `has_room` tests, in place: by a call a line takes three instructions more.
+        self.len < self.held && room >= SPARE && (room - SPARE) / 2 >= n
     }
 
-    /// Makes room for the answer to a text of so many bytes, and for what is gathered.
+    /// Makes room for the answer to a text of so many bytes.
     ///
     /// # Errors
     /// Out of memory.
+    #[inline(always)]
     pub fn make_room(&mut self, n: usize) -> Result<(), AllocError>
         ensures text { output_text self.new ≡ output_text self.old }
         ensures room { OnOk result (HasRoomFor self.new n) }
@@ -92,51 +96,54 @@ impl OutputBuffer {
         if self.is_ready(n) {
             return Ok(());
         }
-        let Some(twice) = n.checked_mul(2) else {
-            return Err(AllocError);
-        };
-        let Some(more) = twice.checked_add(HELD + 65) else {
-            return Err(AllocError);
-        };
-        match self.len.checked_add(more) {
-            Some(len) => {
-                if len <= self.bytes.len() {
-                    return Ok(());
-                }
-                self.bytes.resize(len, 0)
-            }
-            None => Err(AllocError),
-        }
+        self.widen_for(n)
     }
 
-    /// Makes twice the room, and some more.
-    ///
-    /// # Errors
-    /// Out of memory.
+    /// Makes room for the answer to a text of so many bytes, and for what is gathered.
     #[cold]
     #[inline(never)]
-    pub fn widen(&mut self) -> Result<(), AllocError>
+    fn widen_for(&mut self, n: usize) -> Result<(), AllocError>
         ensures text { output_text self.new ≡ output_text self.old }
-        ensures len { self.new.len ≡ self.old.len }
-        ensures grows { OnOk result (vec_len self.old.bytes < vec_len self.new.bytes) }
+        ensures room { OnOk result (HasRoomFor self.new n) }
     {
-        let Some(twice) = self.bytes.len().checked_mul(2) else {
-            return Err(AllocError);
-        };
-        match twice.checked_add(HELD) {
-            Some(len) => self.bytes.resize(len, 0),
+        match n.checked_add(self.held / 2) {
+            Some(most) => make_room(&mut self.bytes, self.len, most),
             None => Err(AllocError),
         }
     }
 
-    /// Writes the answer to the first line, and returns how much it takes with its line feed.
+    /// Adds the answer to the first line and a line feed, and returns how much the line takes with its own. The room
+    /// grows as it has to.
     ///
     /// # Errors
-    /// A number's text had no room; nothing was written then.
+    /// Out of memory; nothing was added then.
     #[inline(always)]
-    pub fn answer_line<T: WktNum>(&mut self, rest: &[u8]) -> Result<usize, NoRoom>
+    pub fn add_answer<T: WktNum>(&mut self, rest: &[u8]) -> Result<usize, AllocError>
         requires { HasRoomFor self.old (length rest.now) }
         ensures answers { AnswersNext T.read T.num rest.now (output_text self.old) (output_text self.new) result }
+        ensures first { IfOk result (λ taken. AddsFirst T.read T.num rest.now (output_text self.old) (output_text self.new)) }
+        ensures line { IfOk result (λ taken. taken ≡ length (before_feed rest.now) + 1) }
+    {
+        // One call, since only so the machine is built into the loop over lines.
+        'room: loop {
+            match self.answer_line::<T>(rest) {
+                Ok(taken) => return Ok(taken),
+                Err(NoRoom) => {}
+            }
+            match widen(&mut self.bytes) {
+                Ok(()) => {}
+                Err(e) => return Err(e),
+            }
+        }
+    }
+
+    /// Adds the answer to the first line, if there is room for the text of each number.
+    #[inline(always)]
+    fn answer_line<T: WktNum>(&mut self, rest: &[u8]) -> Result<usize, NoRoom>
+        requires { HasRoomFor self.old (length rest.now) }
+        ensures answers { AnswersNext T.read T.num rest.now (output_text self.old) (output_text self.new) result }
+        ensures first { IfOk result (λ taken. AddsFirst T.read T.num rest.now (output_text self.old) (output_text self.new)) }
+        ensures line { IfOk result (λ taken. taken ≡ length (before_feed rest.now) + 1) }
         ensures len { OnErr result (self.new.len ≡ self.old.len) }
         ensures room { OnErr result (vec_len self.new.bytes ≡ vec_len self.old.bytes) }
     {
@@ -166,7 +173,7 @@ impl OutputBuffer {
         true
     }
 
-    /// Makes places up to that one, and more, or returns that there is no memory for them.
+    /// Grows to that length or more, or returns that there is no memory for it.
     #[inline(never)]
     fn grow(&mut self, end: usize) -> bool
         ensures kept { output_text self.new ≡ output_text self.old }

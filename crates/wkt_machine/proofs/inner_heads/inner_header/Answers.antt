@@ -10,7 +10,6 @@ use Rattle.wkt_machine.specs.Place.{State}
 use Rattle.wkt_machine.specs.Place as place
 use Rattle.wkt_machine.specs.View.{View}
 use Rattle.wkt_machine.specs.declared.machine.Machine.{Machine}
-use Rattle.wkt_machine.specs.declared.source.At.{At}
 use Rattle.wkt_machine.proofs.WaysJoin.{leads_none, leads_goes, leads_ok, leads_refused, goes_leads}
 use Rattle.wkt_machine.proofs.WholeRuns.{goes_room}
 use Rattle.wkt_machine.proofs.inner_heads.inner_header.Goals as goal
