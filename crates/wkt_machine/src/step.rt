@@ -1,5 +1,6 @@
 //! The step of the machine.
-ghost use Rattle.std.specs.Prelude.{◌≡◌, ◌+◌, ◌<◌, ◌≤◌, length, IfOk, IfErr, Ok, Err, false};
+ghost use Rattle.std.specs.Bool.{OnTrue, OnFalse};
+ghost use Rattle.std.specs.Prelude.{◌≡◌, ◌≢◌, ◌+◌, ◌<◌, ◌≤◌, length, IfOk, IfErr, Ok, Err, false};
 ghost use Rattle.wkt_machine.specs.Drives.{is_over};
 ghost use Rattle.wkt_machine.specs.Goes.{Goes, Refuses, EndsPoint};
 ghost use Rattle.wkt_machine.specs.Machines.{state_of, state_for, IsSound};
@@ -340,10 +341,12 @@ impl Machine {
         ensures room { IfOk result (RoomAt S.view B.maker) }
         ensures refused { IfErr result (Refuses T.read S.view B.maker self source builder) }
     {
-        match seen {
-            Seen::Close => on(source.skip(), self.outside(), builder.close(self.part)),
-            Seen::Comma => self.at_comma(source, builder),
-            _ => refused(source, self, builder),
+        if is_close(seen) {
+            on(source.skip(), self.outside(), builder.close(self.part))
+        } else if is_comma(seen) {
+            self.at_comma(source, builder)
+        } else {
+            refused(source, self, builder)
         }
     }
 
@@ -383,20 +386,40 @@ impl Machine {
         ensures room { IfOk result (RoomAt S.view B.maker) }
         ensures refused { IfErr result (Refuses T.read S.view B.maker self source builder) }
     {
-        match seen {
-            Seen::Close => on(
+        if is_close(seen) {
+            on(
                 source.skip(),
                 self.shallower(),
                 builder.close(Part::Collection),
-            ),
-            Seen::Comma => on(
+            )
+        } else if is_comma(seen) {
+            on(
                 source.skip(),
                 self.to(State::Kind),
                 builder.comma(Part::Collection),
-            ),
-            _ => refused(source, self, builder),
+            )
+        } else {
+            refused(source, self, builder)
         }
     }
+}
+
+/// Whether it is a closing parenthesis. A match over all lexemes would be a jump by a table.
+#[inline(always)]
+fn is_close(seen: Seen) -> bool
+    ensures on { OnTrue result (seen ≡ sees.Close) }
+    ensures off { OnFalse result (seen ≢ sees.Close) }
+{
+    matches!(seen, Seen::Close)
+}
+
+/// Whether it is a comma.
+#[inline(always)]
+fn is_comma(seen: Seen) -> bool
+    ensures on { OnTrue result (seen ≡ sees.Comma) }
+    ensures off { OnFalse result (seen ≢ sees.Comma) }
+{
+    matches!(seen, Seen::Comma)
 }
 
 /// On at the place, with what was made.
