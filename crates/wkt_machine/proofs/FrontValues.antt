@@ -272,7 +272,7 @@ pair_answers {N} t x y p w made = (p.kept, λ v h. go v (subst (λ l. HoldsEnded
       uniform = (refl, subst (HasDimIfAny t.dim) same dim);
     })
 
-tree_point : {T : Type 0} (x : HeldPoint (Coord T)) → tree (variants.Point x) ≡ Kept.point x
+pub tree_point : {T : Type 0} (x : HeldPoint (Coord T)) → tree (variants.Point x) ≡ Kept.point x
 tree_point {T} x =
     ap tree (sym (variants.rolls-Point x))
     ∙ folds.fold-roll-Wkt T (Kept T) (Kept T) wkt_step collection_step (opened.Wkt-F.Point x)

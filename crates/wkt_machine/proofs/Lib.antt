@@ -18,3 +18,4 @@ pub mod Reading
 pub mod ByteSteps
 pub mod FrontValues
 mod DrivenBytes
+mod Lones

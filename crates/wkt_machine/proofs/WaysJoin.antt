@@ -65,6 +65,10 @@ module _ {N S B : Type 0} (read : List ℕ → Option N) (view : View S) (maker 
   pub from_start : (s : S) (b : B) (a c : At S B) → GoesFrom read view maker s b a → Goes read view maker a.machine a.source a.builder c → GoesFrom read view maker s b c
   from_start s b a c (m, is, h) k = (m, is, goes_on_to m s b a c h k)
 
+  pub started_if : (s : S) (b : B) (a : At S B) (r : Result (At S B) (At S B)) → GoesFrom read view maker s b a → IfOk r (Goes read view maker a.machine a.source a.builder) → IfOk r (GoesFrom read view maker s b)
+  started_if s b a (Ok c) h k = from_start s b a c h k
+  started_if s b a (Err c) h k = tt
+
   pub refused_from : (s : S) (b : B) (a c : At S B) → GoesFrom read view maker s b a → Refuses read view maker a.machine a.source a.builder c → RefusesFrom read view maker s b c
   refused_from s b a c (m, is, h) k = (m, is, refuses_after m s b a c h k)
 

@@ -14,6 +14,7 @@ pub mod BytesView
 pub mod Leads
 pub mod Growing
 pub mod Trees
+pub mod Lones
 pub mod Values
 pub mod Refusing
 pub mod Stops

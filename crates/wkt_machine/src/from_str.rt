@@ -15,12 +15,14 @@ ghost use Rattle.wkt_read.specs.Refusal.{IsRefused, IsTextRefused, IfText};
 ghost use Rattle.wkt_read.specs.Answered.{IsFront, IsFrontTo, Begins, IsReadOff, HasBadNumber, OnText, OnMessage};
 
 use crate::drive::drive;
+use crate::lone::{Keeper, Lone, first_point, may_be_lone};
 use crate::refused::refused;
 use crate::tokens::OneByOne;
 use crate::tree::{Grower, Tree};
 use crate::value::{Unread, read};
 use std::alloc::{AllocError, Global};
 use std::mem;
+use wkt_access::Dimension;
 use wkt_num::WktNum;
 use wkt_read::{Message, PeekableTokens, ReadError, Tokens};
 use wkt_types::{Coord, Point, Wkt};
@@ -78,9 +80,22 @@ fn read_off<'t, 'a, T: WktNum>(
     }
 }
 
-/// The geometry at the front of a text. What it is made of is cleared here, behind the look for an empty text.
+/// The geometry at the front of a text, as a tree grows.
+///
+/// What it returns comes through memory, whose place is cleared here, away from the ways that don't need it.
+#[inline(always)]
+fn grown<T: WktNum>(alloc: Global, text: &str) -> Result<Wkt<T>, ReadError>
+    ensures found { IfOk result (λ w. IsFront T.read text.now (tree w)) }
+    ensures no_front { OnText result (HasNoFront T.read text.now) }
+    ensures bad { OnMessage result bad_number (HasBadNumber T.read text.now) }
+    ensures refusal { IfText result (λ said. IsTextRefused T.read text.now said) }
+    ensures free { (v end : _) → Front T.read text.now v end → NeedsNoMemory v → IsOk result }
+{
+    grown_outlined(alloc, text)
+}
+
 #[inline(never)]
-fn of_text<T: WktNum>(alloc: Global, text: &str) -> Result<Wkt<T>, ReadError>
+fn grown_outlined<T: WktNum>(alloc: Global, text: &str) -> Result<Wkt<T>, ReadError>
     ensures found { IfOk result (λ w. IsFront T.read text.now (tree w)) }
     ensures no_front { OnText result (HasNoFront T.read text.now) }
     ensures bad { OnMessage result bad_number (HasBadNumber T.read text.now) }
@@ -112,6 +127,47 @@ fn of_text<T: WktNum>(alloc: Global, text: &str) -> Result<Wkt<T>, ReadError>
             Err(ReadError::Text(said))
         }
     }
+}
+
+/// The geometry at the front of a text. Most are points of two numbers, which need no tree: what theirs is made of is
+/// cleared here, behind the look for an empty text.
+#[inline(never)]
+fn of_text<T: WktNum>(alloc: Global, text: &str) -> Result<Wkt<T>, ReadError>
+    ensures found { IfOk result (λ w. IsFront T.read text.now (tree w)) }
+    ensures no_front { OnText result (HasNoFront T.read text.now) }
+    ensures bad { OnMessage result bad_number (HasBadNumber T.read text.now) }
+    ensures refusal { IfText result (λ said. IsTextRefused T.read text.now said) }
+    ensures free { (v end : _) → Front T.read text.now v end → NeedsNoMemory v → IsOk result }
+{
+    let mut tokens = PeekableTokens::new(Tokens::from_str(text));
+    // The machine counts open collections, of which there are no more than tokens.
+    let _ = tokens.most_left();
+    let mut kept = Lone::new();
+    // Behind what is cleared at the entry, so that it is cleared once.
+    if !may_be_lone(text) {
+        return grown(alloc, text);
+    }
+    let source = OneByOne::new(&mut tokens);
+    match first_point::<T, OneByOne<'_, '_, T>>(source, Keeper::new(&mut kept)) {
+        Ok(begun) => {
+            if begun.machine.is_over() {
+                if let Some((x, y)) = begun.builder.into_lone().pair() {
+                    let coord = Coord {
+                        x,
+                        y,
+                        z: None,
+                        m: None,
+                    };
+                    return Ok(Wkt::Point(Point::new(Some(coord), Dimension::XY)));
+                }
+            }
+        }
+        Err(at) => {
+            let said = refused(at.machine, at.source.into_tokens()).text();
+            return Err(ReadError::Text(said));
+        }
+    }
+    grown(alloc, text)
 }
 
 /// The geometry at the front of the text, and where its last token ends.

@@ -13,6 +13,7 @@ pub mod front;
 mod heads;
 mod inner_heads;
 pub mod laws;
+mod lone;
 pub mod machine;
 mod marks;
 mod message;
