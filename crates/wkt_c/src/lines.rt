@@ -7,7 +7,7 @@ use std::alloc::Global;
 use wkt_calls::at_places;
 use wkt_calls::lines::{Answered, answer_lines};
 use wkt_calls::status::{MEMORY, NO_PLACES};
-use wkt_canonical::room_for;
+use wkt_canonical::{lengthen, room_for};
 use wkt_lines::line_end;
 
 /// How much more room than for the input is asked for at first.
@@ -28,14 +28,7 @@ fn widen(room: &mut Vec<u8>, len: usize, rest: &[u8]) -> Result<(), u32>
     let Some(needed) = wider(room.len(), len, rest) else {
         return Err(MEMORY);
     };
-    // The C library clears more than 2 KiB byte by byte.
-    'pieces: while needed - room.len() > 2000 {
-        let piece = room.len() + 2000;
-        if room.resize(piece, 0).is_err() {
-            return Err(MEMORY);
-        }
-    }
-    match room.resize(needed, 0) {
+    match lengthen(room, needed) {
         Ok(()) => Ok(()),
         Err(_) => Err(MEMORY),
     }

@@ -15,7 +15,7 @@ pub use canonical::{
     write_canonical, write_front,
 };
 pub use pen::Pen;
-pub use room::{SPARE, has_room, make_room, room_for, widen, write_growing};
+pub use room::{SPARE, has_room, lengthen, make_room, room_for, widen, write_growing};
 
 #[cfg(test)]
 mod tests;

@@ -30,6 +30,34 @@ pub fn room_for(n: usize) -> Option<usize>
     n.checked_mul(2)?.checked_add(SPARE)
 }
 
+// So many bytes are cleared at once: the C library fills longer pieces by `rep`, an instruction a byte and no faster.
+const PIECE: usize = 2048;
+
+/// Makes a room that is at least so long: zeros come behind what stands there.
+///
+/// # Errors
+/// Out of memory.
+pub fn lengthen(room: &mut Vec<u8>, needed: usize) -> Result<(), AllocError>
+    ensures kept { take (vec_len room.old) room.new.items ≡ room.old.items }
+    ensures len { vec_len room.old ≤ vec_len room.new }
+    ensures long { OnOk result (needed ≤ vec_len room.new) }
+{
+    if needed <= room.len() {
+        return Ok(());
+    }
+    match room.reserve(needed - room.len()) {
+        Ok(()) => {}
+        Err(e) => return Err(e),
+    }
+    'pieces: while needed - room.len() > PIECE {
+        match room.extend_from_slice(&[0; PIECE]) {
+            Ok(()) => {}
+            Err(e) => return Err(e),
+        }
+    }
+    room.resize(needed, 0)
+}
+
 /// Makes room for the canonical text of `n` bytes behind the first `len` bytes, which are kept.
 ///
 /// # Errors
@@ -46,7 +74,7 @@ pub fn make_room(room: &mut Vec<u8>, len: usize, n: usize) -> Result<(), AllocEr
         return Err(AllocError);
     };
     match len.checked_add(more) {
-        Some(needed) => room.resize(needed, 0),
+        Some(needed) => lengthen(room, needed),
         None => Err(AllocError),
     }
 }
@@ -63,7 +91,7 @@ pub fn widen(room: &mut Vec<u8>) -> Result<(), AllocError>
     ensures grows { OnOk result (2 * vec_len room.old ≤ vec_len room.new) }
 {
     match room.len().checked_mul(2) {
-        Some(twice) => room.resize(twice, 0),
+        Some(twice) => lengthen(room, twice),
         None => Err(AllocError),
     }
 }

@@ -10,12 +10,10 @@ use crate::ends::line_end;
 use std::alloc::{AllocError, Global};
 use std::io;
 use wkt_bytes::{ByteSource, ReadAllError};
+use wkt_canonical::lengthen;
 
-// How many bytes of room are made at once,
+// How many bytes of room are made at once.
 const BLOCK: usize = 131072;
-
-// by pieces of so many: longer ones are filled by `rep`, an instruction a byte and no faster.
-const PIECE: usize = 2048;
 
 // How much of an input is answered at once, where all of it is at hand.
 const ANSWERED_AT_ONCE: usize = 1_048_576;
@@ -67,17 +65,10 @@ fn add_block(bytes: &mut Vec<u8>) -> Result<(), AllocError>
     ensures len { vec_len bytes.old ≤ vec_len bytes.new }
     ensures grows { OnOk result (vec_len bytes.old < vec_len bytes.new) }
 {
-    match bytes.reserve(BLOCK) {
-        Ok(()) => {}
-        Err(e) => return Err(e),
+    match bytes.len().checked_add(BLOCK) {
+        Some(needed) => lengthen(bytes, needed),
+        None => Err(AllocError),
     }
-    for _ in 1..BLOCK / PIECE {
-        match bytes.extend_from_slice(&[0; PIECE]) {
-            Ok(()) => {}
-            Err(e) => return Err(e),
-        }
-    }
-    bytes.extend_from_slice(&[0; PIECE])
 }
 
 /// A buffer at whose front stands what was read and not answered yet.
