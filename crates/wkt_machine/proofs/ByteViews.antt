@@ -12,7 +12,7 @@ use Rattle.wkt_events.specs.Numbers.{NoNumber, IsNumberAt}
 use Rattle.wkt_events.proofs.RemainingLexemes.{class-same, class-in-mark, class-in-run, remaining-all, spanned-nul, spanned-past, remaining-begins, takes-mark, takes-run, takes-number, no-number}
 use Rattle.wkt_events.proofs.RemainingLexemes as classes
 use Rattle.wkt_events.proofs.Utf8Lines.{legible-one}
-use Rattle.wkt_events.proofs.Runs.{late-run, kept-there}
+use Rattle.wkt_events.proofs.Runs.{late-run, kept-there, range-run}
 use Rattle.wkt_machine.specs.BytesView.{IsBetween, IsDark, IsUnmarked, Sees, IsLooked, bytes_view}
 use Rattle.wkt_machine.specs.Goes.{Stays, Skips, MakesOneNumber, IsUnread}
 use Rattle.wkt_machine.specs.Makers.{Maker, MakesNumber}
@@ -316,3 +316,21 @@ module _ {T : Type 0} (read : List ℕ → Option T) where
         })
 
 pub ruleset nul_behind = nul-behind
+
+-- No number stands where a parenthesis closes.
+
+close-stops : class_of 41 ≢ Run
+unfolding class_of
+close-stops e = cc
+
+pub none-at-close : {T : Type 0} (read : List ℕ → Option T) (text : List ℕ) (at : ℕ) → at ≤ length text → get_or text at 0 ≡ 41 → NoNumber read text at
+none-at-close read text at inside is = record {
+  end = at;
+  ends = record {
+    order = omega arith;
+    inside = inside;
+    run = range-run text at at (omega arith) inside (λ k from to. absurd (omega (arith, from, to)));
+    stops = subst (λ b. class_of b ≢ Run) (sym is) close-stops;
+  };
+  none = λ less. absurd (omega (arith, less));
+}

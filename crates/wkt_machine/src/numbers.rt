@@ -2,7 +2,7 @@
 ghost use Rattle.std.specs.Prelude.{◌≡◌, ◌<◌, ◌≤◌, ℕ, length, slice_index_or, take, IfSome, IfNone};
 ghost use Rattle.wkt_events.specs.Numbers.{IsNumberAt, NoNumber};
 
-use wkt_events::number_there;
+use wkt_events::{byte_at, number_there};
 use wkt_num::WktNum;
 
 /// How many bytes a window has.
@@ -41,6 +41,10 @@ fn slow_read_outlined<T: WktNum>(text: &[u8], at: usize) -> Option<(T, usize)>
     ensures some { IfSome result (λ p. IsNumberAt T.read text.now at p.1 p.0) }
     ensures none { IfNone result (NoNumber T.read text.now at) }
 {
+    // No number stands where a parenthesis closes.
+    if byte_at(text, at) == b')' {
+        return None;
+    }
     let rest = &text[at..];
     if rest.len() < NUMBER_WINDOW {
         let mut window = [0; NUMBER_WINDOW];
