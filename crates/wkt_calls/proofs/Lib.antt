@@ -1,3 +1,4 @@
 pub mod CopiedOut
 pub mod Padded
 pub mod Pieces
+pub mod FirstWord

@@ -1,15 +1,16 @@
 //! The one text of what a text begins with, and texts compared by it.
-ghost use Rattle.std.specs.Prelude.{◌≡◌, ◌≢◌, ◌+◌, ◌*◌, ◌≤◌, ◌↔◌, ◌⊎◌, ℕ, IsTrue, MatchResult, IfOk, IsUtf8, true, take, drop, length, slice_index};
+ghost use Rattle.std.specs.Prelude.{◌≡◌, ◌≢◌, ◌+◌, ◌*◌, ◌≤◌, ◌↔◌, ◌⊎◌, ℕ, IsTrue, MatchResult, IfOk, IfSome, IsUtf8, true, take, drop, length, slice_index};
 ghost use Rattle.std.specs.Str.{IsAscii};
 ghost use Rattle.wkt_num.specs.Bytes.{AllWhite};
 ghost use Rattle.wkt_num.specs.Decimal.{IsUnits};
 ghost use Rattle.wkt_calls.specs.Calls.{AnswersCanonical, AreCompared, IsWalkedFor, WritesAsked, WritesOrRefuses, WritesOrSaysWhy};
 ghost use Rattle.wkt_read.specs.Laws.{FrontIsWritable, OneText};
-ghost use Rattle.wkt_calls.specs.Answer.{read_at, print_at, places_in, asks_whole, EndsAsAsked, IsCanonicalOf, Compares, RefusesOne, IsHandedOut, HasNoRoom};
+ghost use Rattle.wkt_calls.specs.Answer.{read_at, print_at, places_in, asks_whole, EndsAsAsked, IsCanonicalOf, Compares, RefusesOne, RefusesText, IsHandedOut, HasNoRoom};
 
 use crate::asked::{ends_as_asked, places_of};
 use crate::at_places;
 use crate::fill::copy_out;
+use crate::refusal::refused_at_start;
 use crate::status::{DONE, NOT_TEXT, NOT_WHOLE, SMALL};
 use std::simd::prelude::*;
 use wkt_canonical::laws::texts_are_short;
@@ -182,9 +183,34 @@ pub fn copy_out_front(
     copy_out(answer, out, needed)
 }
 
+/// Whether a text may begin with the word of a kind, by its first byte; where white space stands first, it may.
+#[inline(always)]
+fn may_begin(text: &[u8]) -> bool {
+    text.len() > 0 && matches!(text[0] | 32, b' ' | b'g' | b'l' | b'm' | b'p')
+}
+
 /// Answers a text of up to [`SHORTEST`] bytes with the canonical text of what it begins with.
 #[inline(always)]
 pub fn canonical_shortest(
+    text: &[u8],
+    asked: u32,
+    out: &mut [u8],
+    needed: &mut usize,
+    end: &mut usize,
+) -> u32
+    requires places { places_in asked ≤ 18 }
+    requires short { length text.now ≤ SHORTEST }
+    ensures { AnswersCanonical asked text.now result out.old out.new needed.old needed.new end.old end.new }
+{
+    if may_begin(text) {
+        return canonical_cleared(text, asked, out, needed, end);
+    }
+    canonical_unlikely(text, asked, out, needed, end)
+}
+
+/// The same, for a text that may begin with the word of a kind.
+#[inline(never)]
+fn canonical_cleared(
     text: &[u8],
     asked: u32,
     out: &mut [u8],
@@ -200,8 +226,40 @@ pub fn canonical_shortest(
     canonical_padded(text, asked, &mut near, &mut room, out, needed, end)
 }
 
-/// Answers a text of up to [`SHORT`] bytes with the canonical text of what it begins with.
+/// The same, for a text that seems to begin with no word of a kind: it is refused with no room cleared.
+#[cold]
+#[inline(never)]
+fn canonical_unlikely(
+    text: &[u8],
+    asked: u32,
+    out: &mut [u8],
+    needed: &mut usize,
+    end: &mut usize,
+) -> u32
+    requires places { places_in asked ≤ 18 }
+    requires short { length text.now ≤ SHORTEST }
+    ensures { AnswersCanonical asked text.now result out.old out.new needed.old needed.new end.old end.new }
+{
+    match str::from_utf8(text) {
+        Ok(text) => match refused_at(text, places_of(asked)) {
+            Some(status) => status,
+            None => canonical_cleared(text.as_bytes(), asked, out, needed, end),
+        },
+        Err(_) => NOT_TEXT,
+    }
+}
+
+/// The status of a text that begins with no word of a kind, with decimals of so many places; `None` where it does.
 #[inline(always)]
+fn refused_at(text: &str, places: u32) -> Option<u32>
+    requires { places ≤ 18 }
+    ensures { IfSome result (RefusesText (read_at places) text.now) }
+{
+    at_places!(places, refused_at_start(text), unreachable!())
+}
+
+/// Answers a text of up to [`SHORT`] bytes with the canonical text of what it begins with.
+#[inline(never)]
 pub fn canonical_short(
     text: &[u8],
     asked: u32,
@@ -219,6 +277,7 @@ pub fn canonical_short(
 }
 
 /// Answers a short text with its canonical text, with cleared bytes for the text and room for the answer.
+#[inline(always)]
 fn canonical_padded(
     text: &[u8],
     asked: u32,

@@ -8,7 +8,7 @@ ghost use Rattle.wkt_canonical.specs.PenMaker.{HasBytes, WritesNumber, Numbered,
 
 use crate::pen::Pen;
 use crate::space::Space;
-use wkt_events::number_there;
+use wkt_events::{byte_at, number_there};
 use wkt_machine::pad;
 use wkt_num::WktNum;
 
@@ -156,6 +156,10 @@ impl<'a, T: WktNum> Pen<'a, T> {
         ensures some { IfSome result.1 (Numbered T.read T.num text.now at self.entry result.0) }
         ensures none { IfNone result.1 (NoNumber T.read text.now at) }
     {
+        // No number stands where a parenthesis closes.
+        if byte_at(text, at) == b')' {
+            return (self, None);
+        }
         let rest = &text[at..];
         if T::reads_texts() && rest.len() < PEN_WINDOW {
             let mut window = [0; PEN_WINDOW];
