@@ -4,36 +4,17 @@ use crate::{Filler, Given, Room, are_arrays, fill_arrays, tell};
 use std::process::Abort;
 use wkt_types::{Dimension, GeometryType};
 
-/// What a room is lent of.
-#[derive(Drop)]
-struct Rooms {
-    numbers: [i64; 64],
-    rings: [usize; 16],
-    polygons: [usize; 16],
-}
-
-impl Rooms {
-    fn new() -> Self {
-        Rooms {
-            numbers: [0; 64],
-            rings: [0; 16],
-            polygons: [0; 16],
-        }
-    }
-
-    fn lend(&mut self) -> Room<'_> {
-        Room {
-            numbers: &mut self.numbers,
-            rings: &mut self.rings,
-            polygons: &mut self.polygons,
-        }
-    }
-}
-
 /// Fills arrays from a text, and from the events of these arrays again.
 fn again(rt: &impl Abort, text: &str) {
-    let mut rooms = Rooms::new();
-    let Some(filled) = fill_arrays::<6>(text.as_bytes(), rooms.lend()) else {
+    let mut numbers = [0i64; 64];
+    let mut rings = [0usize; 16];
+    let mut polygons = [0usize; 16];
+    let room = Room {
+        numbers: &mut numbers,
+        rings: &mut rings,
+        polygons: &mut polygons,
+    };
+    let Some(filled) = fill_arrays::<6>(text.as_bytes(), room) else {
         panic!(rt; "no front");
     };
     assert_eq!(rt; filled.end, text.len());
@@ -46,8 +27,15 @@ fn again(rt: &impl Abort, text: &str) {
         polygons: filled.arrays.polygons(),
     };
     assert!(rt; are_arrays(given));
-    let mut more = Rooms::new();
-    let told = tell::<6, Filler<'_>>(given, Filler::new(more.lend()));
+    let mut more_numbers = [0i64; 64];
+    let mut more_rings = [0usize; 16];
+    let mut more_polygons = [0usize; 16];
+    let more = Room {
+        numbers: &mut more_numbers,
+        rings: &mut more_rings,
+        polygons: &mut more_polygons,
+    };
+    let told = tell::<6, Filler<'_>>(given, Filler::new(more));
     assert_eq!(rt; told.status, 0);
     assert!(rt; told.kind == given.kind && told.dimension == given.dimension);
     assert!(rt; told.numbers() == given.numbers);
