@@ -6,7 +6,7 @@ use std::process::Abort;
 use wkt_access::Error;
 use wkt_convert::{ToWkt, ToWktError};
 use wkt_machine::FromWktStr;
-use wkt_type_tests::support::slow::Slow;
+use wkt_type_tests::support::Slow;
 use wkt_types::{Coord, Dimension, GeometryCollection, Point, Wkt};
 
 /// A drawing, which has a geometry for others.

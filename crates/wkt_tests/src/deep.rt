@@ -1,6 +1,5 @@
 //! Texts that are deep or long.
-use crate::support::asserts::equal;
-use crate::support::lists::LISTS;
+use crate::support::asserts::{LISTS, equal};
 use crate::support::{Swapped, answer, text_or_message};
 use std::alloc::{AllocError, Global};
 use std::process::Abort;

@@ -15,11 +15,7 @@ mod doc_examples;
 #[cfg(test)]
 mod flat;
 #[cfg(test)]
-mod headers;
-#[cfg(test)]
 mod lines;
-#[cfg(test)]
-mod mapped;
 #[cfg(test)]
 mod read;
 #[cfg(test)]

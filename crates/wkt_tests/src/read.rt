@@ -1,9 +1,9 @@
-//! What is read, and what of the text was taken.
+//! What is read, and what of the text was taken; and headers of each length.
 use crate::support::asserts::equal;
 use std::alloc::Global;
 use std::process::Abort;
 use wkt_machine::FromWktStr;
-use wkt_read::{PeekableTokens, ReadError, Token, Tokens};
+use wkt_read::{PeekableTokens, ReadError, Token, Tokens, infer_type};
 use wkt_types::Wkt;
 
 const BAD_NUMBER: &str = "Unable to parse input number as the desired output type";
@@ -87,4 +87,36 @@ fn goes_on_after_a_fault(rt: HostRuntime) {
     let mut tokens = PeekableTokens::new(Tokens::<i32>::from_str("POLYGON((1 2,x),3 4"));
     refuses(&rt, rt.alloc(), &mut tokens, NO_CLOSING);
     equal(&rt, tokens.next(), Some(Ok(Token::Number(3))));
+}
+
+/// The prefix is refused, and the error shows it whole, in capitals.
+fn shows_prefix(rt: &impl Abort, alloc: Global, text: &str, want: &str) {
+    match infer_type(alloc, text) {
+        Ok(_) => panic!(rt; "{text} has a kind"),
+        Err(error) => equal(
+            rt,
+            error.to_string(alloc).expect(rt, "memory").as_str(),
+            want,
+        ),
+    }
+}
+
+/// A prefix of so many letters is shown whole.
+fn shows_letters(rt: &impl Abort, alloc: Global, length: usize) {
+    let letters = "a".repeat(alloc, length).expect(rt, "memory");
+    let text = [letters.as_str(), "("].concat(alloc).expect(rt, "memory");
+    let shown = "A".repeat(alloc, length).expect(rt, "memory");
+    let want = ["Unsupported WKT prefix ", &shown]
+        .concat(alloc)
+        .expect(rt, "memory");
+    shows_prefix(rt, alloc, &text, &want);
+}
+
+// An `infer_type` that gives up on unknown prefixes, or above a size, fails here.
+#[test]
+fn long_prefixes(rt: HostRuntime) {
+    for length in 1..=300 {
+        shows_letters(&rt, rt.alloc(), length);
+    }
+    shows_letters(&rt, rt.alloc(), 100_000);
 }

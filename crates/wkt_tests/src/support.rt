@@ -3,12 +3,23 @@
 mod answers;
 #[cfg(test)]
 pub(crate) mod asserts;
-mod canonical_calls;
 mod flat_calls;
-#[cfg(test)]
-pub(crate) mod lists;
-mod shown;
-mod swapped;
 
 pub use answers::{AnswerError, answer, text_or_message};
-pub use swapped::Swapped;
+use wkt::geo_types::Coord;
+use wkt::walks::Mapper;
+
+/// Each coordinate with x for y, and y for x.
+#[derive(Drop)]
+pub struct Swapped;
+
+impl<T: Copy> Mapper<T, T> for Swapped {
+    ghost maps = { λ _ c. record { x = c.y; y = c.x } };
+
+    fn coord(&self, coord: &Coord<T>) -> Coord<T> {
+        Coord {
+            x: coord.y,
+            y: coord.x,
+        }
+    }
+}

@@ -8,13 +8,11 @@
 #[cfg(test)]
 mod bytes;
 #[cfg(test)]
-mod errors;
+mod flat_texts;
 #[cfg(test)]
-mod flat;
+mod flat_values;
 #[cfg(test)]
 mod num;
-#[cfg(test)]
-mod num_windows;
 pub mod support;
 #[cfg(test)]
 mod types;

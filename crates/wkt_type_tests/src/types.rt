@@ -1,7 +1,9 @@
-//! Values that are made by hand, displayed, copied and compared.
-use crate::support::asserts::{equal, holds};
-use std::alloc::Global;
+//! Values that are made by hand, displayed, copied and compared, and the texts of the errors of writing.
+use crate::support::asserts::{equal, holds, says};
+use std::alloc::{AllocError, Global};
+use std::fmt;
 use std::process::Abort;
+use wkt_access::Error;
 use wkt_num::Decimal;
 use wkt_types::{
     Coord, Dimension, GeometryCollection, LineString, MultiLineString, MultiPolygon, Point,
@@ -262,4 +264,18 @@ fn long_copies(rt: HostRuntime) {
     for &n in &[1usize, 2, 300, 100_000] {
         copy_has(&rt, rt.alloc(), &long(&rt, rt.alloc(), n), n);
     }
+}
+
+#[test]
+fn why_a_geometry_is_not_written(rt: HostRuntime) {
+    let alloc = rt.alloc();
+    let want = "Only 2D input is supported when writing Rect to WKT.";
+    says(&rt, alloc, Error::RectUnsupportedDimension, want);
+    let want = "Only defined dimensions and undefined dimensions of 2, 3, or 4 are supported.";
+    says(&rt, alloc, Error::UnknownDimension, want);
+    let want = "an error occurred when formatting an argument";
+    says(&rt, alloc, Error::FmtError(fmt::Error), want);
+    let want = "A coordinate has fewer numbers than its dimension.";
+    says(&rt, alloc, Error::TooFewNumbers, want);
+    says(&rt, alloc, Error::Memory(AllocError), "out of memory");
 }

@@ -9,7 +9,7 @@ use std::process::Abort;
 use wkt_bytes::{ByteSource, Counted, ReadAllError};
 use wkt_lines::{AnswerError, Canonical, Lines, Reply, line_end, stream_with};
 use wkt_num::TextSink;
-use wkt_type_tests::support::slow::{Pieces, Slow, source};
+use wkt_type_tests::support::{Pieces, Slow, source};
 
 /// A source whose every second call fails, the first among them.
 #[derive(Drop)]

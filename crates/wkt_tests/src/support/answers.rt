@@ -1,22 +1,24 @@
-//! The answer to a text, where all calls that read, copy and write a geometry agree on it.
-
+//! The answer to a text, where all calls that read, copy and write a geometry agree on it, and those that build none
+//! answer as those that do.
 ghost use Rattle.std.specs.Prelude.{◌≡◌, IfOk, IsErr};
 ghost use Rattle.std.specs.String.{string_bytes};
 ghost use Rattle.wkt_read.specs.Front.{HasNoFront};
 ghost use Rattle.wkt.specs.CanonicalText.{IsCanonical};
 ghost use Rattle.wkt_tests.specs.Answer.{OnAnswerMemory, OnAnswerRefused};
 
-use crate::support::canonical_calls::{is_canonical_alike, is_refused_alike};
 use crate::support::flat_calls::flat_alike;
-use crate::support::shown::shows;
 use std::alloc::{AllocError, Global};
+use std::fmt::Display;
 use thiserror::Error;
 use wkt::laws::read_values_are_writable;
 use wkt::tokenizer::{PeekableTokens, Tokens};
 use wkt::types::{
     GeometryCollection, LineString, MultiLineString, MultiPoint, MultiPolygon, Polygon,
 };
-use wkt::{FromWktStr, InferError, ReadError, Wkt, WktNum, front_end, infer_type};
+use wkt::{
+    FromWktStr, InferError, ReadError, Wkt, WktNum, canonical_into, canonical_text, front_end,
+    infer_type,
+};
 
 /// Why a text has no answer.
 #[derive(Debug, Drop, Error)]
@@ -220,4 +222,61 @@ fn collection_again<T: WktNum>(
     let all = all.unwrap_or(GeometryCollection::empty(alloc, dim));
     let (members, _) = all.into_inner();
     Ok(Wkt::from(GeometryCollection::new(members, dim)))
+}
+
+/// Room for texts of which no number is more than sixty times as long as what it is read from.
+const ROOM_A_BYTE: usize = 64;
+
+/// Whether the canonical text of what the text begins with is that answer, as a string and in a buffer.
+pub(crate) fn is_canonical_alike<T: WktNum>(
+    alloc: Global,
+    text: &str,
+    answer: &str,
+) -> Result<bool, AllocError> {
+    match canonical_text::<T>(alloc, text) {
+        Ok(canonical) => {
+            Ok(canonical.as_str() == answer && is_written_alike::<T>(alloc, text, answer)?)
+        }
+        Err(ReadError::Text(_)) => Ok(false),
+        Err(ReadError::Memory(e)) => Err(e),
+    }
+}
+
+/// Whether it is that in a buffer, up to where the geometry ends.
+fn is_written_alike<T: WktNum>(
+    alloc: Global,
+    text: &str,
+    answer: &str,
+) -> Result<bool, AllocError> {
+    let mut buffer = Vec::new(alloc);
+    let Some(room) = text.len().checked_mul(ROOM_A_BYTE) else {
+        return Err(AllocError);
+    };
+    buffer.resize(room.saturating_add(65), 0)?;
+    match canonical_into::<T>(text, buffer.as_mut_slice()) {
+        Ok(Some(written)) => Ok(
+            front_end::<T>(text) == Some(written.end)
+                && buffer.get(..written.len) == Some(answer.as_bytes()),
+        ),
+        _ => Ok(false),
+    }
+}
+
+/// Whether the text is refused with that message.
+pub(crate) fn is_refused_alike<T: WktNum>(
+    alloc: Global,
+    text: &str,
+    message: &str,
+) -> Result<bool, AllocError> {
+    match canonical_text::<T>(alloc, text) {
+        Ok(_) => Ok(false),
+        Err(ReadError::Text(said)) => Ok(said == message && front_end::<T>(text).is_none()),
+        Err(ReadError::Memory(e)) => Err(e),
+    }
+}
+
+/// Whether that is what a value displays.
+pub(crate) fn shows<G: Display>(alloc: Global, value: &G, want: &str) -> Result<bool, AllocError> {
+    let text = format!(in alloc; "{value}")?;
+    Ok(text.as_str() == want)
 }

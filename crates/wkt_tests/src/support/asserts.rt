@@ -1,4 +1,5 @@
-//! What the tests assert, as functions: each is proved once, where a macro is at each place that it stands at.
+//! What the tests assert, as functions: each is proved once, where a macro is at each place that it stands at. And the
+//! kinds that are lists.
 use std::fmt::Debug;
 use std::io::ErrorKind;
 use std::process::Abort;
@@ -36,3 +37,13 @@ fn end_of(answer: Result<(), RunError>) -> End {
 pub(crate) fn ended(rt: &impl Abort, answer: Result<(), RunError>, want: End) {
     equal(rt, end_of(answer), want);
 }
+
+/// The word of each, and a member.
+pub(crate) const LISTS: [(&str, &str); 6] = [
+    ("LINESTRING", "1 2"),
+    ("POLYGON", "(1 2)"),
+    ("MULTIPOINT", "(1 2)"),
+    ("MULTILINESTRING", "(1 2)"),
+    ("MULTIPOLYGON", "((1 2))"),
+    ("GEOMETRYCOLLECTION", "POINT(1 2)"),
+];

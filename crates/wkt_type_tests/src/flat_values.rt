@@ -1,5 +1,5 @@
 //! Flat values that are made, copied and compared, at many sizes.
-use crate::flat::texts::{TRIANGLE, at, holed, line_string};
+use crate::flat_texts::{TRIANGLE, at, holed, line_string};
 use crate::support::asserts::{equal, holds};
 use std::alloc::Global;
 use std::process::Abort;
