@@ -1,12 +1,11 @@
 //! The other callers and examples, each called.
-use crate::any_collection::{count_members, write_members};
-use crate::any_geometry::first_member;
-use crate::asserts::equal;
+use crate::any_geometry::{count_members, first_member, write_members};
+use crate::equal;
 use crate::flat_from_reader::{CopyError, copy_polygon};
-use crate::flat_key_to_sink::write_flat_key;
-use crate::from_json::geometry_in;
+use crate::from_text::geometry_in;
 use crate::my_map::{Figure, Map};
 use crate::my_sinks::{Page, Piecewise, answers};
+use crate::one_text::write_flat_key;
 use crate::scene::{Layer, scene_text};
 use serde_json::Value;
 use std::alloc::Global;

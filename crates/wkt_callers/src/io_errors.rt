@@ -1,8 +1,8 @@
 //! The error that a sink or a source gave is the one that comes: its kind, its code and its words.
-use crate::asserts::equal;
+use crate::equal;
 use crate::flat_from_reader::{CopyError, copy_polygon};
-use crate::flat_key_to_sink::write_flat_key;
 use crate::my_sinks::{Page, Piecewise};
+use crate::one_text::write_flat_key;
 use std::alloc::Global;
 use std::io;
 use std::io::ErrorKind;

@@ -4,29 +4,31 @@
 //! Below stand `wkt`, `wkt_lines` and `wkt_examples`; nothing stands above.
 #![tactic(auto)]
 
-pub mod any_collection;
 pub mod any_geometry;
-#[cfg(test)]
-mod asserts;
-pub mod bounding_box;
 #[cfg(test)]
 mod called;
 pub mod flat_from_reader;
-pub mod flat_key;
-pub mod flat_key_to_sink;
-pub mod from_json;
+pub mod from_text;
 #[cfg(test)]
 mod io_errors;
-pub mod key_counts;
 pub mod my_map;
-pub mod my_paper;
 pub mod my_sinks;
-pub mod read_and_write;
+pub mod one_text;
 #[cfg(test)]
 mod rows;
-pub mod same_place;
 pub mod scene;
 #[cfg(test)]
 mod visit;
 #[cfg(test)]
 mod write;
+
+#[cfg(test)]
+use std::fmt::Debug;
+#[cfg(test)]
+use std::process::Abort;
+
+/// The two are equal: what tests assert, as a function. It is proved once, where a macro is at each place that it stands at.
+#[cfg(test)]
+pub(crate) fn equal<T: PartialEq + Debug + Drop>(rt: &impl Abort, given: T, want: T) {
+    assert_eq!(rt; given, want);
+}

@@ -1,12 +1,12 @@
-//! A custom source and a custom sink, and the program's `run` over them.
-ghost use Rattle.std.specs.Prelude.{◌≡◌, ◌<◌, IfOk};
+//! A custom source and custom sinks of bytes and of text, and the program's `run` over them.
+ghost use Rattle.std.specs.Prelude.{◌≡◌, ◌<◌, IfOk, []};
 ghost use Rattle.wkt_lines.specs.Numbers.{read_line, print_line};
 ghost use Rattle.wkt_lines.specs.Output.{OnRunRead, IsOutput};
 
 use std::alloc::Global;
-use std::io;
 use std::io::ErrorKind;
-use wkt::to_wkt::{ByteSink, ByteSource};
+use std::{fmt, io};
+use wkt::to_wkt::{ByteSink, ByteSource, TextSink};
 use wkt_lines::{RunError, run};
 
 /// A source of bytes in memory, which gives at most so many a call. It never fails.
@@ -76,4 +76,50 @@ pub fn answers(alloc: Global, input: &[u8], room: usize) -> Result<Vec<u8>, RunE
     };
     run(alloc, &mut source, &mut sink)?;
     Ok(sink.text)
+}
+
+/// Takes so many pieces of text, and then each call fails.
+#[derive(Drop)]
+pub struct Paper {
+    pub bytes: Vec<u8>,
+    pub left: usize,
+    pub failures: u64,
+}
+
+impl Paper {
+    /// An empty paper with room for so many pieces.
+    pub fn new(alloc: Global, left: usize) -> Paper
+        ensures bytes { result.bytes.items ≡ [] }
+        ensures left { result.left ≡ left }
+        ensures failures { result.failures ≡ 0 }
+    {
+        Paper {
+            bytes: Vec::new(alloc),
+            left,
+            failures: 0,
+        }
+    }
+}
+
+impl TextSink for Paper {
+    ghost use Rattle.wkt.specs.Sink.{revealing};
+
+    ghost sink = { revealing (λ p. p.bytes.items) (λ p. p.failures) };
+
+    fn write_str(&mut self, piece: &str) -> fmt::Result {
+        if self.left == 0 {
+            self.failures = self.failures.wrapping_add(1);
+            return Err(fmt::Error);
+        }
+        match self.bytes.extend_from_slice(piece.as_bytes()) {
+            Ok(()) => {
+                self.left -= 1;
+                Ok(())
+            }
+            Err(_) => {
+                self.failures = self.failures.wrapping_add(1);
+                Err(fmt::Error)
+            }
+        }
+    }
 }

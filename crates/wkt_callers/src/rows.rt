@@ -1,9 +1,7 @@
 //! The callers and examples that answer a text, over rows of texts and what they give. Memory that runs out is an error,
 //! which `tests/gate/each_growth.sh` tries at each allocation.
-use crate::asserts::equal;
-use crate::flat_key::flat_key;
-use crate::read_and_write::{tidy, tidy_if_any, tidy_pair};
-use crate::same_place::same_place;
+use crate::equal;
+use crate::one_text::{flat_key, same_place, tidy, tidy_if_any, tidy_pair};
 use std::alloc::{AllocError, Global};
 use std::fmt::Display;
 use std::process::Abort;

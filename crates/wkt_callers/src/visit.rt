@@ -1,7 +1,7 @@
 //! Walks over the coordinates of two-dimensional geometries, and the callers that make them.
-use crate::asserts::equal;
-use crate::bounding_box::box_of_text;
-use crate::key_counts::{counts, keys};
+use crate::equal;
+use crate::from_text::box_of_text;
+use crate::one_text::{counts, keys};
 use std::alloc::Global;
 use std::process::Abort;
 use wkt::geo_types::{Coord, Geometry, Line, Rect, Triangle};

@@ -1,7 +1,7 @@
 //! The custom representation of `my_map`, written by all eleven writers.
-use crate::asserts::equal;
+use crate::equal;
 use crate::my_map::{Area, Areas, Corners, Figure, Map, Segment, Track, Tracks};
-use crate::my_paper::Paper;
+use crate::my_sinks::Paper;
 use std::alloc::Global;
 use std::process::Abort;
 use wkt::error::Error;
