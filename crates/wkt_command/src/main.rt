@@ -4,14 +4,9 @@
 //! Below stand `wkt_lines`, `wkt_explain` and `wkt_canonical`.
 #![tactic(auto)]
 
-mod canon;
 mod dups;
 mod error;
-mod excerpt;
-mod help;
 mod input;
-mod kind;
-mod numbers;
 mod options;
 mod output;
 mod parse;

@@ -1,9 +1,11 @@
-//! Standard output.
-ghost use Rattle.std.specs.Prelude.{OnOk};
+//! Standard output, and what `wkt canon` and `wkt kind` write there.
+ghost use Rattle.std.specs.Prelude.{OnOk, [], ◌∷◌, ◌++◌};
 ghost use Rattle.std.specs.Io.KnownBytes.{Appends, Keeps};
+ghost use Rattle.wkt_command.specs.Canon.{out_bytes};
 
-use std::alloc::Global;
+use std::alloc::{AllocError, Global};
 use std::io::{self, BufWriter, IsTerminal, Stdout, Write};
+use wkt_read::infer_type;
 
 // How much is gathered before it is written, where standard output is no terminal.
 const BUFFERED: usize = 65536;
@@ -61,5 +63,33 @@ impl<W: Write + Drop> Output<W> {
     /// The writer's error.
     pub fn finish(&mut self) -> io::Result<()> {
         self.writer.flush()
+    }
+}
+
+/// Writes a text's canonical text, and a line feed.
+///
+/// # Errors
+/// Standard output's error.
+pub fn put_canonical<W: Write + Drop>(out: &mut Output<W>, canonical: &[u8]) -> io::Result<()>
+    ensures { OnOk result
+        (Appends (out_bytes W.contents out.old) (out_bytes W.contents out.new) (canonical.now ++ 10 ∷ [])) }
+{
+    match out.put(canonical) {
+        Ok(()) => out.put(b"\n"),
+        Err(error) => Err(error),
+    }
+}
+
+/// Writes the kind and the dimension of a text that is read.
+///
+/// # Errors
+/// Standard output's error, or out of memory.
+pub fn put_kind<W: Write + Drop>(alloc: Global, out: &mut Output<W>, text: &str) -> io::Result<()> {
+    match infer_type(alloc, text) {
+        Ok((kind, dimension)) => {
+            let line = format!(in alloc; "{kind:?} {dimension:?}\n")?;
+            out.put(line.as_bytes())
+        }
+        Err(_) => Err(io::Error::from(AllocError)),
     }
 }

@@ -1,6 +1,9 @@
-//! Lines and columns.
+//! Lines and columns, and the part of a line around a place.
 ghost use Rattle.std.specs.Prelude.{◌≡◌, ◌+◌};
 ghost use Rattle.wkt_command.specs.Place.{feeds, column_after, byte_after};
+
+use std::fmt;
+use std::fmt::Formatter;
 
 /// A place of a text: its line and its column, both from 1. A column is a character.
 #[derive(Clone, Copy, PartialEq, Eq, Debug)]
@@ -41,4 +44,124 @@ pub fn byte_after(before: &[u8]) -> usize
         rest = others;
     }
     place
+}
+
+// How many characters of a line are shown, and how many of them before the place where more follow.
+const WIDTH: usize = 60;
+
+const BEFORE: usize = 30;
+
+/// The part of a line around a place, and below it a mark under what stands there.
+#[derive(Clone, Copy)]
+pub struct Excerpt<'a> {
+    before: &'a str,
+    marked: &'a str,
+    after: &'a str,
+    begins_line: bool,
+    ends_line: bool,
+}
+
+fn continues(byte: u8) -> bool {
+    (128..=191).contains(&byte)
+}
+
+/// Goes back so many characters, or to the line's begin: where that is, and how many they are.
+fn back(text: &[u8], from: usize, most: usize) -> (usize, usize) {
+    let front = text.get(..from).unwrap_or(text);
+    let mut at = front.len();
+    let mut count = 0;
+    for byte in front.iter().rev() {
+        if count >= most || *byte == b'\n' {
+            break;
+        }
+        at = at.saturating_sub(1);
+        if !continues(*byte) {
+            count += 1;
+        }
+    }
+    (at, count)
+}
+
+/// Goes on so many characters, or to the line's end: where that is, and how many they are.
+fn forth(text: &[u8], from: usize, most: usize) -> (usize, usize) {
+    let mut at = from;
+    let mut count = 0;
+    for byte in text.get(from..).unwrap_or(&[]) {
+        if *byte == b'\n' {
+            break;
+        }
+        if !continues(*byte) {
+            if count >= most {
+                break;
+            }
+            count += 1;
+        }
+        at = at.saturating_add(1);
+    }
+    (at, count)
+}
+
+impl<'a> Excerpt<'a> {
+    /// The line around the bytes from `start` to `end`: up to 60 characters.
+    pub fn around(text: &'a str, start: usize, end: usize) -> Excerpt<'a> {
+        let bytes = text.as_bytes();
+        let (_, before) = back(bytes, start, BEFORE);
+        let (to, after) = forth(bytes, start, WIDTH.saturating_sub(before));
+        let (from, _) = back(bytes, start, WIDTH.saturating_sub(after));
+        let end = end.min(to).max(start);
+        let ends_line = matches!(bytes.get(to), None | Some(b'\n'));
+        let after = text.get(end..to).unwrap_or("");
+        Excerpt {
+            before: text.get(from..start).unwrap_or(""),
+            marked: text.get(start..end).unwrap_or(""),
+            after: if ends_line {
+                after.strip_suffix('\r').unwrap_or(after)
+            } else {
+                after
+            },
+            begins_line: matches!(
+                bytes.get(..from).and_then(|front| front.last()),
+                None | Some(b'\n')
+            ),
+            ends_line,
+        }
+    }
+}
+
+// A control character would move what is shown.
+fn write_plain<W: fmt::Write>(text: &str, f: &mut Formatter<W>) -> fmt::Result {
+    for c in text.chars() {
+        let plain = if c.is_control() && c != '\t' {
+            '\u{FFFD}'
+        } else {
+            c
+        };
+        f.write_char(plain)?;
+    }
+    Ok(())
+}
+
+impl<'a> fmt::Display for Excerpt<'a> {
+    fn fmt<W: fmt::Write>(&self, f: &mut Formatter<W>) -> fmt::Result {
+        let dots = if self.begins_line { "" } else { "..." };
+        f.write_str("    ")?;
+        f.write_str(dots)?;
+        write_plain(self.before, f)?;
+        write_plain(self.marked, f)?;
+        write_plain(self.after, f)?;
+        f.write_str(if self.ends_line {
+            "\n    "
+        } else {
+            "...\n    "
+        })?;
+        f.write_str(if self.begins_line { "" } else { "   " })?;
+        for c in self.before.chars() {
+            f.write_char(if c == '\t' { c } else { ' ' })?;
+        }
+        f.write_char('^')?;
+        for _ in self.marked.chars().skip(1) {
+            f.write_char('^')?;
+        }
+        f.write_char('\n')
+    }
 }

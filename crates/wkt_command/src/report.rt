@@ -2,8 +2,7 @@
 ghost use Rattle.std.specs.Prelude.{◌≡◌, ◌++◌, ◌+◌, ◌-◌, ◌^◌, min, take, OnOk, string_bytes};
 ghost use Rattle.wkt_command.specs.Place.{line_after, place_text, utf8_text};
 
-use crate::excerpt::Excerpt;
-use crate::place::{byte_after, place_after};
+use crate::place::{Excerpt, byte_after, place_after};
 use std::alloc::AllocError;
 use std::fmt;
 use std::fmt::Formatter;

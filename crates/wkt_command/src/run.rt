@@ -7,14 +7,12 @@ ghost use Rattle.wkt_command.specs.declared.options.Command.TheVariants.{Canon};
 use crate::dups::{self, Seen, Spot};
 use crate::error::CommandError;
 use crate::input::{Input, NulLines, swap_ends};
-use crate::numbers::verdict_at;
 use crate::options::{Command, Ends, Options};
-use crate::output::Output;
+use crate::output::{Output, put_canonical, put_kind};
 use crate::place::place_after;
 use crate::progress::{Progress, Tally};
 use crate::report::{Origin, TextRefusal, Thousands, push_not_utf8, push_refusal};
-use crate::verdict::{Verdict, written};
-use crate::{canon, kind};
+use crate::verdict::{Verdict, verdict_at, written};
 use std::alloc::Global;
 use std::io::{Stdout, Write};
 use wkt_bytes::{ByteSource, Counted, ReadAllError, read_all};
@@ -218,8 +216,8 @@ impl<'a, W: Write + Drop> Run<'a, W> {
         let canonical = written(&self.room, len);
         let put = match self.options.command {
             Command::Check | Command::Same => Ok(()),
-            Command::Canon => canon::put(&mut self.out, canonical),
-            Command::Kind => kind::put(self.alloc, &mut self.out, text),
+            Command::Canon => put_canonical(&mut self.out, canonical),
+            Command::Kind => put_kind(self.alloc, &mut self.out, text),
             Command::Dups => {
                 let spot = Spot {
                     file: self.file,
@@ -259,7 +257,7 @@ impl<'a, W: Write + Drop> Run<'a, W> {
     {
         self.tally.refused = self.tally.refused.saturating_add(1);
         if let Some(word) = &self.options.refused {
-            match canon::put(&mut self.out, word.as_bytes()) {
+            match put_canonical(&mut self.out, word.as_bytes()) {
                 Ok(()) => {}
                 Err(error) => return Err(CommandError::output(error)),
             }

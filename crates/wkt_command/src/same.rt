@@ -1,9 +1,8 @@
 //! `wkt same`: whether two texts name one geometry.
 use crate::error::CommandError;
-use crate::numbers::verdict_at;
 use crate::options::Options;
 use crate::report::{Origin, TextRefusal, push_refusal};
-use crate::verdict::{Verdict, written};
+use crate::verdict::{Verdict, verdict_at, written};
 use std::alloc::Global;
 
 /// Whether the two texts name one geometry: 0 or 1; 2 where one of them is refused.

@@ -1,11 +1,10 @@
 //! A run from its arguments to its status.
 use crate::error::CommandError;
-use crate::help::{HELP, USAGE, VERSION};
 use crate::options::{Command, Options};
 use crate::parse::{Request, parse};
 use crate::run::Run;
 use crate::same;
-use crate::usage::UsageError;
+use crate::usage::{HELP, USAGE, UsageError, VERSION};
 use std::env;
 use std::io::{ErrorKind, Stdout};
 

@@ -1,6 +1,45 @@
-//! Why a run's arguments aren't understood.
+//! What `--help` and `--version` print, and why a run's arguments aren't understood.
 use std::alloc::{AllocError, AllocFailed};
 use thiserror::Error;
+
+/// What `--version` prints.
+pub const VERSION: &str = "wkt 1.0.0\n";
+
+/// How the program is called, in a line.
+pub const USAGE: &str =
+    "usage: wkt check|canon|kind|dups [OPTIONS] [FILE..], wkt same [OPTIONS] A B, wkt --help\n";
+
+/// What `--help` prints.
+pub const HELP: &str = "\
+usage: wkt check [OPTIONS] [FILE..]   where texts are refused, and what was expected there
+       wkt canon [OPTIONS] [FILE..]   the canonical text of each text
+       wkt kind [OPTIONS] [FILE..]    the kind and the dimension of each text
+       wkt dups [OPTIONS] [FILE..]    the texts that name a geometry which an earlier text names
+       wkt same [OPTIONS] A B         whether two texts name one geometry
+       wkt --help | --version
+
+Each line of a FILE is a text of well-known text. With no FILE, or where FILE is -, standard input is read.
+
+  -p, --places N    numbers have at most N digits after the point, 0 to 18 (18); nothing is rounded
+  -w, --whole       a FILE is one text, on any number of lines
+  -0, --null        texts end at a NUL, not at a line feed
+  -f, --front       what follows a geometry in its text isn't looked at
+  --refused WORD    canon, kind: write WORD in place of the answer to a refused text
+  -n, --max N       check: end after N refusals (100); 0: no limit
+  -q, --quiet       print no refusals: canon, kind and dups write their answers alone, check and same nothing
+  --progress, --no-progress
+                    show on standard error how far the run is, or don't. By itself it is shown for a FILE of more
+                    than 64 MB, where standard error is a terminal
+  -h, --help        print this
+  --version         print the version
+
+check writes FILE:LINE:COLUMN, what was expected there, the line and a mark below the place. The other commands write
+that on standard error. LINE and COLUMN count from 1, COLUMN in characters.
+
+Status 0: every text was read; for same, the texts name one geometry. 1: a text was refused; for same, they name two
+geometries. 2: wrong usage, a file that can't be read, output that can't be written, out of memory; for same, a text
+that was refused.
+";
 
 /// Why a run's arguments aren't understood.
 #[derive(Debug, Drop, Error)]
