@@ -3,15 +3,13 @@
 //! Below stands `wkt_num`; above, what takes or gives bytes: `wkt_convert`, `wkt_lines` and the programs.
 #![tactic(auto)]
 
-mod error;
 mod gathered;
 pub mod laws;
 mod read;
 mod sinks;
 mod wrapper;
 
-pub use error::error_of;
 pub use gathered::GatheredText;
 pub use read::{ReadAllError, read_all};
 pub use sinks::{ByteSink, ByteSource, Counted};
-pub use wrapper::{WriterWrapper, copy_piece, put_all};
+pub use wrapper::{WriterWrapper, copy_piece, error_of, put_all};

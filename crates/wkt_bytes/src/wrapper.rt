@@ -1,7 +1,8 @@
 //! Text to a byte sink, gathered in an array.
-ghost use Rattle.std.specs.Prelude.{◌≡◌, ◌≤◌, ◌<◌, ◌+◌, ◌*◌, [], ◌++◌, OnOk, OnErr, length, true};
+ghost use Rattle.std.specs.Prelude.{◌≡◌, ◌≤◌, ◌<◌, ◌+◌, ◌*◌, [], ◌++◌, OnOk, OnErr, length, true, Some};
 ghost use Rattle.wkt_num.specs.Sink.{Puts};
 ghost use Rattle.wkt_bytes.specs.Sinks.{PutsAll};
+ghost use Rattle.wkt_bytes.specs.Wrapper.{is_untaken, TakesFault};
 
 use crate::sinks::ByteSink;
 use std::io::ErrorKind;
@@ -292,4 +293,12 @@ impl<W: ByteSink> TextSink for WriterWrapper<W> {
             }
         }
     }
+}
+
+/// Takes the error that came to a wrapper and was not taken yet.
+pub fn error_of<W: ByteSink>(wrapper: &mut WriterWrapper<W>) -> io::Error
+    requires { is_untaken wrapper.old ≡ true }
+    ensures { TakesFault wrapper.old (Some result) wrapper.new }
+{
+    wrapper.take_fault().unwrap()
 }
