@@ -1,6 +1,5 @@
 //! Calls over the two-dimensional types, by their names.
-use crate::calls::Number;
-use crate::shown::{flat_or_words, flat_shown};
+use crate::calls::{Number, flat_or_words, flat_shown};
 use std::alloc::Global;
 use wkt::geo_types::{
     Geometry, GeometryCollection, Line, LineString, MultiLineString, MultiPoint, MultiPolygon,

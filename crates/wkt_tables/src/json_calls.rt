@@ -1,7 +1,6 @@
 //! Calls over JSON values, by their names.
-use crate::calls::Number;
-use crate::rows::value_of;
-use crate::shown::flat_or_words;
+use crate::calls::{Number, flat_or_words};
+use crate::table::value_of;
 use serde_json::Value;
 use std::alloc::Global;
 use wkt::deserialize::geo_types::{deserialize_geometry, deserialize_point};

@@ -12,16 +12,12 @@
 //! what its columns are.
 #![tactic(auto)]
 
-mod built;
 mod calls;
 mod flat_calls;
 mod json_calls;
 mod made;
 mod numbers;
 mod parts;
-mod refusals;
-mod rows;
-mod shown;
 mod table;
 
 use std::process::ExitCode;

@@ -1,11 +1,10 @@
-//! What is read of a text, part by part.
-use crate::calls::Number;
-use crate::shown::flat_shown;
+//! What is read of a text, part by part, and where and why a text is refused.
+use crate::calls::{Number, flat_shown};
 use std::alloc::{AllocError, Global};
 use wkt::geo_types::Geometry;
 use wkt::geo_types_from_wkt::ConvertFrom;
 use wkt::tokenizer::Tokens;
-use wkt::{AnyError, FromWktStr, Wkt, read_whole};
+use wkt::{AnyError, FromWktStr, Wkt, explain, read_whole};
 
 /// The geometry of a text over whole numbers, with each number where it is held, as Debug shows it.
 pub(crate) fn held(alloc: Global, text: &str) -> Result<String, AnyError> {
@@ -44,4 +43,26 @@ fn add_lexeme(
     let line = format!(in alloc; "{lexeme:?} {end} {taken};")?;
     out.push_str(&line)?;
     Ok(true)
+}
+
+/// The bytes of the lexeme that is too much and what was expected there, or none.
+pub(crate) fn place(alloc: Global, text: &str) -> Result<String, AnyError> {
+    match explain::<Number>(text) {
+        Some(why) => {
+            let (start, end, expected) = (why.start, why.end, why.expected);
+            Ok(format!(in alloc; "{start}..{end} {expected:?}")?)
+        }
+        None => Ok(String::from_str(alloc, "none")?),
+    }
+}
+
+/// The message and the lexeme over whole numbers, or none.
+pub(crate) fn message(alloc: Global, text: &str) -> Result<String, AnyError> {
+    match explain::<i32>(text) {
+        Some(why) => {
+            let lexeme = why.text.get(why.start..why.end).unwrap_or("");
+            Ok(format!(in alloc; "{}: {lexeme}", why.message)?)
+        }
+        None => Ok(String::from_str(alloc, "none")?),
+    }
 }
