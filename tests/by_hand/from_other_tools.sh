@@ -5,7 +5,7 @@
 # call of docs/FROM_OTHER_TOOLS.md 100,000 doubles of each sort are written by it. A text is read as a key, the program
 # reads the key and writes it by the same call, and the key of that has to be the same. Which texts are refused is a rule
 # of the page, and is compared with what is refused. Then the program reads 20,000 keys that it didn't write, and writes
-# them by the call: how many keep their key is compared with other_tools/kept.expected and the page's table. It is no part
+# them by the call: how many keep their key is compared with other_tools/expected and the page's table. It is no part
 # of the gate; it takes some five minutes.
 #
 # It needs python3 with Shapely (python3-shapely) and GDAL (python3-gdal, gdal-bin), a C compiler, GEOS (libgeos-dev),
@@ -24,8 +24,8 @@ python=python3
 [ ! -x /usr/bin/python3 ] || python=/usr/bin/python3
 
 # Doubles: degrees, metres of Web Mercator, and of any size from 1e-20 to 1e20.
-"$python" "$there/doubles.py" > "$work/doubles"
-"$python" "$there/given.py" "$work/doubles" > "$work/given"
+"$python" "$there/points.py" > "$work/doubles"
+"$python" "$there/points.py" "$work/doubles" > "$work/given"
 printf '%-12s %-60s %-8s %7s %7s %7s %7s\n' program call doubles texts read same exact
 touch "$work/again" "$work/kept"
 # figures FILE: lines of program, call, sort of doubles, texts, read, kept the same, those with both numbers exact, against
@@ -41,7 +41,7 @@ figures() {
 }
 
 for tool in shapely gdal; do
-    if WKT_LIB=$wkt/libwkt.so PYTHONDONTWRITEBYTECODE=1 PYTHONPATH=$root/python "$python" "$there/$tool.py" "$work/doubles" "$work/given" "$there/kinds" > "$work/$tool" 2> "$work/err"; then
+    if WKT_LIB=$wkt/libwkt.so PYTHONDONTWRITEBYTECODE=1 PYTHONPATH=$root/python "$python" "$there/python.py" "$tool" "$work/doubles" "$work/given" "$there/kinds" > "$work/$tool" 2> "$work/err"; then
         figures "$work/$tool"
     else
         echo "$tool: $(tail -n 1 "$work/err")"
@@ -76,11 +76,12 @@ if [ -s "$work/postgis" ]; then figures "$work/postgis"; else echo "PostGIS: $(h
 echo "of the keys that a program didn't write, it keeps:"
 printf '%-12s %-60s %-5s %7s %7s\n' program call keys keys kept
 while IFS=$'\t' read -r program call sort keys kept; do printf '%-12s %-60s %-5s %7s %7s\n' "$program" "$call" "$sort" "$keys" "$kept"; done < "$work/kept"
-there_are() { grep -f <(sed 's/.*/^&	/' "$work/programs" | sort -u) "$1"; }
-there_are "$there/kept.expected" | sort | diff - <(sort "$work/kept") > "$work/differ" || { echo "wrong: other numbers of keys are kept than in other_tools/kept.expected"; cat "$work/differ"; status=1; }
-"$python" "$there/page.py" "$there/kept.expected" "$root/docs/FROM_OTHER_TOOLS.md" || status=1
+# there_are FIELDS: of what is expected, the lines of so many fields, of the programs that are there
+there_are() { awk -F '\t' -v fields="$1" 'NF == fields' "$there/expected" | grep -f <(sed 's/.*/^&	/' "$work/programs" | sort -u); }
+there_are 5 | sort | diff - <(sort "$work/kept") > "$work/differ" || { echo "wrong: other numbers of keys are kept than in other_tools/expected"; cat "$work/differ"; status=1; }
+"$python" "$there/page.py" "$there/expected" "$root/docs/FROM_OTHER_TOOLS.md" || status=1
 # The keys of other kinds that don't stay the same, of the programs that are there.
-there_are "$there/kinds.expected" | diff - "$work/again" > "$work/differ" ||
+there_are 3 | diff - "$work/again" > "$work/differ" ||
     { echo "wrong: of tests/by_hand/other_tools/kinds other keys stay the same"; cat "$work/differ"; status=1; }
 echo "of $(wc -l < "$there/kinds") keys of all kinds, these don't stay the same:"
 column -t -s $'\t' "$work/again" 2> /dev/null || cat "$work/again"

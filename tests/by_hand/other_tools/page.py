@@ -2,7 +2,7 @@
 import sys
 
 with open(sys.argv[1], encoding="utf-8") as file:
-    lines = [line.rstrip("\n").split("\t") for line in file]
+    fields = [line.rstrip("\n").split("\t") for line in file]
 with open(sys.argv[2], encoding="utf-8") as file:
     rows = [line for line in file if line.startswith("|")]
 
@@ -12,7 +12,7 @@ def word(keys, kept):
 
 
 calls = {}
-for program, call, sort, keys, kept in lines:
+for program, call, sort, keys, kept in (line for line in fields if len(line) == 5):
     calls.setdefault((program, call), {})[sort] = word(keys, kept)
 status = 0
 for (program, call), kept in calls.items():
