@@ -14,7 +14,7 @@ export WKT_C_LIB=${WKT_C_LIB:-dist}
 
 # A clone that has nothing built, with what isn't committed yet.
 mkdir "$work/clone"
-(cd "$top" && git ls-files -co --exclude-standard -- python capi dist include 'LICENSE-*' tests/data/command tests/gate/command.sh |
+(cd "$top" && git ls-files -co --exclude-standard -- .gitignore python capi dist include 'LICENSE-*' tests/data/command tests/gate/command.sh |
     while read -r file; do [ ! -e "$file" ] || echo "$file"; done | tar -c -T - | tar -x -C "$work/clone")
 git -C "$work/clone" init -q
 git -C "$work/clone" add -A
