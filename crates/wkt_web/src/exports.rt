@@ -1,16 +1,20 @@
 //! The functions that the host calls.
-ghost use Rattle.std.specs.Prelude.{◌≡◌, ◌≤◌, ◌≢◌, ◌⊎◌, ◌+◌, ◌*◌, ◌<◌, Bool, length, take};
-ghost use Rattle.wkt_calls.specs.Answer.{read_at, print_at, places_in, asks_whole, EndsAsAsked, IsCanonicalOf, HasMore, Compares, RefusesAt, RefusesOneAt, HasNoPlaces, same_number};
+ghost use Rattle.std.specs.Prelude.{◌≡◌, ◌≤◌, ◌≢◌, ◌⊎◌, ◌+◌, ◌*◌, ◌<◌, Bool, length, take, ◌↔◌, ℕ};
+ghost use Rattle.wkt_calls.specs.Answer.{read_at, print_at, places_in, asks_whole, EndsAsAsked, IsCanonicalOf, HasMore, Compares, RefusesAt, RefusesOneAt, HasNoPlaces, same_number, IsHeaderOf, NamesNone};
 ghost use Rattle.wkt_calls.specs.Calls.{AnswersSure, ends_here};
 ghost use Rattle.wkt_calls.specs.Arrays.{IsNotFlat, HasMoreAt, AreHandedOut, HaveNoRoom};
+ghost use Rattle.wkt_calls.specs.Explained.{IsExplained, IsHinted, IsFollowed, IsUnexplained};
 
 use wkt_calls::arrays_call::arrays_in;
-use wkt_calls::asked::{ends_as_asked, has_places};
+use wkt_calls::asked::{ends_as_asked, has_places, places_of};
 use wkt_calls::canonical::{same_in, write_within};
+use wkt_calls::explain::{number_of_expected, number_of_hint, problem};
 use wkt_calls::has_room;
+use wkt_calls::infer::infer;
 use wkt_calls::lines::{is_last, sure_lines_at};
 use wkt_calls::sizes::WktSizes;
 use wkt_calls::status::{DONE, NO_PLACES, NOT_TEXT, NOT_WHOLE, SMALL};
+use wkt_explain::Problem;
 use wkt_fill::Room;
 
 /// Writes the one text of the geometry that `text` begins with to the front of `room`, its length to `len`, and to
@@ -173,4 +177,85 @@ pub extern "C" fn wkt_arrays(
         polygons: room_polygons,
     };
     arrays_in(text, places, room, sizes, numbers, rings, polygons)
+}
+
+/// Reports where `text` is refused: from byte `start` to byte `stop` is the lexeme that is too much, or nothing, where the
+/// text ends too early; `message` is the number of the message, and `expected` that of what could stand there. The
+/// status is 29 where the text isn't refused. Numbers are decimals of so many places; with 256 more the whole text is to be
+/// one geometry: where more than white space follows it, that is from `start` to `stop`, and the status is 30.
+#[unsafe(no_mangle)]
+pub extern "C" fn wkt_explain(
+    text: &[u8],
+    places: u32,
+    message: &mut u32,
+    start: &mut usize,
+    stop: &mut usize,
+    expected: &mut u32,
+) -> u32
+    ensures explained { result ≡ DONE → IsExplained (read_at (places_in places)) text.now message.new start.new stop.new expected.new }
+    ensures more { result ≡ NOT_WHOLE → IsFollowed (read_at (places_in places)) (asks_whole places) text.now start.new × (stop.new ≡ length text.now) }
+    ensures others { 1 ≤ result → result ≢ NOT_WHOLE → result ≢ NO_PLACES → IsUnexplained (read_at (places_in places)) (asks_whole places) text.now result }
+    ensures no_places { (result ≡ NO_PLACES) ↔ (18 < places_in places) }
+    ensures kept { 1 ≤ result → (message.new ≡ message.old) × (expected.new ≡ expected.old) }
+    ensures place_kept { 1 ≤ result → result ≢ NOT_WHOLE → (start.new ≡ start.old) × (stop.new ≡ stop.old) }
+{
+    if !has_places(places) {
+        return NO_PLACES;
+    }
+    match problem(text, places) {
+        Ok(Problem::Refused(why)) => {
+            *message = why.message.number();
+            *start = why.start;
+            *stop = why.end;
+            *expected = number_of_expected(why.expected);
+            DONE
+        }
+        Ok(Problem::Rest(at)) => {
+            *start = at;
+            *stop = text.len();
+            NOT_WHOLE
+        }
+        Err(status) => status,
+    }
+}
+
+/// Reports what the lexeme may come from with which `text` is refused: the number of a hint, or 0 where nothing is known.
+/// The status is as of `wkt_explain`.
+#[unsafe(no_mangle)]
+pub extern "C" fn wkt_hint(text: &[u8], places: u32, hint: &mut u32) -> u32
+    ensures hinted { result ≡ DONE → IsHinted (read_at (places_in places)) (places_in places) text.now hint.new }
+    ensures more { result ≡ NOT_WHOLE → (start : ℕ) × IsFollowed (read_at (places_in places)) (asks_whole places) text.now start }
+    ensures others { 1 ≤ result → result ≢ NOT_WHOLE → result ≢ NO_PLACES → IsUnexplained (read_at (places_in places)) (asks_whole places) text.now result }
+    ensures no_places { (result ≡ NO_PLACES) ↔ (18 < places_in places) }
+    ensures kept { 1 ≤ result → hint.new ≡ hint.old }
+{
+    if !has_places(places) {
+        return NO_PLACES;
+    }
+    match problem(text, places) {
+        Ok(Problem::Refused(why)) => {
+            *hint = number_of_hint(why.hint(text, places_of(places)));
+            DONE
+        }
+        Ok(Problem::Rest(_)) => NOT_WHOLE,
+        Err(status) => status,
+    }
+}
+
+/// Reports the kind (0 Point to 6 GeometryCollection) and the dimension (0 XY, 1 XYZ, 2 XYM, 3 XYZM) that the
+/// header of `text` names.
+#[unsafe(no_mangle)]
+pub extern "C" fn wkt_infer(text: &[u8], kind: &mut u32, dimension: &mut u32) -> u32
+    ensures named { result ≡ DONE → IsHeaderOf text.now kind.new dimension.new }
+    ensures others { 1 ≤ result → NamesNone text.now result }
+    ensures kept { 1 ≤ result → (kind.new ≡ kind.old) × (dimension.new ≡ dimension.old) }
+{
+    match infer(text) {
+        Ok((k, d)) => {
+            *kind = k;
+            *dimension = d;
+            DONE
+        }
+        Err(status) => status,
+    }
 }

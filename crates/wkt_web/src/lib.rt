@@ -7,4 +7,3 @@
 #![tactic(auto)]
 
 mod exports;
-mod exports_explain;
