@@ -25,8 +25,8 @@ build() {
     # There the functions for C are called like any other, over 0, 6 and 18 places: all nineteen take long to build.
     sed -i 's/^wkt_c staticlib:/wkt_c:/' "$WORK/wkt/crates.txt"
     sed -i -E 's/^mod (exports|exports_arrays|exports_explain|sizes);/pub mod \1;/' "$WORK/wkt/crates/wkt_c/src/lib.rt"
-    sed -i -E '/^ +([1-57-9]|1[0-7]) => \$call::</d' "$WORK/wkt/crates/wkt_calls/src/places.rt"
-    [ "$(grep -c '=> \$call::<' "$WORK/wkt/crates/wkt_calls/src/places.rt")" = 3 ] || { echo "fuzz.sh: other places are left" >&2; exit 2; }
+    sed -i -E '/^ +([1-57-9]|1[0-7]) => \$call::</d' "$WORK/wkt/crates/wkt_calls/src/asked.rt"
+    [ "$(grep -c '=> \$call::<' "$WORK/wkt/crates/wkt_calls/src/asked.rt")" = 3 ] || { echo "fuzz.sh: other places are left" >&2; exit 2; }
     cd "$WORK/wkt/crates/wkt_fuzz"
     nice -n 10 python3 "$here/module.py" "$WORK/module.bc" < /dev/null > "$WORK/try.log" 2>&1 || true
     cd "$WORK"

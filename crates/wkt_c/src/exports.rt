@@ -8,11 +8,10 @@ ghost use Rattle.wkt_c.specs.Column.{AreColumnAnswers, IsColumn, IsNoColumn, row
 ghost use Rattle.wkt_c.specs.ColumnArrays.{IsTextOf, IsNoTextAt};
 ghost use Rattle.wkt_calls.specs.Arrays.{IsNotFlat, HasMoreAt, AreHandedOut, HaveNoRoom};
 
-use crate::arrays_call::arrays_long;
+use crate::arrays_room::arrays_long;
 use crate::canonical::canonical;
-use crate::chunks::some_at;
 use crate::column::{GivenColumn, Rows, answers, is_column};
-use crate::lines::answers_at;
+use crate::lines::{answers_at, some_at};
 use crate::told::{GivenArrays, copy_out_text_at};
 use std::alloc::Global;
 use wkt_calls::arrays_call::{arrays_short, is_short};

@@ -6,10 +6,8 @@
 //! more for the rest. Where it isn't 0, the caller's buffers are as they were.
 #![tactic(auto)]
 
-mod arrays_call;
 mod arrays_room;
 mod canonical;
-mod chunks;
 mod column;
 mod column_arrays;
 mod column_texts;

@@ -1,14 +1,17 @@
-//! Many lines answered at once.
-ghost use Rattle.std.specs.Prelude.{◌≡◌, ◌⊎◌, ◌≤◌, ◌<◌, MatchResult, IfSome, take, vec_len};
+//! Many lines answered at once: all of an input, and those at its front, as many as fit.
+ghost use Rattle.std.specs.Prelude.{◌≡◌, ◌⊎◌, ◌≤◌, ◌<◌, MatchResult, IfSome, take, vec_len, ◌+◌, ◌++◌, length};
 ghost use Rattle.wkt_lines.specs.Output.{IsOutput};
 ghost use Rattle.wkt_calls.specs.Answer.{read_at, print_at, HasNoPlaces};
+ghost use Rattle.wkt_c.specs.Chunks.{AnswersSome, AnswersNone};
 
 use std::alloc::Global;
 use wkt_calls::at_places;
-use wkt_calls::lines::{Answered, answer_lines};
-use wkt_calls::status::{MEMORY, NO_PLACES};
+use wkt_calls::lines::{Answered, answer_lines, first_line};
+use wkt_calls::status::{MEMORY, NO_PLACES, SMALL};
 use wkt_canonical::{lengthen, room_for};
+use wkt_lines::laws::output_of_parts;
 use wkt_lines::line_end;
+use wkt_num::Decimal;
 
 /// How much more room than for the input is asked for at first.
 const PLUS: usize = 4096;
@@ -73,4 +76,72 @@ pub(crate) fn answers_at(alloc: Global, input: &[u8], places: u32) -> Result<Vec
         (λ s. HasNoPlaces places s ⊎ (s ≡ MEMORY)) }
 {
     at_places!(places, answers(alloc, input), Err(NO_PLACES))
+}
+
+/// Puts the bytes behind the first `at`.
+fn put_at(bytes: &[u8], out: &mut [u8], at: usize)
+    requires { at + length bytes.now ≤ length out.old }
+    ensures put { take (at + length bytes.now) out.new ≡ take at out.old ++ bytes.now }
+    ensures whole { length out.new ≡ length out.old }
+{
+    out[at..at + bytes.len()].copy_from_slice(bytes);
+}
+
+/// Answers as many whole lines at the front of the input as fit into `out`; where the input ends, what is left behind the
+/// last line feed is a line too.
+fn answer_some<const D: u32>(
+    alloc: Global,
+    input: &[u8],
+    last: bool,
+    out: &mut [u8],
+) -> Result<Answered, u32>
+    ensures answers { MatchResult result (λ a. AnswersSome (read_at D) (print_at D) last input.now a.taken a.written out.new)
+        (AnswersNone (read_at D) (print_at D) last input.now out.old) }
+    ensures whole { length out.new ≡ length out.old }
+{
+    // No effect at run time. The proof reads that the output for parts is the outputs for them.
+    output_of_parts::<Decimal<D>>();
+    let mut done = Answered {
+        taken: 0,
+        written: 0,
+    };
+    'lines: loop {
+        done = answer_lines::<D>(input, last, done, out);
+        // Whether the answer to the next line fits shows only when it is written.
+        let rest = &input[done.taken..];
+        let line = first_line(rest, last);
+        if line == 0 {
+            return Ok(done);
+        }
+        let text = match answers::<D>(alloc, &rest[..line]) {
+            Ok(text) => text,
+            Err(status) => return Err(status),
+        };
+        if text.len() > out.len() - done.written {
+            if done.taken == 0 {
+                return Err(SMALL);
+            }
+            return Ok(done);
+        }
+        put_at(&text, out, done.written);
+        done = Answered {
+            taken: done.taken + line,
+            written: done.written + text.len(),
+        };
+    }
+}
+
+/// Answers whole lines at the front of the input as [`answer_some`] does, with decimals of so many places.
+pub(crate) fn some_at(
+    alloc: Global,
+    input: &[u8],
+    places: u32,
+    last: bool,
+    out: &mut [u8],
+) -> Result<Answered, u32>
+    requires { places ≤ 18 }
+    ensures { MatchResult result (λ a. AnswersSome (read_at places) (print_at places) last input.now a.taken a.written out.new)
+        (AnswersNone (read_at places) (print_at places) last input.now out.old) }
+{
+    at_places!(places, answer_some(alloc, input, last, out), unreachable!())
 }

@@ -14,10 +14,8 @@ pub mod fill;
 pub mod flat;
 pub mod infer;
 pub mod lines;
-pub mod places;
 mod refusal;
 pub mod sizes;
 pub mod status;
-pub mod whole;
 
 pub use wkt_canonical::has_room;

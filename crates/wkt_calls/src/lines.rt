@@ -1,17 +1,16 @@
-//! Many lines answered at once.
-ghost use Rattle.std.specs.Prelude.{◌≡◌, ◌⊎◌, ◌≤◌, ◌+◌, ◌*◌, ◌-◌, length, take, drop};
+//! Many lines answered at once, and whole lines at the front of an input.
+ghost use Rattle.std.specs.Prelude.{◌≡◌, ◌⊎◌, ◌≤◌, ◌+◌, ◌*◌, ◌-◌, length, take, drop, true, false};
 ghost use Rattle.wkt_lines.specs.First.{AnswersBehind};
 ghost use Rattle.wkt_lines.specs.Lines.{before_feed};
 ghost use Rattle.wkt_lines.specs.Output.{IsOutput};
 ghost use Rattle.wkt_calls.specs.Answer.{read_at, print_at};
-ghost use Rattle.wkt_calls.specs.Calls.{AnswersSure, AreWholeLines, IsChunkStuck, ends_here};
+ghost use Rattle.wkt_calls.specs.Calls.{AnswersSure, AreWholeLines, IsChunkStuck, ends_here, IsFirstLine};
 
 use crate::at_places;
-use crate::whole::whole_within;
 use wkt_canonical::laws::texts_are_short;
 use wkt_canonical::{NoRoom, SPARE, has_room};
 use wkt_lines::laws::output_of_parts;
-use wkt_lines::{Answer, answer_line};
+use wkt_lines::{Answer, answer_line, line_end};
 use wkt_num::Decimal;
 
 /// How many bytes of an input are looked at together for whole lines, mostly.
@@ -138,4 +137,37 @@ pub fn sure_lines_at(input: &[u8], places: u32, last: bool, out: &mut [u8]) -> A
     ensures { AnswersSure (read_at places) (print_at places) last input.now result.taken result.written out.new }
 {
     at_places!(places, sure_lines(input, last, out), unreachable!())
+}
+
+/// The bytes of the first line, if it is whole, else none.
+#[tactic(auto, using(crate::proofs::Pieces::whole_line, crate::proofs::Pieces::one_line))]
+pub fn first_line(rest: &[u8], last: bool) -> usize
+    ensures within { result ≤ length rest.now }
+    ensures whole { AreWholeLines last rest.now result }
+    ensures line { IsFirstLine last rest.now result ⊎ (result ≡ 0) }
+    ensures none { result ≡ 0 → (length rest.now ≡ 0) ⊎ ((last ≡ false) × (before_feed rest.now ≡ rest.now)) }
+{
+    let end = line_end(rest);
+    if end < rest.len() {
+        return end + 1;
+    }
+    if last { rest.len() } else { 0 }
+}
+
+/// The bytes of some whole lines at the front, no more than so many; else of the first line alone, if it is whole.
+#[tactic(auto, using(crate::proofs::Pieces::whole_at))]
+pub(crate) fn whole_within(rest: &[u8], most: usize, last: bool) -> usize
+    ensures within { result ≤ length rest.now }
+    ensures whole { AreWholeLines last rest.now result }
+    ensures most { (result ≤ most) ⊎ IsFirstLine last rest.now result }
+    ensures none { result ≡ 0 → (length rest.now ≡ 0) ⊎ ((last ≡ false) × (before_feed rest.now ≡ rest.now)) }
+{
+    let mut at = most.min(rest.len());
+    'back: while at > 0 {
+        if rest[at - 1] == b'\n' {
+            return at;
+        }
+        at -= 1;
+    }
+    first_line(rest, last)
 }

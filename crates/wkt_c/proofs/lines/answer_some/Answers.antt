@@ -5,7 +5,7 @@ use Rattle.wkt_lines.specs.Output.{IsOutput}
 use Rattle.wkt_calls.specs.Answer.{read_at, print_at}
 use Rattle.wkt_calls.specs.Calls.{AreWholeLines, IsFirstLine}
 use Rattle.wkt_calls.proofs.Pieces.{more_output, whole-pick, no-output}
-use Rattle.wkt_c.proofs.chunks.answer_some.Goals as goal
+use Rattle.wkt_c.proofs.lines.answer_some.Goals as goal
 
 pub returns-then-done-eq0-clause-answers : goal.returns-then-done-eq0-clause-answers
 returns-then-done-eq0-clause-answers g c =

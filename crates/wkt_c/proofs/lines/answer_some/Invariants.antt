@@ -2,7 +2,7 @@ use Rattle.std.proofs.Common.{◌≡◌, ◌≤◌, ◌-◌, length, take}
 use Rattle.wkt_lines.specs.Output.{IsOutput}
 use Rattle.wkt_calls.specs.Answer.{read_at, print_at}
 use Rattle.wkt_calls.specs.Calls.{AreWholeLines}
-use Rattle.wkt_c.proofs.chunks.answer_some.Given as goal
+use Rattle.wkt_c.proofs.lines.answer_some.Given as goal
 
 abbrev pub invariant-lines : goal.invariant-lines
 invariant-lines g l = record {

@@ -1,6 +1,6 @@
 -- The place from which the search goes back stays within the rest.
 use Rattle.std.proofs.Common.{◌≤◌, length}
-use Rattle.wkt_calls.proofs.whole.whole_within.Given as goal
+use Rattle.wkt_calls.proofs.lines.whole_within.Given as goal
 
 abbrev pub invariant-back : goal.invariant-back
 invariant-back l = record {
