@@ -14,13 +14,14 @@ use Rattle.wkt_types.specs.Tree as trees
 use Rattle.wkt_types.specs.Values.{HasDim, HasDimIfAny, IsPointIn, IsLineStringIn, IsPolygonIn, IsUniform, AreUniform, IsWktOf, value_of, values_of, point_numbers, line_string_numbers, polygon_numbers}
 use Rattle.wkt_types.specs.declared.geometry.Wkt.{Wkt}
 use Rattle.wkt_machine.specs.Events.{Event}
-use Rattle.wkt_machine.specs.Growing.{Frame, Growing, coord, numbers_by, headed, rest, members_of, joined, opened, with_line, with_point, ended, grow, lists, lists_end, shut, HasMember, HasPoint, MayCome, MayEnd, MayOpen}
+use Rattle.wkt_machine.specs.Growing.{Frame, Growing, coord, numbers_by, headed, rest, members_of, joined, opened, with_line, with_point, ended, grow, lists, lists_end, shut, HasMember, HasPoint, MayCome, MayEnd, MayOpen, with_number, MayJoin, with_item as grown_item, MayBeEmpty, without_items, lists_items}
 use Rattle.wkt_machine.specs.Trees.{wkt_value, UniformWkt, HoldsFrame, HoldsFrames, coord_by, coord_of, HasOnly, AllIn, HoldsParts, HoldsWhole, HoldsBy, Holds, IsLost, Becomes, Grew, TreeGives, GivesLast, Joins}
 use Rattle.wkt_machine.specs.declared.part.Part.{Part}
 use Rattle.wkt_machine.specs.declared.part.Part.TheVariants as part
 use Rattle.wkt_machine.specs.declared.tree.Ended.TheVariants as last
 use Rattle.wkt_machine.specs.declared.tree.OpenCollection.{OpenCollection}
 use Rattle.wkt_machine.specs.declared.tree.Tree.{Tree}
+use Rattle.wkt_machine.specs.declared.part.Axis.{Axis}
 
 all-last : {A : Type 0} (P : A → Type 0) (xs : List A) (x : A) → AllByRecursion P xs → P x → AllByRecursion P (xs ++ (x ∷ []))
 all-last P [] x h k = (k, tt)
@@ -360,3 +361,25 @@ module _ {T : Type 0} where
 
   pub ends_by : (p q : Part) (t u s : Tree T) → p ≡ q → u ≡ s → Becomes (lists_end q) (MayEnd q) (ended q) t s → Becomes (lists_end p) (MayEnd p) (ended p) t u
   ends_by p q t u s e f h = subst (λ p. Becomes (lists_end p) (MayEnd p) (ended p) t u) (sym e) (subst (λ u. Becomes (lists_end q) (MayEnd q) (ended q) t u) (sym f) h)
+
+-- The event after each call.
+module _ {T : Type 0} where
+  pub header_grew : (p : Part) (d : Dimension) (t u : Tree T) → Becomes false (λ w. w ≡ headed XY w.outer) (λ w. record w { dim = d }) t u → Grew t (Event.Header p d ∷ []) u
+  header_grew p d t u h = one_event false _ _ t u (Event.Header p d) h (λ w m. m) (λ w. refl) (λ e. e)
+
+  pub number_grew : (a : Axis) (x : T) (t u : Tree T) → Becomes false (λ w. w.grown ≡ None) (λ w. record w { hand = with_number a x w.hand }) t u → Grew t (Event.Number a x ∷ []) u
+  number_grew a x t u h = one_event false _ _ t u (Event.Number a x) h (λ w m. m) (λ w. refl) (λ e. e)
+
+  pub comma_grew : (p : Part) (t u : Tree T) → Becomes (lists_items p) (MayJoin p) (grown_item p) t u → Grew t (Event.Comma p ∷ []) u
+  comma_grew p t u h = one_event (lists_items p) _ _ t u (Event.Comma p) h (λ w m. m) (λ w. refl) (λ e. e)
+
+  pub empty_grew : (p : Part) (t u : Tree T) → Becomes (lists_end p) (MayBeEmpty p) (λ w. ended p (without_items p w)) t u → Grew t (Event.Empty p ∷ []) u
+  empty_grew p t u h = one_event (lists_end p) _ _ t u (Event.Empty p) h (λ w m. m) (λ w. refl) (λ e. e)
+
+  pub close_grew : (p : Part) (t u v : Tree T) → Becomes (lists_items p) (MayJoin p) (grown_item p) t u → Becomes (lists_end p) (MayEnd p) (ended p) u v → Grew t (Event.Close p ∷ []) v
+  close_grew p t u v h k =
+      one_event (lists_items p || lists_end p) _ _ t v (Event.Close p) (two_calls (lists_items p) (lists_end p) _ _ _ _ t u v h k) (λ w m. m) (λ w. refl) (λ e. e)
+
+  pub open_grew : (p : Part) (t u : Tree T) → p ≡ part.Collection → Becomes true (MayOpen part.Collection) (opened part.Collection) t u → Grew t (Event.Open p ∷ []) u
+  open_grew p t u is h =
+      subst (λ p. Grew t (Event.Open p ∷ []) u) (sym is) (one_event true _ _ t u (Event.Open part.Collection) h (λ w m. m) (λ w. refl) (λ e. refl))

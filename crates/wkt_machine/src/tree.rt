@@ -377,12 +377,14 @@ impl<T: WktNum> Builder<T> for Grower<'_, T> {
     ghost maker = { tree_maker };
 
     #[inline(always)]
+    #[tactic(auto, using(crate::proofs::TreeHolds::header_grew))]
     fn begin(self, _whole: Part, dim: Dimension) -> Self {
         self.tree.begin(dim);
         self
     }
 
     #[inline(always)]
+    #[tactic(auto, using(crate::proofs::TreeHolds::open_grew, crate::proofs::TreeHolds::no_opening))]
     fn open(self, part: Part) -> Self {
         if let Part::Collection = part {
             self.tree.open_collection();
@@ -391,12 +393,14 @@ impl<T: WktNum> Builder<T> for Grower<'_, T> {
     }
 
     #[inline(always)]
+    #[tactic(auto, using(crate::proofs::TreeHolds::comma_grew))]
     fn comma(self, part: Part) -> Self {
         self.tree.end_item(part, false);
         self
     }
 
     #[inline(always)]
+    #[tactic(auto, using(crate::proofs::TreeHolds::close_grew))]
     fn close(self, part: Part) -> Self {
         self.tree.end_item(part, true);
         self.tree.end(part);
@@ -404,12 +408,14 @@ impl<T: WktNum> Builder<T> for Grower<'_, T> {
     }
 
     #[inline(always)]
+    #[tactic(auto, using(crate::proofs::TreeHolds::empty_grew))]
     fn empty(self, part: Part) -> Self {
         self.tree.put_empty(part);
         self
     }
 
     #[inline(always)]
+    #[tactic(auto, using(crate::proofs::TreeHolds::number_grew))]
     fn number(self, number: T, axis: Axis) -> Self {
         self.tree.put_number(axis, number);
         self
