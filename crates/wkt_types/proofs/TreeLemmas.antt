@@ -7,7 +7,7 @@ use Rattle.wkt_access.specs.declared.dimensions.Dimension.{Dimension}
 use Rattle.wkt_flat.proofs.TreeLemmas.{IsItemwise, get_map, got}
 use Rattle.wkt_types.specs.Trees.{tree_eq, trees_eq}
 use Rattle.wkt_types.specs.Tree.{collected, tree_dim, multi_line_string, collection, Tree, tree, members, collection_tree, wkt_step, collection_step, trees_of, more_trees}
-use Rattle.wkt_types.specs.Held.{Held, held, first_dim, IsMadeOf}
+use Rattle.wkt_types.specs.Held.{Held, HeldPoint, held, first_dim, IsMadeOf}
 use Rattle.wkt_types.specs.declared.coord.Coord.{Coord}
 use Rattle.wkt_types.specs.declared.geometry.GeometryCollection.{GeometryCollection}
 use Rattle.wkt_types.specs.declared.geometry.Wkt.{Wkt}
@@ -18,7 +18,8 @@ use Rattle.wkt_types.specs.declared.geometry.Wkt.TheOpen as opens
 use Rattle.wkt_access.specs.Shapes.{Shape, Shapes, header_of, shapes_of, polygon_of}
 use Rattle.wkt_access.specs.Parts.{collection_of, gathered, members_of}
 use Rattle.wkt_access.proofs.Collections.{whole}
-use Rattle.wkt_types.specs.Values.{values_of, tree_shape, line_string_numbers, polygon_numbers}
+use Rattle.wkt_types.specs.Values.{values_of, tree_shape, point_numbers, line_string_numbers, polygon_numbers}
+use Rattle.wkt_types.specs.Coords.{numbers_of}
 use Rattle.wkt_flat.specs.Weight.{total}
 use Rattle.wkt_types.specs.Weight.{tree_weight, tree_inside, inside, weight, weights, trees_weight}
 use Rattle.wkt_types.specs.Canonical.{canonical, canonicals, rings_if, rings_written}
@@ -98,6 +99,12 @@ inside_opened w c ws d is holds = ap (λ w. inside w) is ∙ (ap tree_inside (tr
 -- a part that stands in a list, as it is seen
 pub part_is : {X Y : Type 0} (f : X → Y) (xs ys : List X) (i : ℕ) (x : X) → i < length (map f xs) → ys ≡ xs → x ≡ get_or ys i x → slice_get (map f xs) i ≡ Some (f x)
 part_is f xs ys i x h same e = let n = length-map xs f in get_map f xs i x (got xs i x (omega (arith, n, h)) (e ∙ ap (λ l. get_or l i x) same))
+
+pub coord_is : {T : Type 0} (xs ys : List (Coord T)) (i : ℕ) (x : Coord T) → i < length (map numbers_of xs) → ys ≡ xs → x ≡ get_or ys i x → slice_get (map numbers_of xs) i ≡ Some (numbers_of x)
+coord_is xs ys i x h same e = part_is numbers_of xs ys i x h same e
+
+pub point_is : {T : Type 0} (xs ys : List (HeldPoint (Coord T))) (i : ℕ) (x : HeldPoint (Coord T)) → i < length (map point_numbers xs) → ys ≡ xs → x ≡ get_or ys i x → slice_get (map point_numbers xs) i ≡ Some (point_numbers x)
+point_is xs ys i x h same e = part_is point_numbers xs ys i x h same e
 
 interior_at : {T : Type 0} (rs : List (Held (Coord T))) (i : ℕ) (r : Held (Coord T)) → i < length (polygon_of (map line_string_numbers rs)).interiors → r ≡ get_or rs (suc i) r → slice_get (polygon_of (map line_string_numbers rs)).interiors i ≡ Some (line_string_numbers r)
 interior_at [] i r h e = absurd (omega arith)

@@ -91,6 +91,7 @@ impl<T: WktNum> LineStringTrait for LineString<T> {
         self.coords().len()
     }
 
+    #[tactic(auto, using(crate::proofs::TreeLemmas::coord_is))]
     fn coord(&self, i: usize) -> &Coord<T> {
         &self.coords()[i]
     }
@@ -120,6 +121,7 @@ impl<T: WktNum> PolygonTrait for Polygon<T> {
         }
     }
 
+    #[tactic(auto, using(crate::proofs::TreeLemmas::interior_is))]
     fn interior(&self, i: usize) -> &LineString<T> {
         &self.rings()[i + 1]
     }
@@ -142,6 +144,7 @@ impl<T: WktNum> MultiPointTrait for MultiPoint<T> {
         self.points().len()
     }
 
+    #[tactic(auto, using(crate::proofs::TreeLemmas::point_is))]
     fn point(&self, i: usize) -> &Point<T> {
         &self.points()[i]
     }
@@ -186,6 +189,7 @@ impl<T: WktNum> MultiPolygonTrait for MultiPolygon<T> {
         self.polygons().len()
     }
 
+    #[tactic(auto, using(crate::proofs::TreeLemmas::polygon_is))]
     fn polygon(&self, i: usize) -> &Polygon<T> {
         &self.polygons()[i]
     }

@@ -23,6 +23,7 @@ pub(crate) trait UnderHeader {
 }
 
 /// Puts each part under the header.
+#[tactic(auto, using(crate::proofs::TreeLemmas::replaced_next, crate::proofs::TreeLemmas::length_same))]
 pub(crate) fn put_each_under<X: UnderHeader>(parts: &mut [X], dim: Dimension)
     ensures { parts.new ≡ map (X.under dim) parts.old }
 {
