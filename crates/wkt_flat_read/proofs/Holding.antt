@@ -10,13 +10,14 @@ use Rattle.wkt_flat.specs.declared.coord.Coord.{Coord}
 use Rattle.wkt_flat.specs.declared.geometry.Geometry.{Geometry}
 use Rattle.wkt_flat.specs.declared.point.Point.{Point}
 use Rattle.wkt_machine.specs.Events.{Event}
-use Rattle.wkt_machine.specs.Growing.{Frame, Growing, coord, rest, joined, opened as grown_open, with_coord, with_line, with_point, ended, grow, shut, HasMember, HasNumbers, HasPoint, MayCome, MayEnd, MayOpen}
+use Rattle.wkt_machine.specs.Growing.{Frame, Growing, coord, rest, joined, opened as grown_open, with_coord, with_line, with_point, ended, grow, shut, HasMember, HasNumbers, HasPoint, MayCome, MayEnd, MayOpen, with_number, MayJoin, with_item as grown_item, MayBeEmpty, without_items}
 use Rattle.wkt_machine.specs.declared.part.Part.{Part}
 use Rattle.wkt_machine.specs.declared.part.Part.TheVariants as part
 use Rattle.wkt_flat_read.specs.Trees.{flat_line, flat_area, flat_point, flat_points, plain, is_empty, some_empty, holds_empty, coord_by, coord_of, point_at, members, opened, frames, frames_hold, some_holds, FlatHasOnly, FlatIsLost, FlatHoldsParts, FlatHoldsEnded, FlatHoldsWhole, FlatHoldsBy, FlatHolds, FlatBecomes, FlatGrew, FlatGives, FlatGivesLast, GivesMembers, FlatJoins}
 use Rattle.wkt_flat_read.specs.declared.tree.FlatEnded.TheVariants as last
 use Rattle.wkt_flat_read.specs.declared.tree.FlatTree.{FlatTree}
 use Rattle.wkt_flat_read.proofs.Ended.{or_false, or_true, or_assoc, unmap-last, none-last, line-append, points-append, empty-last, holds-last, members-hold, members-plain, hand_line, hand_point, hand_empty}
+use Rattle.wkt_machine.specs.declared.part.Axis.{Axis}
 
 some_none : {A : Type 0} (o : Option A) → o ≡ None → IsSome o → ⊥
 some_none None e h = cc
@@ -244,6 +245,23 @@ module _ {T : Type 0} (E : Coord T → Coord T → Bool) where
       go : (w : Growing T) → MayB (first w) → FlatHolds E u (first w) ⊎ FlatIsLost u → FlatHolds E v (second (first w)) ⊎ FlatIsLost v
       go w n (inl s) = k.holds (first w) s n
       go w n (inr l) = inr (k.stays l)
+
+  -- the event after each call
+  pub number_grew : (a : Axis) (x : T) (t u : FlatTree T) → FlatBecomes E (λ w. w.grown ≡ None) (λ w. record w { hand = with_number a x w.hand }) t u → FlatGrew E t (Event.Number a x ∷ []) u
+  number_grew a x t u h = one_event _ _ t u (Event.Number a x) h (λ w m. m) (λ w. refl)
+
+  pub comma_grew : (p : Part) (t u : FlatTree T) → FlatBecomes E (MayJoin p) (grown_item p) t u → FlatGrew E t (Event.Comma p ∷ []) u
+  comma_grew p t u h = one_event _ _ t u (Event.Comma p) h (λ w m. m) (λ w. refl)
+
+  pub empty_grew : (p : Part) (t u : FlatTree T) → FlatBecomes E (MayBeEmpty p) (λ w. ended p (without_items p w)) t u → FlatGrew E t (Event.Empty p ∷ []) u
+  empty_grew p t u h = one_event _ _ t u (Event.Empty p) h (λ w m. m) (λ w. refl)
+
+  pub close_grew : (p : Part) (t u v : FlatTree T) → FlatBecomes E (MayJoin p) (grown_item p) t u → FlatBecomes E (MayEnd p) (ended p) u v → FlatGrew E t (Event.Close p ∷ []) v
+  close_grew p t u v h k = one_event _ _ t v (Event.Close p) (two_calls _ _ _ _ t u v h k) (λ w m. m) (λ w. refl)
+
+  pub open_grew : (p : Part) (t u : FlatTree T) → p ≡ part.Collection → FlatBecomes E (MayOpen part.Collection) (grown_open part.Collection) t u → FlatGrew E t (Event.Open p ∷ []) u
+  open_grew p t u is h =
+      subst (λ p. FlatGrew E t (Event.Open p ∷ []) u) (sym is) (one_event _ _ t u (Event.Open part.Collection) h (λ w m. m) (λ w. refl))
 
   -- nothing is done where a part opens that is no collection
   pub no_opening : (t : FlatTree T) (p : Part) → (p ≡ part.Collection → ⊥) → FlatGrew E t (Event.Open p ∷ []) t

@@ -43,6 +43,7 @@ impl<T: WktNum> Builder<T> for FlatGrower<'_, T> {
     }
 
     #[inline(always)]
+    #[tactic(auto, using(crate::proofs::Holding::open_grew, crate::proofs::Holding::no_opening))]
     fn open(self, part: Part) -> Self {
         if let Part::Collection = part {
             self.tree.open_collection();
@@ -51,12 +52,14 @@ impl<T: WktNum> Builder<T> for FlatGrower<'_, T> {
     }
 
     #[inline(always)]
+    #[tactic(auto, using(crate::proofs::Holding::comma_grew))]
     fn comma(self, part: Part) -> Self {
         self.tree.end_item(part, false);
         self
     }
 
     #[inline(always)]
+    #[tactic(auto, using(crate::proofs::Holding::close_grew))]
     fn close(self, part: Part) -> Self {
         self.tree.end_item(part, true);
         self.tree.end(part);
@@ -64,12 +67,14 @@ impl<T: WktNum> Builder<T> for FlatGrower<'_, T> {
     }
 
     #[inline(always)]
+    #[tactic(auto, using(crate::proofs::Holding::empty_grew))]
     fn empty(self, part: Part) -> Self {
         self.tree.put_empty(part);
         self
     }
 
     #[inline(always)]
+    #[tactic(auto, using(crate::proofs::Holding::number_grew))]
     fn number(self, number: T, axis: Axis) -> Self {
         self.tree.put_number(axis, number);
         self

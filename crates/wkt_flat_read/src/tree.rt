@@ -166,6 +166,7 @@ impl<T: WktNum> FlatTree<T> {
 
     /// A coordinate is whole.
     #[inline(always)]
+    #[tactic(auto, using(crate::proofs::Holding::coord_ends))]
     fn end_coord(&mut self)
         ensures { FlatBecomes (coord_eq T.eq) HasNumbers with_coord self.old self.new }
     {
@@ -178,6 +179,7 @@ impl<T: WktNum> FlatTree<T> {
 
     /// A point of a multipoint ends.
     #[inline(always)]
+    #[tactic(auto, using(crate::proofs::Holding::point_ends, crate::proofs::Holding::empty_point_ends))]
     fn end_point(&mut self)
         ensures { FlatBecomes (coord_eq T.eq) HasPoint with_point self.old self.new }
     {
@@ -377,6 +379,7 @@ impl<T: WktNum> FlatTree<T> {
 
     /// A member of a collection is whole.
     #[inline(never)]
+    #[tactic(auto, using(crate::proofs::Holding::member_ends))]
     fn end_member(&mut self, is_last: bool)
         ensures { FlatBecomes (coord_eq T.eq) HasMember (λ w. joined w.outer w.grown) self.old self.new }
     {
