@@ -432,3 +432,5 @@ is-printed D u fits = let h = wide_of u fits in let m : ℕ = unsigned_abs u in 
   last = last-one D m h;
   equation = units D m h;
 }
+
+pub ruleset magnitude_small = magnitude-small

@@ -1,9 +1,9 @@
 -- The parts of a number of units, and their text around the point at place 40: its digits are put last first, and padded.
-use Rattle.std.proofs.Common.{◌≡◌, ℕ, zero, suc, ◌+◌, ◌-◌, ◌<◌, ◌≤◌, ◌^◌, Bool, true, false, List, [], ◌∷◌, ◌++◌, length, take, drop, sym, ap, ◌∙◌, arith, length-append, length-drop, ◌*◌, ◌/◌, ◌%◌, set, append_assoc, get_or-set_same, drop-cons, length-set, ◌==◌, if◌then◌else◌, get_or, drop_of_length-le, refl, ℤ, pos, negsuc, neg_ℤ, ◌*ℤ◌}
+use Rattle.std.proofs.Common.{◌≡◌, ℕ, zero, suc, ◌+◌, ◌-◌, ◌<◌, ◌≤◌, ◌^◌, Bool, true, false, List, [], ◌∷◌, ◌++◌, length, take, drop, sym, ap, ◌∙◌, arith, length-append, length-drop, ◌*◌, ◌/◌, ◌%◌, set, append_assoc, get_or-set_same, drop-cons, length-set, ◌==◌, if◌then◌else◌, get_or, drop_of_length-le, refl, ℤ, pos, negsuc, neg_ℤ, ◌*ℤ◌, subst}
 use Rattle.std.specs.Fmt.{decimal, sign_text}
-use Rattle.std.specs.Str.{IsAscii}
+use Rattle.std.specs.Str.{IsAscii, IsUtf8}
 use Rattle.std.proofs.lemmas.Fmt.{IsAscii-decimal_wide, decimal_digit, decimal_step_wide, IsAscii-from_digits, decimal_step}
-use Rattle.std.proofs.lemmas.Str.{IsAscii-append}
+use Rattle.std.proofs.lemmas.Str.{IsAscii-append, IsUtf8-from_ascii}
 use Rattle.std.proofs.lemmas.List.{drop-take, take_at, drop-append-le, length-take-le, append-nil, take-take, get_or-take}
 use Rattle.std.proofs.Math.Seq.{take-append-add, drop-set-lt, take-append_seam, get_or-append_seam}
 use Rattle.std.proofs.Math.Nat.{pow-suc, div-div-eq-div-mul, pow-le-pow_right, mod-lt, div-le_self, div-lt_iff_lt-mul, le-mul_of_pos_right, div-eq_of_lt, mod-eq_of_lt, mul-le-mul_right, mul-div-mul_right}
@@ -154,6 +154,19 @@ pub magnitude-ascii : (D u : ℕ) (negative : Bool) → u < 10 ^ 64 → IsAscii 
 magnitude-ascii D u negative h =
     let small : u / 10 ^ D < 10 ^ 64 = omega (arith, h, div-le_self u (10 ^ D)) in
     IsAscii-append (sign_text negative ++ decimal (u / 10 ^ D)) (fraction_text D (u % 10 ^ D)) (whole-ascii negative (u / 10 ^ D) small) (fraction-ascii D (u % 10 ^ D) (mod-lt u (ten_pos D)))
+
+-- What was put is UTF-8, for its bytes are ASCII.
+
+pub magnitude_utf8 : (D u start end : ℕ) (negative : Bool) (out : List ℕ) → u < 2 ^ 128 → take (end - start) (drop start out) ≡ magnitude_text D negative u
+    → IsUtf8 (take (end - start) (drop start out))
+magnitude_utf8 D u start end negative out h e = subst IsUtf8 (sym e) (IsUtf8-from_ascii _ (magnitude-ascii D u negative (omega (arith, h))))
+
+pub whole_utf8 : (out rest : List ℕ) (start n : ℕ) (negative : Bool) → n < 2 ^ 128 → drop start out ≡ sign_text negative ++ decimal n ++ rest → length out ≡ 80 → length rest ≡ 40 → start ≤ 40
+    → IsUtf8 (take (40 - start) (drop start out))
+whole_utf8 out rest start n negative h e l k low =
+    subst IsUtf8 (sym (whole-piece out rest (sign_text negative ++ decimal n) start e l k low)) (IsUtf8-from_ascii _ (whole-ascii negative n (omega (arith, h))))
+
+pub ruleset ten_fits = (ten-fits, ten_pos)
 
 pub ruleset no_fraction = (no-fraction, some-fraction)
 

@@ -1,5 +1,5 @@
 -- The digits in a window of bytes, where a run of them stops, and a whole number that keeps its text.
-use Rattle.std.proofs.Common.{◌≡◌, ℕ, zero, suc, ◌<◌, Bool, true, false, ◌&&◌, ◌==◌, refl, subst, arith, sym, List, ◌∷◌, ◌++◌, get_or, replicate, ap, ◌∙◌, inl, inr, ◌+◌, ◌-◌, ◌*◌, ◌/◌, ◌%◌, ◌^◌, ◌≤◌, cond, min, nat_lt, bit_and, [], length, take, drop, map, slice_range, Fits, w8, ◌≢◌, pos, negsuc, Option, Some}
+use Rattle.std.proofs.Common.{◌≡◌, ℕ, zero, suc, ◌<◌, Bool, true, false, ◌&&◌, ◌==◌, refl, subst, arith, sym, List, ◌∷◌, ◌++◌, get_or, replicate, ap, ◌∙◌, inl, inr, ◌+◌, ◌-◌, ◌*◌, ◌/◌, ◌%◌, ◌^◌, ◌≤◌, cond, min, nat_lt, bit_and, [], length, take, drop, map, slice_range, Fits, w8, ◌≢◌, pos, negsuc, Option, Some, slice_index_or}
 use Rattle.std.specs.Prelude.{not}
 use Rattle.std.specs.Bool.{MatchBool}
 use Rattle.std.proofs.lemmas.Bool.{cases_eq, le-ltb}
@@ -21,6 +21,7 @@ use lib.Lanes.{zip2, Each1, chunk, mask_l, top}
 use mir.Val.{bits, hbits}
 use Rattle.wkt_num.specs.WholeLaws.{both_true, first_digit, read_signed_minus, read_signed_plain, read_unsigned_some}
 use Rattle.wkt_num.specs.Bytes.{Class, Nul, White, Mark, Run, class_of}
+use Rattle.wkt_num.specs.declared.powers.TheConstants.{FIVES, TENS}
 use Rattle.wkt_num.specs.DigitParts.{is_other, bits_from, others_mask, IsFirstOther, IsWholeText}
 use Rattle.wkt_num.proofs.DigitLanes.{over-mask, byte-digit}
 use Rattle.wkt_num.specs.Number.{IsNumberText}
@@ -44,6 +45,14 @@ below-all test (suc n) k e h =
       | true ↦ λ f. subst (λ (i : ℕ). test i ≡ true) (sym (eqb-true k n f)) both.0
       | false ↦ λ f. below-all test n k both.1 (omega (arith, h, eqb-false k n f))
     ] refl
+
+-- Each row of a table is that power, by computing all of them.
+
+pub fives : (k : ℕ) → k ≤ 18 → slice_index_or FIVES k 0 ≡ 5 ^ k
+fives k h = eqb-true _ _ (below-all (λ k. slice_index_or FIVES k 0 == 5 ^ k) 19 k refl (omega (arith, h)))
+
+pub tens : (k : ℕ) → k ≤ 18 → slice_index_or TENS k 0 ≡ 10 ^ k
+tens k h = eqb-true _ _ (below-all (λ k. slice_index_or TENS k 0 == 10 ^ k) 19 k refl (omega (arith, h)))
 
 -- The bytes that are no parts of a run.
 

@@ -10,6 +10,7 @@ use std::fmt;
 ///
 /// # Errors
 /// The sink's; a beginning is written then.
+#[tactic(auto, using(crate::proofs::Printed::whole_utf8))]
 pub fn write_whole<W: TextSink>(negative: bool, n: u128, f: &mut W) -> fmt::Result
     ensures { Puts W.sink f.old (sign_text negative ++ decimal n) f.new result }
 {

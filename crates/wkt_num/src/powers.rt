@@ -50,6 +50,7 @@ static FIVES: [u64; 19] = [
 
 /// Ten to the `places`.
 #[inline(always)]
+#[tactic(auto, using(crate::proofs::WindowDigits::tens))]
 pub fn ten_to(places: u32) -> u64
     requires { places ≤ 18 }
     ensures { result ≡ 10 ^ places }
@@ -59,6 +60,7 @@ pub fn ten_to(places: u32) -> u64
 
 /// Five to the `places`.
 #[inline(always)]
+#[tactic(auto, using(crate::proofs::WindowDigits::fives))]
 pub fn five_to(places: u32) -> u64
     requires { places ≤ 18 }
     ensures { result ≡ 5 ^ places }

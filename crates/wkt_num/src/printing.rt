@@ -106,6 +106,7 @@ fn put_units(places: u32, negative: bool, units: u128, out: &mut [u8; 80]) -> (u
 
 /// The whole part, and the units of the fraction.
 #[inline(always)]
+#[tactic(auto, using(crate::proofs::Printed::ten_fits))]
 fn split_units(places: u32, units: u128) -> (u128, u128)
     requires { places ≤ 36 }
     ensures whole { result.0 ≡ units / 10 ^ places }

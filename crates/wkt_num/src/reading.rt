@@ -23,6 +23,7 @@ pub fn split_sign(text: &[u8]) -> (bool, &[u8])
 
 /// Reads digits with at most one point, as units of ten to the minus `places`, with their sign.
 #[inline(always)]
+#[tactic(auto, using(crate::proofs::NumberLaws::magnitude_small))]
 pub fn read_signed(places: u32, negative: bool, body: &[u8]) -> Option<i128>
     requires { places ≤ 36 }
     ensures { result ≡ and_then (read_magnitude (2 ^ 127) places body.now) (with_sign 127 negative) }
