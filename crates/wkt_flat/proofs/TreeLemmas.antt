@@ -21,12 +21,14 @@ use Rattle.wkt_flat.specs.declared.geometry.Geometry.TheFolds as folds
 use Rattle.wkt_flat.specs.declared.geometry.Geometry.TheOpen as opens
 use Rattle.wkt_access.specs.declared.dimensions.Dimensions.TheVariants.{Xy}
 use Rattle.wkt_access.specs.Shapes.{Shape, Shapes}
-use Rattle.wkt_access.specs.Parts.{collection_of, gathered}
+use Rattle.wkt_access.specs.Parts.{collection_of, gathered, each, members_of}
 use Rattle.wkt_flat.specs.Shape.{flat_shape, flat_shapes}
 use Rattle.wkt_flat.specs.declared.geometry.Geometry.{Geometry}
 use Rattle.wkt_flat.specs.Closed.{HasClosedRings, HaveClosedRings}
 use Rattle.wkt_flat.specs.Weight.{total, flat_inside, inside, flats_weight, weight, weights, IsOneMore}
-use Rattle.wkt_flat.specs.Exact.{IsExact, exactly}
+use Rattle.wkt_flat.specs.Exact.{IsExact, exactly, exact_by, pointwise_exact}
+use Rattle.wkt_flat.specs.Equal.{coord_eq, coord_exact, point_eq, point_exact, rings_eq, rings_exact}
+use Rattle.std.specs.Cmp.Lexicographic.{pointwise}
 
 -- Two lists compared item by item, by a loop over the first.
 
@@ -132,6 +134,20 @@ module _ {T : Type 0} (c : GeometryCollection T) (gs : List (Geometry T)) (h : f
   pub geometry_is : (w : Geometry T) → w ≡ views.GeometryCollection c → member_shape w ≡ collection_of Xy (map member_shape gs)
   geometry_is w k = ap (λ g. member_shape g) k ∙ (ap flat_shape (flat-collection c) ∙ collection_is)
 
+-- The members' shapes are as many as the members, and stand at their places.
+
+pub members_length : {T : Type 0} (gs : List (Geometry T)) → length (each (flat_shapes (flat_members gs))) ≡ length gs
+members_length [] = refl
+members_length (g ∷ gs) = ap suc (members_length gs)
+
+pub member_got : {T : Type 0} (gs : List (Geometry T)) (i : ℕ) (x : Geometry T) → i < length gs → x ≡ get_or gs i x → slice_get (each (flat_shapes (flat_members gs))) i ≡ Some (member_shape x)
+member_got [] i x h e = absurd (omega arith)
+member_got (g ∷ gs) zero x h e = ap (λ y. Some (member_shape y)) (sym e)
+member_got (g ∷ gs) (suc i) x h e = member_got gs i x (omega arith) e
+
+pub collection_members : {T : Type 0} (c : GeometryCollection T) → members_of (member_shape (views.GeometryCollection c)) ≡ each (flat_shapes (flat_trees c))
+collection_members c = ap (λ t. members_of (flat_shape t)) (flat-collection c)
+
 -- Facts of each item of a list, gathered one by one.
 
 module _ {X : Type 0} (P : X → Type 0) where
@@ -169,6 +185,10 @@ pub opened : {T : Type 0} (g : Geometry T) (c : GeometryCollection T) (gs : List
     g ≡ views.GeometryCollection c → flat_trees c ≡ flat_members gs → inside g ≡ total inside gs
 opened g c gs is holds = ap (λ g. inside g) is ∙ (ap flat_inside (flat-collection c) ∙ (ap flats_weight holds ∙ sym (totalled gs)))
 
+pub held_inside : {T : Type 0} (c : GeometryCollection T) (gs : List (Geometry T)) → flat_trees c ≡ flat_members gs →
+    inside (views.GeometryCollection c) ≡ total inside gs
+held_inside c gs holds = opened _ c gs refl holds
+
 module _ {A : Type 0} (inside : A → ℕ) where
   pub popped : (xs : List A) (x : A) → total inside (xs ++ x ∷ []) ≡ total inside xs + (1 + inside x)
   popped [] x = omega arith
@@ -202,6 +222,17 @@ module _ {A B E : Type 0} (see : A → B) (whole : List B → B) where
 
 pub reported : {K : Type 0} {E : K → K → Bool} → IsExact E → (x y : K) (b : Bool) → b ≡ E x y → IsTrue b ↔ (x ≡ y)
 reported e x y b h = let p = exactly e x y in ((λ t. p.0 (sym h ∙ t)), (λ q. h ∙ p.1 q))
+
+-- the same of each kind that has lists, by the law of a number type
+module _ {T : Type 0} {S : T → T → Bool} (same : (x y : T) → (S x y ≡ true) ↔ (x ≡ y)) where
+  pub coords_reported : (x y : List (Coord T)) (b : Bool) → b ≡ pointwise (coord_eq S) x y → IsTrue b ↔ (x ≡ y)
+  coords_reported x y b h = reported (pointwise_exact (coord_exact (exact_by same))) x y b h
+
+  pub points_reported : (x y : List (Point T)) (b : Bool) → b ≡ pointwise (point_eq S) x y → IsTrue b ↔ (x ≡ y)
+  points_reported x y b h = reported (pointwise_exact (point_exact (exact_by same))) x y b h
+
+  pub polygons_reported : (x y : List (Rings (Coord T))) (b : Bool) → b ≡ pointwise (rings_eq (coord_eq S)) x y → IsTrue b ↔ (x ≡ y)
+  polygons_reported x y b h = reported (pointwise_exact (rings_exact (coord_exact (exact_by same)))) x y b h
 
 -- A member of a list, seen through a function; and a list that grows by what each member of another becomes.
 

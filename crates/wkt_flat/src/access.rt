@@ -268,10 +268,12 @@ impl<T: WktNum> GeometryCollectionTrait for GeometryCollection<T> {
         Dimensions::Xy
     }
 
+    #[tactic(auto, using(crate::proofs::TreeLemmas::members_length))]
     fn num_geometries(&self) -> usize {
         self.geometries().len()
     }
 
+    #[tactic(auto, using(crate::proofs::TreeLemmas::members_length, crate::proofs::TreeLemmas::member_got))]
     fn geometry(&self, i: usize) -> &Geometry<T> {
         &self.geometries()[i]
     }

@@ -24,6 +24,7 @@ pub trait Nested: Sized {
 ///
 /// It has no clause, for nothing of them is left to speak of. A `Nested` has no `Drop` here, so a body that leaves one
 /// undropped is refused, and `destroy_empty` takes an empty list alone.
+#[tactic(auto, using(crate::proofs::TreeLemmas::popped))]
 pub fn drop_all<G: Nested>(geometries: Vec<G>) {
     let mut waiting = geometries;
     while let Some(geometry) = waiting.pop() {
@@ -34,6 +35,7 @@ pub fn drop_all<G: Nested>(geometries: Vec<G>) {
 
 // Drops one geometry, and returns what then waits. Each collection is opened once, and so is
 // each that is made here: where it is taken nothing else waits, so it isn't put away again.
+#[tactic(auto, using(crate::proofs::TreeLemmas::exchanged, crate::proofs::TreeLemmas::first_within, std::proofs::lemmas::Bool::Decides::nat_tests))]
 fn drop_one<G: Nested>(geometry: G, waiting: Vec<G>) -> Vec<G>
     ensures fewer { total G.inside result.items ≤ G.inside geometry + total G.inside waiting.items }
 {

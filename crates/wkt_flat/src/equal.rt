@@ -68,6 +68,7 @@ impl<T: WktNum> PartialEq for LineString<T> {
 
     /// True exactly if the coordinates are equal, in order.
     #[inline(never)]
+    #[tactic(auto, using(crate::proofs::TreeLemmas::coords_reported))]
     fn eq(&self, other: &Self) -> bool
         ensures eq { result ≡ pointwise (coord_eq T.eq) self.now other.now }
         ensures exact { IsTrue result ↔ (self.now ≡ other.now) }
@@ -98,6 +99,7 @@ impl<T: WktNum> PartialEq for MultiPoint<T> {
 
     /// True exactly if the points are equal, in order.
     #[inline(never)]
+    #[tactic(auto, using(crate::proofs::TreeLemmas::points_reported))]
     fn eq(&self, other: &Self) -> bool
         ensures eq { result ≡ pointwise (point_eq T.eq) self.now other.now }
         ensures exact { IsTrue result ↔ (self.now ≡ other.now) }
@@ -128,6 +130,7 @@ impl<T: WktNum> PartialEq for MultiPolygon<T> {
 
     /// True exactly if the polygons are equal, in order.
     #[inline(never)]
+    #[tactic(auto, using(crate::proofs::TreeLemmas::polygons_reported))]
     fn eq(&self, other: &Self) -> bool
         ensures eq { result ≡ pointwise (rings_eq (coord_eq T.eq)) self.now other.now }
         ensures exact { IsTrue result ↔ (self.now ≡ other.now) }

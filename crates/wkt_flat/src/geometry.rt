@@ -59,12 +59,14 @@ impl<T: Drop> Nested for Geometry<T> {
 
     ghost inside = { inside };
 
+    #[tactic(auto, using(crate::proofs::TreeLemmas::held_inside))]
     fn of_members(members: Vec<Self>) -> Self
         ensures { inside result ≡ total inside members.items }
     {
         Geometry::GeometryCollection(GeometryCollection::new_from(members))
     }
 
+    #[tactic(auto, using(crate::proofs::TreeLemmas::held_inside))]
     fn into_members(self) -> Option<Vec<Self>> {
         match self {
             Geometry::GeometryCollection(collection) => Some(collection.into_inner()),

@@ -72,6 +72,7 @@ impl<T: WktNum> GeometryTrait for Geometry<T> {
         }
     }
 
+    #[tactic(auto, using(crate::proofs::TreeLemmas::collection_members, crate::proofs::TreeLemmas::members_length, crate::proofs::TreeLemmas::member_got))]
     fn geometry(&self, i: usize) -> &Self {
         match self {
             Geometry::GeometryCollection(c) => &c.geometries()[i],
