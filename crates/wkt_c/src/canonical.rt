@@ -43,15 +43,32 @@ pub(crate) fn canonical(
     if text.len() <= SHORT {
         return canonical_short(text, asked, out, needed, end);
     }
+    canonical_long(alloc, text, asked, out, needed, end)
+}
+
+/// Answers a text that isn't short with the canonical text of what it begins with.
+///
+/// Where short texts are told from long ones nothing is needed in memory then, so that the call goes straight on.
+#[inline(never)]
+fn canonical_long(
+    alloc: Global,
+    text: &[u8],
+    asked: u32,
+    out: &mut [u8],
+    needed: &mut usize,
+    end: &mut usize,
+) -> u32
+    requires { places_in asked ≤ 18 }
+    ensures { AnswersCanonical asked text.now result out.old out.new needed.old needed.new end.old end.new }
+{
     match str::from_utf8(text) {
-        Ok(text) => canonical_long(alloc, text, asked, out, needed, end),
+        Ok(text) => canonical_in_room(alloc, text, asked, out, needed, end),
         Err(_) => NOT_TEXT,
     }
 }
 
-/// Answers a text that isn't short with the canonical text of what it begins with.
-#[inline(never)]
-fn canonical_long(
+/// The same, of a text that is UTF-8, in a room that is made for it.
+fn canonical_in_room(
     alloc: Global,
     text: &str,
     asked: u32,

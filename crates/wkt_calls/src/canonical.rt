@@ -183,10 +183,11 @@ pub fn copy_out_front(
     copy_out(answer, out, needed)
 }
 
-/// Whether a text may begin with the word of a kind, by its first byte; where white space stands first, it may.
+/// Whether a text may begin with the word of a kind, by its first byte: by the bits that are the same in letters of either
+/// case, so that one look decides. Those are of white space and of G, L, M and P; other bytes that share them may too.
 #[inline(always)]
 fn may_begin(text: &[u8]) -> bool {
-    text.len() > 0 && matches!(text[0] | 32, b' ' | b'g' | b'l' | b'm' | b'p')
+    text.len() > 0 && matches!(text[0] & 31, 0 | 9 | 10 | 13 | 7 | 12 | 16)
 }
 
 /// Answers a text of up to [`SHORTEST`] bytes with the canonical text of what it begins with.

@@ -1,4 +1,4 @@
-//! Headers in collections, by comparisons. Each kind has a way of its own, where its part is a constant.
+//! Headers in collections, by comparisons: one function for each kind, in which the part is a constant.
 ghost use Rattle.std.specs.Bool.{OnTrue};
 ghost use Rattle.std.specs.Int.{w64, to_le_bytes};
 ghost use Rattle.std.specs.Prelude.{◌≡◌, ◌≤◌, ◌+◌, length, take, codes, IfOk, IfErr, IfSome};

@@ -8,7 +8,7 @@ use crate::builder::Builder;
 use crate::machine::{Machine, State};
 use crate::numbers::read_at;
 use crate::part::{Axis, Part};
-use crate::source::{Walk, Walked};
+use crate::source::{At, Walk, Walked};
 use wkt_access::Dimension;
 use wkt_num::WktNum;
 
@@ -155,15 +155,12 @@ impl<T: WktNum> Builder<T> for Keeper<'_, T> {
     }
 }
 
-/// Whether a text may begin with a point, or with nothing that is read: by the third letter, which is that of no other
-/// kind. It is a guess, since white space may stand before.
+/// Whether a text may begin with a point, or with nothing that is read: by the third letter, which is L, N or O in the words
+/// of the other kinds. It is a guess: white space may stand before, and other bytes share the bits that are looked at.
 #[inline(always)]
 pub(crate) fn may_be_lone(text: &str) -> bool {
     let bytes = text.as_bytes();
-    if bytes.len() < 3 {
-        return false;
-    }
-    !matches!(bytes[2], b'N' | b'n' | b'L' | b'l' | b'O' | b'o')
+    bytes.len() >= 3 && bytes[2] & 28 != b'L' & 28
 }
 
 /// Behind a point that comes next, or behind the header of something else; or where it is refused.
@@ -176,10 +173,31 @@ pub(crate) fn first_point<'a, T: WktNum, S: Walk<T>>(
     ensures on { IfOk result (GoesFrom T.read S.view lone_maker source keeper.entry) }
     ensures refused { IfErr result (RefusesFrom T.read S.view lone_maker source keeper.entry) }
 {
-    let begun = source.first(Machine::start(), keeper)?;
+    let At {
+        source,
+        machine,
+        builder,
+    } = source.first(Machine::start(), keeper)?;
+    // The machine's parts are taken one by one, so that what fills it up isn't carried along.
+    let Machine {
+        state,
+        part,
+        dim,
+        depth,
+    } = machine;
+    let machine = Machine {
+        state,
+        part,
+        dim,
+        depth,
+    };
     // Behind a coordinate stands its parenthesis, though not right there; or the point is refused.
-    if let State::Item = begun.machine.state {
-        return begun.machine.step(begun.source, begun.builder);
+    if let State::Item = state {
+        return machine.step(source, builder);
     }
-    Ok(begun)
+    Ok(At {
+        source,
+        machine,
+        builder,
+    })
 }
