@@ -101,7 +101,7 @@ impl<'t, 'a, T: WktNum> Source<T> for OneByOne<'t, 'a, T> {
 
     #[inline(always)]
     fn skip(self) -> Self {
-        let _ = self.tokens.take();
+        let _ = self.tokens.take_looked();
         self
     }
 

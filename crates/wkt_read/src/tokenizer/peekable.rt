@@ -122,6 +122,40 @@ impl<'a, T: WktNum> PeekableTokens<'a, T> {
         self.step()
     }
 
+    /// The same, where the lexeme was mostly looked at: only for that is the code in place, which is short.
+    #[inline(always)]
+    #[tactic(auto, using(crate::proofs::TokenizerLemmas::Placings::goes_moves))]
+    pub fn take_looked(&mut self) -> Lexeme<'a>
+        ensures goes_on { StreamGoesOn self.old self.new }
+        ensures near { OnSome (found result) (IsNear self.new) }
+        ensures moves { Moves self.old (found result) self.new }
+        ensures takes { TakesNext (found result) (rest self.old) (rest self.new) }
+    {
+        self.step_looked()
+    }
+
+    #[inline(always)]
+    fn step_looked(&mut self) -> Lexeme<'a>
+        ensures { Moves self.old (found result) self.new }
+    {
+        match self.ahead {
+            Some(Lexeme::End) => Lexeme::End,
+            Some(lexeme) => {
+                self.ahead = None;
+                self.end = self.tokens.end();
+                lexeme
+            }
+            None => self.step_outlined(),
+        }
+    }
+
+    #[inline(never)]
+    fn step_outlined(&mut self) -> Lexeme<'a>
+        ensures { Moves self.old (found result) self.new }
+    {
+        self.step()
+    }
+
     #[inline(always)]
     fn step(&mut self) -> Lexeme<'a>
         ensures { Moves self.old (found result) self.new }
