@@ -64,6 +64,23 @@ pub fn canonical_or_message<T: WktNum>(
     if !has_room(buffer.len(), text.len()) {
         return Err(NoRoom);
     }
+    canonical_in_room::<T>(text, buffer)
+}
+
+/// The same, into a buffer that surely is long enough, which isn't looked at.
+///
+/// # Errors
+/// [`NoRoom`]: a number's text is at least twice as long as what it was read from.
+#[inline(always)]
+pub fn canonical_in_room<T: WktNum>(
+    text: &str,
+    buffer: &mut [u8],
+) -> Result<Result<TextWritten, Message>, NoRoom>
+    requires { 2 * length text.now + 65 ≤ length buffer.old }
+    ensures writes { WritesOrSays T.read T.num text.now buffer.old buffer.new result }
+    ensures room { IfWritten result (λ w. w.len + 64 ≤ length buffer.new) }
+    ensures whole { length buffer.new ≡ length buffer.old }
+{
     let mut pen: Pen<'_, T> = Pen {
         out: &mut *buffer,
         len: 0,
@@ -77,7 +94,7 @@ pub fn canonical_or_message<T: WktNum>(
     }
 }
 
-/// The same, in the one place that most calls share: into that the machine is built, however large it is.
+/// The same as [`canonical_or_message`], in the one place that most calls share: into that the machine is built, however large it is.
 #[inline(never)]
 pub fn canonical_or_message_outlined<T: WktNum>(
     text: &str,

@@ -3,7 +3,7 @@ use Rattle.std.proofs.Common.{refl, rules, sym, subst, IsUtf8}
 use Rattle.wkt_machine.specs.Stops.{StopsAt}
 use Rattle.wkt_machine.proofs.TableMessages.{stops_message, stops_no_front}
 use Rattle.wkt_canonical.proofs.PenOutput.{wrote-here}
-use Rattle.wkt_canonical.proofs.canonical.canonical_or_message.Goals as goal
+use Rattle.wkt_canonical.proofs.canonical.canonical_in_room.Goals as goal
 
 pub returns-in-Ends-clause-writes : goal.returns-in-Ends-clause-writes
 returns-in-Ends-clause-writes g c = wrote-here g.T.WktNum.read g.T.WktNum.num c.args.text.now c.as_bytes.result.now c.args.buffer.now _ _ c.write_next.new.pen c.in-Ends.end c.as_bytes.ensures.value c.utf8.text refl refl c.in-Ends.ensures.writes c.in-Ends.ensures.room (search rules)
