@@ -5,9 +5,9 @@ ghost use Rattle.wkt_calls.specs.Answer.{read_at, places_in, RefusesOne};
 
 use std::alloc::Global;
 use wkt_calls::canonical::{
-    Compared, SHORT, SHORTEST, canonical_short, canonical_shortest, copy_out_front, judge,
-    same_short, write_within,
+    SHORT, SHORTEST, canonical_short, canonical_shortest, copy_out_front, write_within,
 };
+use wkt_calls::compare::{Compared, judge, same_short};
 use wkt_calls::status::{MEMORY, NOT_TEXT};
 use wkt_canonical::make_room;
 
@@ -132,6 +132,17 @@ pub(crate) fn same(alloc: Global, one: &[u8], other: &[u8], asked: u32) -> Resul
     if one.len() <= SHORT && other.len() <= SHORT {
         return same_short(one, other, asked);
     }
+    same_of_bytes(alloc, one, other, asked)
+}
+
+/// The same, of texts of which one at least isn't short.
+///
+/// Apart from the short ones, for which no place of what is needed here is cleared then.
+#[inline(never)]
+fn same_of_bytes(alloc: Global, one: &[u8], other: &[u8], asked: u32) -> Result<Compared, u32>
+    requires places { places_in asked ≤ 18 }
+    ensures { MatchResult result (AreCompared asked one.now other.now) (RefusesOne (read_at (places_in asked)) one.now other.now) }
+{
     let Ok(one) = str::from_utf8(one) else {
         return Err(NOT_TEXT);
     };

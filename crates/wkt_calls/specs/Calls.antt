@@ -5,7 +5,7 @@ use Rattle.wkt_read.specs.Refusal.{IsRefusedWith}
 use Rattle.wkt_read.specs.declared.messages.Message.{Message}
 use Rattle.wkt_canonical.specs.Canonical.{IsCanonicalTo}
 use Rattle.wkt_calls.specs.Answer.{read_at, print_at, places_in, asks_whole, EndsAsAsked, IsCanonicalOf, HasMore, Compares, RefusesText, IsHandedOut, HasNoRoom}
-use Rattle.wkt_calls.specs.declared.canonical.Compared.{Compared}
+use Rattle.wkt_calls.specs.declared.compare.Compared.{Compared}
 use Rattle.wkt_lines.specs.Laws.{IsWholeLines}
 use Rattle.wkt_lines.specs.Output.{IsOutput}
 use Rattle.wkt_lines.specs.Lines.{before_feed}

@@ -1,11 +1,9 @@
-//! The one text of what a text begins with, and texts compared by it.
-ghost use Rattle.std.specs.Prelude.{◌≡◌, ◌≢◌, ◌+◌, ◌*◌, ◌≤◌, ◌↔◌, ◌⊎◌, ℕ, IsTrue, MatchResult, IfOk, IfSome, IsUtf8, true, take, drop, length, slice_index};
+//! The one text of what a text begins with.
+ghost use Rattle.std.specs.Prelude.{◌≡◌, ◌≢◌, ◌+◌, ◌*◌, ◌≤◌, ◌⊎◌, ℕ, IfOk, IfSome, IsUtf8, true, false, take, drop, length, slice_index};
 ghost use Rattle.std.specs.Str.{IsAscii};
 ghost use Rattle.wkt_num.specs.Bytes.{AllWhite};
-ghost use Rattle.wkt_num.specs.Decimal.{IsUnits};
-ghost use Rattle.wkt_calls.specs.Calls.{AnswersCanonical, AreCompared, IsWalkedFor, WritesAsked, WritesOrRefuses, WritesOrSaysWhy};
-ghost use Rattle.wkt_read.specs.Laws.{FrontIsWritable, OneText};
-ghost use Rattle.wkt_calls.specs.Answer.{read_at, print_at, places_in, asks_whole, EndsAsAsked, IsCanonicalOf, Compares, RefusesOne, RefusesText, IsHandedOut, HasNoRoom};
+ghost use Rattle.wkt_calls.specs.Calls.{AnswersCanonical, IsWalkedFor, WritesAsked, WritesOrRefuses, WritesOrSaysWhy};
+ghost use Rattle.wkt_calls.specs.Answer.{read_at, print_at, places_in, asks_whole, EndsAsAsked, RefusesText, IsHandedOut, HasNoRoom};
 
 use crate::asked::{ends_as_asked, places_of};
 use crate::at_places;
@@ -14,15 +12,16 @@ use crate::refusal::refused_at_start;
 use crate::status::{DONE, NOT_TEXT, NOT_WHOLE, SMALL};
 use std::simd::prelude::*;
 use wkt_canonical::laws::texts_are_short;
-use wkt_canonical::{NoRoom, TextWritten, canonical_or_message};
+use wkt_canonical::{NoRoom, TextWritten, canonical_in_room};
 use wkt_num::Decimal;
 use wkt_read::Message;
-use wkt_read::laws::{front_is_writable, one_text};
 
 /// How long a text may be that is answered with no memory.
 pub const SHORT: usize = 200;
 /// How long a text may be that is answered with the least room, which is cleared for each call.
 pub const SHORTEST: usize = 32;
+/// How long a text may be that is answered with a room between: most polygons of a few points are no longer.
+pub(crate) const MIDDLE: usize = 63;
 /// How many zeros stand behind a short text: what the machine looks at together.
 const BEHIND: usize = 32;
 
@@ -37,7 +36,7 @@ fn write<const D: u32>(text: &str, room: &mut [u8]) -> Result<(usize, usize), Me
 {
     // No effect at run time. The proof reads that decimals have no texts for which there is no room.
     texts_are_short();
-    match canonical_or_message::<Decimal<D>>(text, room) {
+    match canonical_in_room::<Decimal<D>>(text, room) {
         Ok(Ok(TextWritten { end, len })) => Ok((end, len)),
         Ok(Err(message)) => Err(message),
         Err(NoRoom) => unreachable!(),
@@ -116,7 +115,14 @@ fn is_ascii(bytes: &[u8], n: usize) -> bool
     requires { n + 32 ≤ length bytes.now }
     ensures { result ≡ true → IsAscii (take n bytes.now) }
 {
-    let mut at = 0;
+    // The first bytes stand before the loop, since many texts are no longer.
+    let first = u8x32::from_slice(bytes)
+        .simd_gt(u8x32::splat(127))
+        .to_bitmask();
+    if first != 0 {
+        return false;
+    }
+    let mut at = 32;
     'wide: while at < n {
         let window = u8x32::from_slice(&bytes[at..]);
         let high = window.simd_gt(u8x32::splat(127)).to_bitmask();
@@ -128,9 +134,33 @@ fn is_ascii(bytes: &[u8], n: usize) -> bool
     true
 }
 
+/// Whether a text is UTF-8. It stands apart, since most texts are of ASCII.
+#[cold]
+#[inline(never)]
+fn is_utf8(text: &[u8]) -> bool
+    ensures yes { result ≡ true → IsUtf8 text.now }
+    ensures no { result ≡ false → IsUtf8 text.now → ⊥ }
+{
+    str::from_utf8(text).is_ok()
+}
+
+/// Whether a text is UTF-8 that also stands at the front of these bytes: where they are of ASCII it is.
+#[inline(always)]
+fn is_text(text: &[u8], near: &[u8]) -> bool
+    requires within { length text.now + 32 ≤ length near.now }
+    requires front { take (length text.now) near.now ≡ text.now }
+    ensures yes { result ≡ true → IsUtf8 text.now }
+    ensures no { result ≡ false → IsUtf8 text.now → ⊥ }
+{
+    if is_ascii(near, text.len()) {
+        return true;
+    }
+    is_utf8(text)
+}
+
 /// Writes the canonical text of what a short text begins with. The text is copied before zeros first, so that the
 /// machine sees 32 bytes at once up to its end.
-fn write_short(
+pub(crate) fn write_short(
     text: &[u8],
     asked: u32,
     near: &mut [u8],
@@ -147,14 +177,10 @@ fn write_short(
 {
     let n = text.len();
     near[..n].copy_from_slice(text);
-    let text = if is_ascii(near, n) {
-        unsafe { str::from_utf8_unchecked(text) }
-    } else {
-        match str::from_utf8(text) {
-            Ok(text) => text,
-            Err(_) => return Err(NOT_TEXT),
-        }
-    };
+    if !is_text(text, near) {
+        return Err(NOT_TEXT);
+    }
+    let text = unsafe { str::from_utf8_unchecked(text) };
     let walked = unsafe { str::from_utf8_unchecked(&near[..n + BEHIND]) };
     write_in(text, walked, asked, &mut room[..2 * n + 129])
 }
@@ -186,7 +212,7 @@ pub fn copy_out_front(
 /// Whether a text may begin with the word of a kind, by its first byte: by the bits that are the same in letters of either
 /// case, so that one look decides. Those are of white space and of G, L, M and P; other bytes that share them may too.
 #[inline(always)]
-fn may_begin(text: &[u8]) -> bool {
+pub(crate) fn may_begin(text: &[u8]) -> bool {
     text.len() > 0 && matches!(text[0] & 31, 0 | 9 | 10 | 13 | 7 | 12 | 16)
 }
 
@@ -252,7 +278,7 @@ fn canonical_unlikely(
 
 /// The status of a text that begins with no word of a kind, with decimals of so many places; `None` where it does.
 #[inline(always)]
-fn refused_at(text: &str, places: u32) -> Option<u32>
+pub(crate) fn refused_at(text: &str, places: u32) -> Option<u32>
     requires { places ≤ 18 }
     ensures { IfSome result (RefusesText (read_at places) text.now) }
 {
@@ -260,8 +286,45 @@ fn refused_at(text: &str, places: u32) -> Option<u32>
 }
 
 /// Answers a text of up to [`SHORT`] bytes with the canonical text of what it begins with.
-#[inline(never)]
+#[inline(always)]
 pub fn canonical_short(
+    text: &[u8],
+    asked: u32,
+    out: &mut [u8],
+    needed: &mut usize,
+    end: &mut usize,
+) -> u32
+    requires places { places_in asked ≤ 18 }
+    requires short { length text.now ≤ SHORT }
+    ensures { AnswersCanonical asked text.now result out.old out.new needed.old needed.new end.old end.new }
+{
+    if text.len() <= MIDDLE {
+        return canonical_middle(text, asked, out, needed, end);
+    }
+    canonical_longer(text, asked, out, needed, end)
+}
+
+/// The same, for a text of up to [`MIDDLE`] bytes.
+#[inline(never)]
+fn canonical_middle(
+    text: &[u8],
+    asked: u32,
+    out: &mut [u8],
+    needed: &mut usize,
+    end: &mut usize,
+) -> u32
+    requires places { places_in asked ≤ 18 }
+    requires short { length text.now ≤ MIDDLE }
+    ensures { AnswersCanonical asked text.now result out.old out.new needed.old needed.new end.old end.new }
+{
+    let mut near = [0u8; 96];
+    let mut room = [0u8; 256];
+    canonical_padded(text, asked, &mut near, &mut room, out, needed, end)
+}
+
+/// The same, for a text of any length up to [`SHORT`].
+#[inline(never)]
+fn canonical_longer(
     text: &[u8],
     asked: u32,
     out: &mut [u8],
@@ -301,124 +364,4 @@ fn canonical_padded(
         }
         Err(status) => status,
     }
-}
-
-/// What holds of decimals: one text is one value.
-fn laws<const D: u32>()
-    requires { D ≤ 36 }
-    ensures writable { FrontIsWritable (IsUnits D) (read_at D) }
-    ensures text { OneText (IsUnits D) (print_at D) (read_at D) }
-{
-    front_is_writable::<Decimal<D>>();
-    one_text::<Decimal<D>>();
-}
-
-/// What holds of decimals of so many places: one text is one value.
-fn laws_at(places: u32)
-    requires { places ≤ 18 }
-    ensures writable { FrontIsWritable (IsUnits places) (read_at places) }
-    ensures text { OneText (IsUnits places) (print_at places) (read_at places) }
-{
-    at_places!(places, laws(), unreachable!())
-}
-
-/// Whether these two canonical texts are one.
-fn is_one(one: &[u8], other: &[u8]) -> bool
-    ensures { IsTrue result ↔ (one.now ≡ other.now) }
-{
-    one == other
-}
-
-/// Whether two texts are of one geometry, by their canonical texts.
-pub fn judge(
-    one: &[u8],
-    first: &[u8],
-    end: usize,
-    other: &[u8],
-    second: &[u8],
-    other_end: usize,
-    asked: u32,
-) -> bool
-    requires places { places_in asked ≤ 18 }
-    requires first { IsCanonicalOf (read_at (places_in asked)) (print_at (places_in asked)) one.now first.now end }
-    requires second { IsCanonicalOf (read_at (places_in asked)) (print_at (places_in asked)) other.now second.now other_end }
-    ensures { Compares (read_at (places_in asked)) (print_at (places_in asked)) one.now other.now end other_end result }
-{
-    // No effect at run time. The proof reads that one text is one value.
-    laws_at(places_of(asked));
-    is_one(first, second)
-}
-
-/// What a comparison returns of two texts: whether they begin with one geometry, and where each ends.
-#[derive(Clone, Copy)]
-pub struct Compared {
-    pub same: bool,
-    pub end: usize,
-    pub other_end: usize,
-}
-
-/// Whether two texts of up to [`SHORT`] bytes begin with one geometry.
-pub fn same_short(one: &[u8], other: &[u8], asked: u32) -> Result<Compared, u32>
-    requires places { places_in asked ≤ 18 }
-    requires short { length one.now ≤ SHORT }
-    requires other_short { length other.now ≤ SHORT }
-    ensures { MatchResult result (AreCompared asked one.now other.now) (RefusesOne (read_at (places_in asked)) one.now other.now) }
-{
-    let mut near = [0u8; 256];
-    let mut first = [0u8; 544];
-    let (end, n) = match write_short(one, asked, &mut near, &mut first) {
-        Ok(written) => written,
-        Err(status) => return Err(status),
-    };
-    let mut other_padded = [0u8; 256];
-    let mut second = [0u8; 544];
-    let (other_end, m) = match write_short(other, asked, &mut other_padded, &mut second) {
-        Ok(written) => written,
-        Err(status) => return Err(status),
-    };
-    let same = judge(one, &first[..n], end, other, &second[..m], other_end, asked);
-    Ok(Compared {
-        same,
-        end,
-        other_end,
-    })
-}
-
-/// Whether two texts begin with one geometry: whether their canonical texts, which are written in two rooms, are equal.
-pub fn same_in(
-    one: &str,
-    other: &str,
-    asked: u32,
-    room: &mut [u8],
-    other_room: &mut [u8],
-) -> Result<Compared, u32>
-    requires places { places_in asked ≤ 18 }
-    requires room { 2 * length one.now + 65 ≤ length room.old }
-    requires other_room { 2 * length other.now + 65 ≤ length other_room.old }
-    requires utf8 { IsUtf8 one.now }
-    requires other_utf8 { IsUtf8 other.now }
-    ensures { MatchResult result (AreCompared asked one.now other.now) (RefusesOne (read_at (places_in asked)) one.now other.now) }
-{
-    let (end, n) = match write_within(one, asked, room) {
-        Ok(written) => written,
-        Err(status) => return Err(status),
-    };
-    let (other_end, m) = match write_within(other, asked, other_room) {
-        Ok(written) => written,
-        Err(status) => return Err(status),
-    };
-    let same = judge(
-        one.as_bytes(),
-        &room[..n],
-        end,
-        other.as_bytes(),
-        &other_room[..m],
-        other_end,
-        asked,
-    );
-    Ok(Compared {
-        same,
-        end,
-        other_end,
-    })
 }

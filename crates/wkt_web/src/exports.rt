@@ -7,7 +7,8 @@ ghost use Rattle.wkt_calls.specs.Explained.{IsExplained, IsHinted, IsFollowed, I
 
 use wkt_calls::arrays_call::arrays_in;
 use wkt_calls::asked::{ends_as_asked, has_places, places_of};
-use wkt_calls::canonical::{same_in, write_within};
+use wkt_calls::canonical::write_within;
+use wkt_calls::compare::same_in;
 use wkt_calls::explain::{number_of_expected, number_of_hint, problem};
 use wkt_calls::has_room;
 use wkt_calls::infer::infer;

@@ -1,26 +1,26 @@
 -- The text with zeros behind it is UTF-8, and walked as the text.
-use Rattle.std.proofs.Common.{◌≡◌, ◌+◌, ◌++◌, ◌∙◌, length, take, drop, sym, ap, subst, IsUtf8, rules}
+use Rattle.std.proofs.Common.{◌++◌, ◌+◌, ◌∙◌, length, take, drop, sym, ap, subst, IsUtf8}
+use Rattle.std.proofs.Math.Seq.{take-append_seam}
 use Rattle.wkt_calls.specs.Calls.{IsWalkedFor}
-use Rattle.wkt_calls.proofs.Padded.{front-utf8, is-walked, walked-utf8}
+use Rattle.wkt_calls.proofs.Padded.{is-walked, walked-utf8}
 use Rattle.wkt_calls.proofs.canonical.write_short.Goals as goal
 
-pub from_utf8_unchecked-requires : goal.from_utf8_unchecked-requires
-from_utf8_unchecked-requires c =
-    subst IsUtf8 c.copy_from_slice.ensures.after (front-utf8 c.copy_from_slice.new.self (drop (length c.args.text.now) c.args.near.now) (length c.args.text.now) (ap length (sym c.copy_from_slice.ensures.after)) (c.is_ascii.ensures c.if-is_ascii.true))
+pub is_text-requires-clause-front : goal.is_text-requires-clause-front
+is_text-requires-clause-front c =
+    let text = c.args.text.now in
+    let near = c.args.near.now in
+    ap (λ l. take (length text) (l ++ drop (length text) near)) c.copy_from_slice.ensures.after ∙ take-append_seam text (drop (length text) near)
 
 pub from_utf8_unchecked-walked-requires : goal.from_utf8_unchecked-walked-requires
 from_utf8_unchecked-walked-requires c =
     let text = c.args.text.now in
     let near = c.args.near.now in
-    let same : c.if-is_ascii.text.now ≡ text = search rules in
-    let utf8 : IsUtf8 c.if-is_ascii.text.now = search rules in
     subst (λ l. IsUtf8 (take (length text + 32) (l ++ drop (length text) near))) {x = text} {y = c.copy_from_slice.new.self} (sym c.copy_from_slice.ensures.after)
-    (walked-utf8 text near c.requires.near c.requires.zeros (subst IsUtf8 same utf8))
+    (walked-utf8 text near c.requires.near c.requires.zeros (c.is_text.ensures.yes c.if-not-is_text.false))
 
 pub write_in-requires-clause-walked : goal.write_in-requires-clause-walked
 write_in-requires-clause-walked c =
     let text = c.args.text.now in
     let near = c.args.near.now in
-    let same : c.if-is_ascii.text.now ≡ text = search rules in
     let walked = c.from_utf8_unchecked-walked.ensures ∙ ap (λ l. take (length text + 32) (l ++ drop (length text) near)) c.copy_from_slice.ensures.after in
-    subst (λ l. IsWalkedFor l c.from_utf8_unchecked-walked.result.now) (sym same) (subst (IsWalkedFor text) (sym walked) (is-walked text near c.requires.near c.requires.zeros))
+    subst (λ l. IsWalkedFor l c.from_utf8_unchecked-walked.result.now) (sym c.from_utf8_unchecked-text.ensures) (subst (IsWalkedFor text) (sym walked) (is-walked text near c.requires.near c.requires.zeros))

@@ -3,7 +3,7 @@ use Rattle.std.proofs.Common.{ℕ, subst, sym}
 use Rattle.wkt_num.specs.Decimal.{IsUnits}
 use Rattle.wkt_read.specs.Laws.{FrontIsWritable}
 use Rattle.wkt_calls.specs.Answer.{read_at}
-use Rattle.wkt_calls.proofs.canonical.laws_at.Goals as goal
+use Rattle.wkt_calls.proofs.compare.laws_at.Goals as goal
 
 abbrev Writable : ℕ → Type 0
 Writable p = FrontIsWritable (IsUnits p) (read_at p)
