@@ -9,16 +9,15 @@ use Rattle.std.proofs.lemmas.Simd.{map-map}
 use Rattle.std.proofs.Math.Bool.{and-true}
 use Rattle.wkt_types.specs.Tree.{tree, members, Tree, Trees, point, line_string, polygon, multi_point, multi_line_string, multi_polygon, collection, no_trees, more_trees}
 use Rattle.wkt_types.specs.declared.geometry.Wkt.{Wkt}
-use Rattle.wkt.specs.WrittenAlike.{tree_alike, trees_alike, written_rings, coord_alike, point_alike, line_alike, polygon_alike}
+use Rattle.wkt.specs.Same.{tree_alike, trees_alike, written_rings, coord_alike, point_alike, line_alike, polygon_alike}
 use Rattle.wkt_access.specs.declared.dimensions.Dimension.{Dimension}
 use Rattle.wkt_access.specs.declared.dimensions.Dimension.TheVariants.{XY, XYZ, XYM, XYZM}
 use Rattle.wkt_access.specs.Values.{Value, Values, size}
 use Rattle.wkt_access.specs.Shapes.{canon, canons, shapes_of, rings_of, polygon_of}
 use Rattle.wkt_access.proofs.Canonical.{header_back}
-use Rattle.wkt_flat.specs.Exact.{IsExact, both, and_true, pointwise_exact}
-use Rattle.wkt_types.specs.Held.{Held, HeldPoint}
-use Rattle.wkt_types.specs.Coords.{numbers_of}
-use Rattle.wkt_types.specs.Exact.{option_eq, dim_eq, dim_exact}
+use Rattle.wkt_flat.specs.Equal.{IsExact, both, and_true, pointwise_exact}
+use Rattle.wkt_types.specs.Held.{Held, HeldPoint, numbers_of}
+use Rattle.wkt_types.specs.Equal.{option_eq, dim_eq, dim_exact}
 use Rattle.wkt_types.specs.Values.{point_numbers, line_string_numbers, polygon_numbers, tree_shape, values_of}
 use Rattle.wkt_types.specs.declared.coord.Coord.{Coord}
 

@@ -1,13 +1,12 @@
 -- What the law of flat values and their texts says; `laws` proves it.
 use Rattle.std.specs.Prelude.{◌≡◌, ◌↔◌, ℕ, Bool, List, Option, map}
 use Rattle.std.specs.declared.cmp.Ordering.{Ordering}
-use Rattle.wkt_access.specs.Lawful.{IsLawful}
+use Rattle.wkt_access.specs.WellFormed.{IsLawful}
 use Rattle.wkt_access.specs.Texts.{shape_text}
-use Rattle.wkt_flat.specs.Closed.{HasClosedRings}
-use Rattle.wkt_flat.specs.Corners.{corners_of}
+use Rattle.wkt_flat.specs.Tree.{HasClosedRings, Flat, flat_tree, flat_members}
+use Rattle.wkt_flat.specs.Rings.{corners_of}
 use Rattle.wkt_flat.specs.Equal.{coord_eq}
 use Rattle.wkt_flat.specs.Shape.{flat_shape}
-use Rattle.wkt_flat.specs.Tree.{Flat, flat_tree, flat_members}
 use Rattle.wkt_flat.specs.declared.coord.Coord.{Coord}
 use Rattle.wkt_flat.specs.declared.geometry.Geometry.{Geometry}
 use Rattle.wkt_visit.specs.Bounds.{IsAtMost}

@@ -1,6 +1,5 @@
 pub mod Laws
 pub mod FromText
-pub mod WrittenAlike
 pub mod Same
 pub mod Literals
 -- What public clauses cite of the crates below, so that a caller names this crate alone.
@@ -11,7 +10,6 @@ pub use Rattle.wkt_access.specs.Shapes
 pub use Rattle.wkt_access.specs.Texts
 pub use Rattle.wkt_access.specs.WellFormed
 pub use Rattle.wkt_access.specs.Faults
-pub use Rattle.wkt_access.specs.Lawful
 pub use Rattle.wkt_access.specs.Parts
 pub use Rattle.wkt_access.specs.declared.dimensions.Dimension
 pub use Rattle.wkt_access.specs.declared.dimensions.Dimensions
@@ -23,34 +21,24 @@ pub use Rattle.wkt_num.specs.Number
 pub use Rattle.wkt_num.specs.Whole
 pub use Rattle.wkt_num.specs.WholeLaws
 pub use Rattle.wkt_num.specs.Decimal
-pub use Rattle.wkt_num.specs.Laws as NumberLaws
-pub use Rattle.wkt_num.specs.Earlier
 pub use Rattle.wkt_num.specs.Sink
-pub use Rattle.wkt_num.specs.Counted as CountedText
+pub use Rattle.wkt_num.specs.Borrowed as BorrowedSinks
 -- sinks and sources of bytes
 pub use Rattle.wkt_bytes.specs.Sinks
-pub use Rattle.wkt_bytes.specs.Counted
-pub use Rattle.wkt_bytes.specs.Wrapped
 pub use Rattle.wkt_bytes.specs.Wrapper
 pub use Rattle.wkt_bytes.specs.Growing
-pub use Rattle.wkt_bytes.specs.ReadAll
 -- what is read
 pub use Rattle.wkt_read.specs.Lexemes
 pub use Rattle.wkt_read.specs.Spanned
 pub use Rattle.wkt_read.specs.Grammar
 pub use Rattle.wkt_read.specs.Front
 pub use Rattle.wkt_read.specs.Begun
-pub use Rattle.wkt_read.specs.Early
-pub use Rattle.wkt_read.specs.Bad
 pub use Rattle.wkt_read.specs.Items
-pub use Rattle.wkt_read.specs.Standing
 pub use Rattle.wkt_read.specs.Stream
-pub use Rattle.wkt_read.specs.Ahead
 pub use Rattle.wkt_read.specs.Answered
 pub use Rattle.wkt_read.specs.Messages
 pub use Rattle.wkt_read.specs.Refusal
 pub use Rattle.wkt_read.specs.Header
-pub use Rattle.wkt_read.specs.Infer
 pub use Rattle.wkt_read.specs.Headline
 pub use Rattle.wkt_read.specs.Laws as ReadLaws
 pub use Rattle.wkt_read.specs.OldForms
@@ -59,15 +47,13 @@ pub use Rattle.wkt_read.specs.declared.messages.Message
 pub use Rattle.wkt_read.specs.declared.infer.InferError
 -- canonical texts, and geometries as events
 pub use Rattle.wkt_canonical.specs.Canonical as CanonicalText
-pub use Rattle.wkt_canonical.specs.LongTexts
 pub use Rattle.wkt_machine.specs.Makers
 pub use Rattle.wkt_machine.specs.Room
 pub use Rattle.wkt_machine.specs.Events
 pub use Rattle.wkt_machine.specs.View
 pub use Rattle.wkt_machine.specs.Goes
-pub use Rattle.wkt_machine.specs.Drives
+pub use Rattle.wkt_machine.specs.Machine as MachineStates
 pub use Rattle.wkt_machine.specs.Machines
-pub use Rattle.wkt_machine.specs.BytesView
 -- where a text is refused
 pub use Rattle.wkt_read.specs.Explained
 pub use Rattle.wkt_read.specs.Context
@@ -77,37 +63,26 @@ pub use Rattle.wkt_read.specs.declared.expected.Expected
 pub use Rattle.wkt_explain.specs.declared.explanation.Explanation
 -- what a `Wkt` holds
 pub use Rattle.wkt_types.specs.Tree
-pub use Rattle.wkt_types.specs.Trees
+pub use Rattle.wkt_types.specs.Equal
 pub use Rattle.wkt_types.specs.Values as TreeValues
 pub use Rattle.wkt_types.specs.Canonical
-pub use Rattle.wkt_types.specs.Coords
 pub use Rattle.wkt_types.specs.Held
-pub use Rattle.wkt_types.specs.Equal
-pub use Rattle.wkt_types.specs.Exact
 pub use Rattle.wkt_types.specs.Shown
 pub use Rattle.wkt_types.specs.Outcome
-pub use Rattle.wkt_types.specs.Flattened
 pub use Rattle.wkt_types.specs.declared.geometry.Wkt
 pub use Rattle.wkt_types.specs.declared.convert.ConvertError
 -- what a two-dimensional geometry holds
 pub use Rattle.wkt_flat.specs.Tree as FlatTree
-pub use Rattle.wkt_flat.specs.Trees as FlatTrees
-pub use Rattle.wkt_flat.specs.Shape as FlatShape
-pub use Rattle.wkt_flat.specs.Numbers as FlatNumbers
-pub use Rattle.wkt_flat.specs.Rings
-pub use Rattle.wkt_flat.specs.Corners
-pub use Rattle.wkt_flat.specs.Closed
 pub use Rattle.wkt_flat.specs.Equal as FlatEqual
-pub use Rattle.wkt_flat.specs.Exact as FlatExact
+pub use Rattle.wkt_flat.specs.Shape as FlatShape
+pub use Rattle.wkt_flat.specs.Rings
 pub use Rattle.wkt_flat.specs.declared.coord.Coord as FlatCoord
 -- walks over its coordinates
 pub use Rattle.wkt_visit.specs.Coords as FlatCoords
-pub use Rattle.wkt_visit.specs.Visits
 pub use Rattle.wkt_visit.specs.Bounds
 pub use Rattle.wkt_visit.specs.Mapped
 -- conversions between the two
 pub use Rattle.wkt_convert.specs.Flatten
-pub use Rattle.wkt_convert.specs.Outcomes
 pub use Rattle.wkt_convert.specs.Kinds as FlatKinds
 pub use Rattle.wkt_convert.specs.Back
 pub use Rattle.wkt_convert.specs.Sent

@@ -4,7 +4,7 @@ ghost use Rattle.std.specs.Io.KnownBytes.{IsAtEnd};
 ghost use Rattle.std.specs.String.{string_bytes};
 ghost use Rattle.wkt_num.specs.Sink.{next_count};
 ghost use Rattle.wkt_flat.specs.Equal.{coord_eq};
-ghost use Rattle.wkt_flat_read.specs.Read.{IsFlatFront};
+ghost use Rattle.wkt_flat_read.specs.Trees.{IsFlatFront};
 ghost use Rattle.wkt.specs.FromText.{AreNoText, BytesAnswer, Cause, IsTextUnread, OnAllRead, OnSource, TextAnswers, UnlessFailed, cause_of};
 
 use std::alloc::Global;

@@ -6,8 +6,7 @@ ghost use Rattle.wkt_access.specs.Texts.{shape_text};
 ghost use Rattle.wkt_access.specs.declared.dimensions.Dimension.{Dimension};
 ghost use Rattle.wkt_types.specs.Tree.{tree, members};
 ghost use Rattle.wkt_types.specs.Values.{tree_shape};
-ghost use Rattle.wkt.specs.Same.{IsWritable};
-ghost use Rattle.wkt.specs.WrittenAlike.{written_rings, coord_alike, point_alike, line_alike, polygon_alike, tree_alike, trees_alike};
+ghost use Rattle.wkt.specs.Same.{IsWritable, written_rings, coord_alike, point_alike, line_alike, polygon_alike, tree_alike, trees_alike};
 
 use wkt_access::Dimension;
 use wkt_num::WktNum;

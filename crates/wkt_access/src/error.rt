@@ -52,7 +52,7 @@ impl From<AllocError> for Error {
 /// What a `Display` implementation returns: the sink's own error, or else the one error that a formatter has.
 impl From<Error> for fmt::Error {
     ghost use Rattle.std.specs.Prelude.{◌≡◌};
-    ghost use Rattle.wkt_access.specs.Errors.{fmt_error_of};
+    ghost use Rattle.wkt_access.specs.Faults.{fmt_error_of};
 
     ghost from_gives = { λ error result. result ≡ fmt_error_of error };
 

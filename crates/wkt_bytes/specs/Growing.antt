@@ -2,13 +2,11 @@
 use Rattle.std.specs.Prelude.{◌≡◌, ℕ, List, ◌++◌, Some}
 use Rattle.std.specs.Fmt.{HasWrittenStyled, IsFlush}
 use Rattle.wkt_num.specs.Sink.{Sink, GrewBy, revealing}
-use Rattle.wkt_num.specs.Borrowed.{string_sink, text_of}
-use Rattle.wkt_num.specs.Counted.{writer_of, counted_sink, formatter_of, formatted_sink}
+use Rattle.wkt_num.specs.Borrowed.{string_sink, text_of, writer_of, counted_sink, formatter_of, formatted_sink}
 use Rattle.wkt_num.specs.declared.counted.CountedText.{CountedText}
 use Rattle.wkt_num.specs.declared.formatted.FormatterText.{FormatterText}
 use Rattle.wkt_bytes.specs.Sinks.{SinkOfBytes}
-use Rattle.wkt_bytes.specs.Wrapped.{Wrapped}
-use Rattle.wkt_bytes.specs.Wrapper.{wrapped_writer, held_bytes, wrapped_sink}
+use Rattle.wkt_bytes.specs.Wrapper.{Wrapped, wrapped_writer, held_bytes, wrapped_sink}
 use Rattle.wkt_bytes.specs.Gathered.{gathered_sink, gathered_text, holding}
 use Rattle.wkt_bytes.specs.declared.gathered.GatheredText.{GatheredText}
 

@@ -1,8 +1,5 @@
-pub mod Sinks
-pub mod Counted
-pub mod Wrapped
 pub mod Views
 pub mod Wrapper
-pub mod ReadAll
+pub mod Sinks
 pub mod Gathered
 pub mod Growing

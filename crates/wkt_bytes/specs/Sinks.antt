@@ -1,9 +1,15 @@
--- Sinks of bytes: what they hold, how they count failures, and what went out.
+-- Sinks and sources of bytes: what they hold, how they count failures, what went out, and the errors of a source that is
+-- read.
+use Rattle.std.proofs.Common.{◌∙◌}
 use Rattle.std.specs.Prelude.{◌≡◌, ℕ, ◌<◌, zero, suc, List, [], ◌∷◌, ◌++◌, length, take, Option, Result, Ok, Err, OnOk, OnErr, refl}
 use Rattle.std.specs.Borrow.{MutBor}
-use Rattle.std.proofs.Common.{◌∙◌}
 use Rattle.std.specs.Io.KnownBytes.{Appends}
 use Rattle.wkt_num.specs.Sink.{next_count}
+use Rattle.wkt_bytes.specs.declared.sinks.Counted.{Counted}
+use Rattle.wkt_bytes.specs.declared.read.ReadAllError.{ReadAllError}
+use Rattle.wkt_bytes.specs.declared.read.ReadAllError.TheVariants.{Read, Memory}
+
+-- Sinks of bytes: what they hold, how they count failures, and what went out.
 
 -- What is known of a sink of bytes.
 pub record SinkOfBytes (D : Type 0) : Type 1 where
@@ -72,3 +78,27 @@ module _ {D : Type 0} (sink : SinkOfBytes D) where
     pub some : OnErr result (0 < length bs)
     pub failed : OnErr result (sink.failures new ≡ next_count (sink.failures old))
     pub keeps : sink.keeps old new
+
+-- A writer or reader with a count of its failures.
+
+-- The writer or reader.
+abbrev pub inner_of : {D : Type 0} → Counted D → D
+inner_of c = c.inner
+
+-- How many of its failures were counted.
+abbrev pub counted : {D : Type 0} → Counted D → ℕ
+counted c = c.count
+
+-- Facts for the errors of a source that is read.
+
+-- The fact is claimed where the source failed.
+abbrev pub OnRead : {A : Type 0} → Result A ReadAllError → Type 0 → Type 0
+OnRead (Ok x) P = Unit {0}
+OnRead (Err (Read e)) P = P
+OnRead (Err (Memory e)) P = Unit {0}
+
+-- The fact is claimed unless the source failed.
+abbrev pub UnlessRead : {A : Type 0} → Result A ReadAllError → Type 0 → Type 0
+UnlessRead (Ok x) P = P
+UnlessRead (Err (Read e)) P = Unit {0}
+UnlessRead (Err (Memory e)) P = P

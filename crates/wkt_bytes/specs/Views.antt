@@ -1,7 +1,7 @@
 -- How the fields of a wrapper are seen. Only its model cites this file.
 use Rattle.std.specs.Prelude.{Option, Some, None, Bool, true, false, take}
 use Rattle.std.specs.declared.io.Error.{Error}
-use Rattle.wkt_bytes.specs.Wrapped.{Wrapped}
+use Rattle.wkt_bytes.specs.Wrapper.{Wrapped}
 use Rattle.wkt_bytes.specs.declared.wrapper.WrapperState.{WrapperState}
 use Rattle.wkt_bytes.specs.declared.wrapper.WrapperState.TheVariants.{Well, Faulty, Taken}
 use Rattle.wkt_bytes.specs.declared.wrapper.WriterWrapper.TheInside.{Inside}

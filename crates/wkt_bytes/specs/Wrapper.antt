@@ -1,13 +1,30 @@
--- What a wrapper holds, and what its calls do. `WriterWrapper`'s sink names the lemmas here, so they can't stand in proofs.
-use Rattle.std.specs.Prelude.{◌≡◌, ℕ, List, [], ◌++◌, Option, Bool, true, false, is_some, refl}
-use Rattle.std.specs.Io.KnownBytes.{Appends}
+-- What a contract sees of a wrapper: what it holds, and what its calls do. `WriterWrapper`'s sink names the lemmas here, so
+-- they can't stand in proofs.
 use Rattle.std.proofs.Common.{◌∙◌, ap, append_assoc}
+use Rattle.std.specs.Prelude.{ℕ, List, Option, Bool, ◌≡◌, [], ◌++◌, true, false, is_some, refl}
+use Rattle.std.specs.declared.io.Error.{Error}
+use Rattle.std.specs.Io.KnownBytes.{Appends}
 use Rattle.std.proofs.KnownBytes.{Appends-nil, Appends-trans}
 use Rattle.std.proofs.lemmas.List.{append-nil}
-use Rattle.std.specs.declared.io.Error.{Error}
 use Rattle.wkt_num.specs.Sink.{next_count, Sink}
 use Rattle.wkt_bytes.specs.Sinks.{SinkOfBytes}
-use Rattle.wkt_bytes.specs.Wrapped.{Wrapped}
+
+-- What a contract sees of a wrapper.
+
+-- A wrapper: where its bytes go, and what its calls left.
+pub record Wrapped (W : Type 0) : Type 0 where
+  -- The writer.
+  pub writer : W
+  -- What the wrapper was given and has not written yet.
+  pub held : List ℕ
+  -- Whether no error came.
+  pub well : Bool
+  -- The error that came, if it was not taken yet.
+  pub error : Option Error
+  -- How many calls have failed, modulo 2 ^ 64.
+  pub failures : ℕ
+
+-- What a wrapper holds, and what its calls do. `WriterWrapper`'s sink names the lemmas here, so they can't stand in proofs.
 
 -- The writer.
 abbrev pub wrapped_writer : {W : Type 0} → Wrapped W → W

@@ -2,7 +2,7 @@
 ghost use Rattle.std.specs.Prelude.{◌≡◌, ℕ, List, [], ◌∷◌, ◌++◌, IfOk, OnOk, OnErr, Option};
 ghost use Rattle.std.specs.Io.KnownBytes.{Consumes, IsAtEnd};
 ghost use Rattle.wkt_num.specs.Sink.{next_count};
-ghost use Rattle.wkt_bytes.specs.ReadAll.{OnRead, UnlessRead};
+ghost use Rattle.wkt_bytes.specs.Sinks.{OnRead, UnlessRead};
 
 use crate::sinks::ByteSource;
 use std::alloc::{AllocError, Global};

@@ -66,7 +66,7 @@ pub struct Counted<D> {
 }
 
 impl<D> Counted<D> {
-    ghost use Rattle.wkt_bytes.specs.Counted.{inner_of, counted};
+    ghost use Rattle.wkt_bytes.specs.Sinks.{inner_of, counted};
 
     /// This writer or reader, of which no failure has been counted.
     pub fn new(inner: D) -> Self

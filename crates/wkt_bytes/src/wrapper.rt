@@ -36,7 +36,7 @@ pub struct WriterWrapper<W> {
 
 impl<W> Model for WriterWrapper<W> {
     ghost use Rattle.std.specs.Prelude.{◌≤◌};
-    ghost use Rattle.wkt_bytes.specs.Wrapped.{Wrapped};
+    ghost use Rattle.wkt_bytes.specs.Wrapper.{Wrapped};
 
     ghost Value = { Wrapped W };
 
@@ -90,7 +90,7 @@ pub fn copy_piece(from: &[u8], to: &mut [u8])
 
 /// Copies a piece of at most two vectors, its first bytes and its last ones, which overlap.
 #[inline(always)]
-#[tactic(auto, using(crate::proofs::Gathering::both_ends))]
+#[tactic(auto, using(crate::proofs::SinkSteps::both_ends))]
 fn copy_ends<const N: usize>(from: &[u8], to: &mut [u8])
     requires long { N ≤ length from.now }
     requires short { length from.now ≤ 2 * N }
@@ -188,7 +188,7 @@ impl<W: ByteSink> WriterWrapper<W> {
     }
 
     // Takes the bytes, and puts out the array each time that it is full. Most pieces just fit.
-    #[tactic(auto, using(crate::proofs::Gathering::leaves_as_is, crate::proofs::Gathering::not_well))]
+    #[tactic(auto, using(crate::proofs::SinkSteps::leaves_as_is, crate::proofs::SinkSteps::not_well))]
     fn accept(&mut self, bytes: &[u8]) -> fmt::Result
         ensures ok { OnOk result (Gathers W.sink self.old bytes.now self.new) }
         ensures well { OnOk result (is_well self.old ≡ true) }
@@ -235,7 +235,7 @@ impl<W: ByteSink> WriterWrapper<W> {
     ///
     /// # Errors
     /// `fmt::Error` where the writer failed, in this call or before it.
-    #[tactic(auto, using(crate::proofs::Gathering::leaves_as_is, crate::proofs::Gathering::not_well))]
+    #[tactic(auto, using(crate::proofs::SinkSteps::leaves_as_is, crate::proofs::SinkSteps::not_well))]
     pub fn finish(&mut self) -> fmt::Result
         ensures ok { OnOk result (Gathers W.sink self.old [] self.new) }
         ensures well { OnOk result (is_well self.old ≡ true) }

@@ -17,7 +17,7 @@ use Rattle.wkt_access.specs.declared.dimensions.Dimension.TheVariants.{XY, XYZ, 
 use Rattle.wkt_write.proofs.Writable.{writable}
 use Rattle.wkt_types.specs.declared.geometry_type.GeometryType.{GeometryType}
 use Rattle.wkt_read.specs.Front.{Front}
-use Rattle.wkt_read.specs.Kinds.{kind_of, dim_of}
+use Rattle.wkt_read.specs.Header.{kind_of, dim_of}
 use Rattle.wkt_read.specs.Laws.{ReadsBack}
 use Rattle.wkt_machine.specs.Events.{Event, events}
 use Rattle.wkt_canonical.specs.PenMaker.{Fits, pen_maker, IsFresh, IsWithin}
@@ -30,7 +30,7 @@ use Rattle.wkt_calls.specs.Answer.{kind_number, dimension_number, IsHandedOut, H
 use Rattle.wkt_calls.specs.Arrays.{AreArrays}
 use Rattle.wkt_c.specs.ColumnArrays.{IsTextOf, AreOfSome}
 use Rattle.wkt_types.specs.declared.geometry_type.GeometryType.TheVariants as kind
-use Rattle.wkt_c.specs.Told.{CopiesOutText}
+use Rattle.wkt_c.specs.Rows.{CopiesOutText}
 
 -- How long the text of a number of 64 bits is, at most.
 

@@ -1,5 +1,4 @@
 pub mod Column
-pub mod Rows
 pub mod Chunks
 pub mod ColumnArrays
-pub mod Told
+pub mod Rows

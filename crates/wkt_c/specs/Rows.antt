@@ -1,12 +1,16 @@
--- The answers to a column as they grow: texts, arrays, and texts of arrays. Only private contracts cite these words.
-use Rattle.std.specs.Prelude.{◌≡◌, ◌++◌, List, [], ◌∷◌, length, ℕ, Option, Bool, ℤ, map}
+-- The answers to a column as they grow: texts, arrays, and texts of arrays; and what a caller is answered who gave arrays.
+-- Only private contracts cite these words.
+use Rattle.std.specs.Prelude.{◌≡◌, ◌++◌, List, [], ◌∷◌, length, ℕ, Option, Bool, ℤ, map, ◌≢◌, ◌⊎◌, ◌≤◌}
 use Rattle.wkt_c.specs.declared.joined.Joined.{Joined}
 use Rattle.wkt_c.specs.Column.{AreRows, IsRowAnswer, AreRowAnswers}
 use Rattle.wkt_c.specs.declared.column.Rows.{Rows}
-use Rattle.wkt_c.specs.ColumnArrays.{RowArrays, ColumnArrays, IsRowArrays, AreRowArrays, as_column, IsRowText, AreRowTexts}
+use Rattle.wkt_c.specs.ColumnArrays.{RowArrays, ColumnArrays, IsRowArrays, AreRowArrays, as_column, IsRowText, AreRowTexts, IsTextOf, IsNoTextAt}
 use Rattle.wkt_c.specs.declared.column_arrays.ArrayRows.{ArrayRows}
 use Rattle.wkt_c.specs.declared.column_arrays.RowHead.{RowHead}
 use Rattle.wkt_c.specs.declared.column_texts.GivenRows.{GivenRows}
+use Rattle.wkt_calls.specs.Answer.{IsHandedOut, HasNoRoom}
+
+-- The answers to a column as they grow: texts, arrays, and texts of arrays. Only private contracts cite these words.
 
 -- Lists joined in a row as they grow. Only private contracts cite these words.
 
@@ -120,3 +124,17 @@ AddsArraysText places null row a b = AddsAnswerRow (λ answer status. IsRowText 
 -- These are the texts of so many first rows.
 abbrev pub HoldsTexts : ℕ → ColumnArrays → List ℕ → ℕ → Rows → Type 0
 HoldsTexts places arrays valid rows r = AreRowTexts places arrays valid rows r.texts.items.items r.texts.ends.items r.statuses.items
+
+-- What a caller is answered who gave arrays. Only private contracts cite these words.
+
+-- Memory ran out, or what was asked for isn't there.
+abbrev pub IsRefused : Type 0 → ℕ → Type 0
+IsRefused There status = (status ≡ 22) ⊎ ((status ≡ 26) × (There → ⊥))
+
+-- The text of the arrays was handed out, or there was no room for it; else the buffer is as it was, and the status says why.
+pub record CopiesOutText (places kind dimension : ℕ) (numbers : List ℤ) (rings polygons old new : List ℕ) (needed_old needed_new status : ℕ) : Type 0 where
+  pub written : status ≡ 0 → (answer : List ℕ) × IsTextOf places kind dimension numbers rings polygons answer × IsHandedOut answer needed_new old new
+  pub small : status ≡ 21 → (answer : List ℕ) × IsTextOf places kind dimension numbers rings polygons answer × HasNoRoom answer needed_new old
+  pub others : 1 ≤ status → status ≢ 21 → IsNoTextAt places kind dimension numbers rings polygons status
+  pub kept : 1 ≤ status → new ≡ old
+  pub needed_kept : 1 ≤ status → status ≢ 21 → needed_new ≡ needed_old

@@ -5,7 +5,7 @@ ghost use Rattle.wkt_types.specs.declared.geometry_type.GeometryType.{GeometryTy
 ghost use Rattle.wkt_canonical.specs.PenMaker.{IsWithin, written_of};
 ghost use Rattle.wkt_calls.specs.Answer.{kind_number, dimension_number};
 ghost use Rattle.wkt_c.specs.ColumnArrays.{IsTextOf, AreOfSome};
-ghost use Rattle.wkt_c.specs.Told.{IsRefused, CopiesOutText};
+ghost use Rattle.wkt_c.specs.Rows.{IsRefused, CopiesOutText};
 
 use std::alloc::Global;
 use wkt_calls::at_places;

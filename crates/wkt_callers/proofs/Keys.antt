@@ -6,13 +6,12 @@ use Rattle.std.specs.String.{string_eq}
 use Rattle.std.proofs.lemmas.Slice.Eq.{bytes_eq-Decides}
 use Rattle.std.specs.List.{All}
 use Rattle.std.proofs.lemmas.List.Elements.{All-append, All-cons, All-nil}
-use Rattle.wkt.specs.Lawful.{IsLawful}
+use Rattle.wkt.specs.WellFormed.{IsLawful, IsWellFormed}
 use Rattle.wkt.specs.Shapes.{Shape, canon}
 use Rattle.wkt.specs.Sinks.{SinkOfBytes}
 use Rattle.wkt.specs.Sent.{Sends}
 use Rattle.wkt.specs.ToWktError.{ToWktError}
 use Rattle.wkt.specs.Texts.{text, shape_text}
-use Rattle.wkt.specs.WellFormed.{IsWellFormed}
 use Rattle.wkt.specs.FlatEqual.{coord_eq}
 use Rattle.wkt.specs.FlatShape.{flat_shape}
 use Rattle.wkt.specs.FlatTree.{Flat}
@@ -33,7 +32,7 @@ use Rattle.wkt.proofs.Displays.{shown_is}
 use Rattle.wkt.specs.Tree.{Tree, collection, more_trees, no_trees}
 use Rattle.wkt_callers.specs.Fronts.{pair}
 use Rattle.wkt.specs.Sink.{Sink, Adds, Breaks, next_count}
-use Rattle.wkt.proofs.Lists.{take_one_more}
+use Rattle.wkt.proofs.Collections.{take_one_more}
 use Rattle.wkt.specs.WriteError.{Error}
 use Rattle.wkt.specs.WriteError.TheVariants.{FmtError, RectUnsupportedDimension, UnknownDimension, TooFewNumbers, Memory}
 use Rattle.wkt.specs.Writes.{BrokenOff, Fails, OnFmtError}

@@ -6,7 +6,7 @@ use Rattle.wkt.specs.Sinks.{BeginningOut}
 use Rattle.wkt.specs.ConvertError.{ConvertError}
 use Rattle.wkt_callers.specs.declared.flat_from_reader.CopyError.{CopyError}
 use Rattle.wkt.specs.Texts.{shape_text}
-use Rattle.wkt.specs.Rings.{Rings}
+use Rattle.wkt.specs.Rings.{Rings, Corners}
 use Rattle.wkt.specs.FlatTree.{Flat}
 use Rattle.wkt.specs.FlatCoord.{Coord}
 use Rattle.wkt.specs.Outcome.{value}
@@ -19,7 +19,6 @@ use Rattle.wkt_callers.specs.declared.flat_from_reader.CopyError.TheVariants as 
 use Rattle.wkt.specs.Flatten.{flat}
 use Rattle.wkt.specs.FlatEqual.{coord_eq}
 use Rattle.wkt.specs.FlatCoords.{all_coords}
-use Rattle.wkt.specs.Corners.{Corners}
 use Rattle.wkt.specs.Bounds.{IsBounds}
 
 -- A polygon that is read as a flat one, and written.

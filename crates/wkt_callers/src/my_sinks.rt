@@ -1,7 +1,6 @@
 //! A custom source and custom sinks of bytes and of text, and the program's `run` over them.
 ghost use Rattle.std.specs.Prelude.{◌≡◌, ◌<◌, IfOk, []};
-ghost use Rattle.wkt_lines.specs.Numbers.{read_line, print_line};
-ghost use Rattle.wkt_lines.specs.Output.{OnRunRead, IsOutput};
+ghost use Rattle.wkt_lines.specs.Output.{read_line, print_line, OnRunRead, IsOutput};
 
 use std::alloc::Global;
 use std::io::ErrorKind;

@@ -1,4 +1,2 @@
-pub mod CopiedOut
-pub mod Padded
 pub mod Pieces
-pub mod FirstWord
+pub mod Padded

@@ -11,8 +11,7 @@ use Rattle.wkt_types.specs.declared.geometry_type.GeometryType.{GeometryType}
 use Rattle.wkt_types.specs.declared.geometry_type.GeometryType.TheVariants as kind
 use Rattle.wkt_read.specs.Front.{Front, HasNoFront}
 use Rattle.wkt_read.specs.Answered.{HasBadNumber}
-use Rattle.wkt_read.specs.Header.{Named, NoSpace, NoParen, header_rule}
-use Rattle.wkt_read.specs.Infer.{IsUnsupported}
+use Rattle.wkt_read.specs.Header.{Named, NoSpace, NoParen, header_rule, IsUnsupported}
 use Rattle.wkt_read.specs.Messages.{message_number}
 use Rattle.wkt_read.specs.Refusal.{IsRefusedWith}
 use Rattle.wkt_read.specs.declared.messages.Message.{Message}

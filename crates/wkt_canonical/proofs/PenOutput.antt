@@ -24,27 +24,25 @@ use Rattle.wkt_access.specs.Values.{Value}
 use Rattle.wkt_access.specs.WellFormed.{IsWellFormed}
 use Rattle.wkt_read.specs.Front.{Front, HasNoFront}
 use Rattle.wkt_read.specs.Spanned.{spanned}
-use Rattle.wkt_read.proofs.LawLemmas.OneForm.{geometry_fits}
-use Rattle.wkt_read.proofs.LawLemmas.OnePlacing.{spanned-few}
-use Rattle.wkt_events.specs.Remaining.{line_of, remaining_spanned}
+use Rattle.wkt_read.proofs.OneForm.{geometry_fits}
+use Rattle.wkt_read.proofs.OnePlacing.{spanned-few}
+use Rattle.wkt_events.specs.Remaining.{line_of, remaining_spanned, IsNumberAt}
 use Rattle.wkt_events.proofs.Utf8Lines.{line-within}
-use Rattle.wkt_machine.specs.BytesView.{bytes_view}
-use Rattle.wkt_machine.specs.Drives.{is_over}
+use Rattle.wkt_machine.specs.View.{bytes_view}
+use Rattle.wkt_machine.specs.Machine.{is_over}
 use Rattle.wkt_machine.specs.Goes.{GoesFrom, RefusesFrom}
 use Rattle.wkt_machine.specs.Machines.{state_of}
 use Rattle.wkt_machine.specs.declared.bytes.Bytes.{Bytes}
 use Rattle.wkt_machine.specs.declared.source.At.{At}
 use Rattle.wkt_machine.proofs.FrontValues.{front_made, no_front_there, refused}
 use Rattle.wkt_machine.proofs.TableMessages.{stops_there}
-use Rattle.wkt_canonical.specs.Canonical.{IsCanonicalTo, HasWritten, WritesFront, WritesCanonical}
+use Rattle.wkt_canonical.specs.Canonical.{IsCanonicalTo, HasWritten, WritesFront, WritesCanonical, HasLongText}
 use Rattle.wkt_canonical.specs.Through.{StopsIn, WritesEvents}
 use Rattle.wkt_canonical.specs.declared.pen.Pen.{Pen}
 use Rattle.wkt_canonical.specs.declared.canonical.NoRoom.{NoRoom}
 use Rattle.wkt_canonical.proofs.Texts.{events_write}
-use Rattle.wkt_canonical.specs.LongTexts.{HasLongText}
-use Rattle.wkt_num.specs.Kept.{KeepsText, BeginsNumber}
+use Rattle.wkt_num.specs.Number.{KeepsText, BeginsNumber}
 use Rattle.wkt_read.specs.Lexemes.{without_plus}
-use Rattle.wkt_events.specs.Numbers.{IsNumberAt}
 use Rattle.wkt_events.proofs.Runs.{kept-there}
 use Rattle.wkt_machine.specs.Makers.{MakesNumber}
 use Rattle.wkt_machine.specs.Room.{shortest, number_cost, LeavesBehind}

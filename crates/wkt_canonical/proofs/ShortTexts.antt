@@ -15,9 +15,9 @@ use Rattle.wkt_num.proofs.ReadNumbers.{numeral_from}
 use Rattle.wkt_num.specs.Decimal.{before_point, after_point, units_of, read_magnitude, read_decimal, with_sign, and_then, fraction_digits, fraction_text, magnitude_text, decimal_text}
 use Rattle.wkt_num.specs.DecimalLaws.{not_negative, fraction-none, ten_pos, keep_some, magnitude-small}
 use Rattle.wkt_read.specs.Lexemes.{without_plus}
-use Rattle.wkt_canonical.specs.LongTexts.{HasLongText}
+use Rattle.wkt_canonical.specs.Canonical.{HasLongText}
 use Rattle.wkt_num.specs.Number.{begins_number, IsNumberText}
-use Rattle.wkt_events.specs.Numbers.{plus_len}
+use Rattle.wkt_events.specs.Remaining.{plus_len}
 use Rattle.wkt_events.proofs.Runs.{behind-plus}
 use Rattle.wkt_machine.specs.Room.{shortest}
 

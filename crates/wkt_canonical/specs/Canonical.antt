@@ -1,14 +1,26 @@
--- The canonical text of what a text begins with.
-use Rattle.std.specs.Prelude.{◌≡◌, ℕ, ◌++◌, List, length, take, ◌+◌, ◌*◌, ◌<◌, ◌≤◌, ◌⊎◌, Option, Some, None, Result, Ok, Err, Bool, IsUtf8}
+-- The canonical text of what a text begins with, and numbers whose text is much longer than what they are read from.
+use Rattle.std.specs.Prelude.{◌≡◌, ◌≢◌, ℕ, ◌*◌, ◌≤◌, List, [], length, Option, Some, ◌++◌, take, ◌+◌, ◌<◌, ◌⊎◌, None, Result, Ok, Err, Bool, IsUtf8}
+use Rattle.wkt_read.specs.Lexemes.{without_plus}
 use Rattle.wkt_access.specs.Values.{Value}
 use Rattle.wkt_access.specs.Shapes.{shape_of}
 use Rattle.wkt_access.specs.Texts.{shape_text}
 use Rattle.wkt_read.specs.Front.{Front, HasNoFront}
 use Rattle.wkt_events.specs.Remaining.{line_of}
-pub use Rattle.wkt_read.specs.Explained.{EndsFront}
-use Rattle.wkt_canonical.specs.LongTexts.{HasLongText}
 use Rattle.wkt_canonical.specs.declared.canonical.NoRoom.{NoRoom}
 use Rattle.wkt_canonical.specs.declared.canonical.TextWritten.{TextWritten}
+pub use Rattle.wkt_read.specs.Explained.{EndsFront}
+
+-- Numbers whose text is much longer than what they are read from.
+
+-- Some number's text is at least twice as long as a run that is read as the number.
+pub record HasLongText {N : Type 0} (read : List ℕ → Option N) (num : N → List ℕ) : Type 0 where
+  pub run : List ℕ
+  pub number : N
+  pub some : run ≢ []
+  pub reads : read (without_plus run) ≡ Some number
+  pub long : 2 * length run ≤ length (num number)
+
+-- The canonical text of what a text begins with.
 
 module _ {N : Type 0} (read : List ℕ → Option N) (num : N → List ℕ) where
   -- The text has a front that ends at `end`, and the other text is the canonical one of the front's value.

@@ -1,5 +1,4 @@
 pub mod Written
-pub mod LongTexts
 pub mod PenMaker
 pub mod Spaces
 pub mod Canonical

@@ -6,12 +6,11 @@ use Rattle.std.proofs.lemmas.Bool.{cases_lt}
 use Rattle.wkt_canonical.specs.Written.{EventsWritten, write, write_all}
 use Rattle.wkt_canonical.specs.declared.pen.Pen.{Pen}
 use Rattle.wkt_read.specs.Lexemes.{starts_number, without_plus}
-use Rattle.wkt_events.specs.Remaining.{IsRunEnd}
-use Rattle.wkt_events.specs.Numbers.{IsNumberAt}
+use Rattle.wkt_events.specs.Remaining.{IsRunEnd, IsNumberAt}
 use Rattle.wkt_machine.specs.Events.{Event}
 use Rattle.wkt_machine.specs.Makers.{Maker}
 use Rattle.wkt_machine.specs.Room.{number_cost}
-use Rattle.wkt_canonical.specs.LongTexts.{HasLongText}
+use Rattle.wkt_canonical.specs.Canonical.{HasLongText}
 
 -- What a pen has written.
 

@@ -6,10 +6,9 @@ use Rattle.wkt_read.specs.Refusal.{IsRefusedWith}
 use Rattle.wkt_read.specs.declared.messages.Message.{Message}
 use Rattle.wkt_events.specs.Remaining.{line_of}
 use Rattle.wkt_machine.specs.Events.{events}
-use Rattle.wkt_machine.specs.Stops.{StopsAt}
+use Rattle.wkt_machine.specs.Goes.{StopsAt}
 use Rattle.wkt_machine.specs.declared.machine.Machine.{Machine}
-use Rattle.wkt_canonical.specs.Canonical.{IsCanonicalTo}
-use Rattle.wkt_canonical.specs.LongTexts.{HasLongText}
+use Rattle.wkt_canonical.specs.Canonical.{IsCanonicalTo, HasLongText}
 use Rattle.wkt_canonical.specs.PenMaker.{Made}
 use Rattle.wkt_canonical.specs.declared.pen.Pen.{Pen}
 use Rattle.wkt_canonical.specs.declared.canonical.Next.{Next}

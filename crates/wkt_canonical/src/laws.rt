@@ -4,7 +4,7 @@ ghost use Rattle.std.specs.Fmt.{decimal, signed_decimal};
 ghost use Rattle.wkt_num.specs.Decimal.{read_decimal, decimal_text};
 ghost use Rattle.wkt_num.specs.Whole.{read_signed, read_unsigned};
 ghost use Rattle.wkt_canonical.specs.Written.{WritesTexts};
-ghost use Rattle.wkt_canonical.specs.LongTexts.{HasLongText};
+ghost use Rattle.wkt_canonical.specs.Canonical.{HasLongText};
 
 use wkt_num::WktNum;
 

@@ -2,7 +2,7 @@
 ghost use Rattle.std.specs.Bool.{OnTrue};
 ghost use Rattle.std.specs.Prelude.{◌≡◌, ◌+◌, ◌-◌, ◌*◌, ◌<◌, ◌≤◌, length, slice_range, IfSome, IfNone};
 ghost use Rattle.wkt_read.specs.Lexemes.{without_plus};
-ghost use Rattle.wkt_events.specs.Numbers.{NoNumber};
+ghost use Rattle.wkt_events.specs.Remaining.{NoNumber};
 ghost use Rattle.wkt_machine.specs.Room.{shortest};
 ghost use Rattle.wkt_canonical.specs.PenMaker.{HasBytes, WritesNumber, Numbered, HasSpace};
 

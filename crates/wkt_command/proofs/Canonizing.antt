@@ -1,17 +1,23 @@
--- What becomes of a text that `wkt canon` answers.
-use Rattle.std.proofs.Common.{◌≡◌, ℕ, ℤ, List, [], ◌∷◌, ◌++◌, take, drop, min, Option, Result, Ok, Err, OnOk, IsUtf8, ◌⊎◌, ⊎_elim, true, false, sym, ap, ◌∙◌, subst}
+-- What becomes of a text that `wkt canon` answers, bytes that are replaced one by one, and keys that are compared by
+-- their bytes.
+use Rattle.std.proofs.Common.{◌≡◌, ℕ, ℤ, List, [], ◌∷◌, ◌++◌, take, drop, min, Option, Result, Ok, Err, OnOk, IsUtf8, ◌⊎◌, ⊎_elim, true, false, sym, ap, ◌∙◌, subst, refl, Bool, Some, None, if◌then◌else◌, unwrap_or, zero, suc, ◌+◌, ◌<◌, ◌≤◌, length, get_or, slice_set, map, add-one, arith}
 use Rattle.std.specs.Io.KnownBytes.{Appends, Keeps}
 use Rattle.std.proofs.KnownBytes.{Appends-kept}
+use Rattle.std.specs.Str.{bytes_eq}
+use Rattle.std.specs.Map.{lookup, KeepsOthers}
+use Rattle.std.specs.Cmp.Lexicographic.{bytes_decides, nat_list_eq_equiv}
 use Rattle.wkt_num.specs.Bytes.{AllWhite}
 use Rattle.wkt_num.specs.Decimal.{decimal_text, read_decimal}
 use Rattle.wkt_access.specs.Shapes.{shape_of}
 use Rattle.wkt_access.specs.Texts.{shape_text}
 use Rattle.wkt_access.specs.Values.{Value}
-use Rattle.wkt_read.proofs.LawLemmas.OneForm.{front_one}
+use Rattle.wkt_read.proofs.OneForm.{front_one}
 use Rattle.wkt_explain.specs.declared.explanation.Explanation.{Explanation}
 use Rattle.wkt_command.specs.Canon.{IsReadAs, refused_line, Canonizes, IsVerdict}
 use Rattle.wkt_command.specs.declared.options.Options.{Options}
 use Rattle.wkt_command.specs.declared.verdict.Verdict.TheVariants.{Read, Refused, Rest}
+
+-- What becomes of a text that `wkt canon` answers.
 
 pub ok-map : {A E : Type 0} (r : Result A E) (P Q : Type 0) → (P → Q) → OnOk r P → OnOk r Q
 ok-map (Ok x) P Q f h = f h
@@ -49,3 +55,56 @@ canonizes-kept o text old middle new h k = record {
   read = λ u v e is. Appends-kept old middle new _ (h.read u v e is) k;
   refused = λ none. Appends-kept old middle new _ (h.refused none) k;
 }
+
+-- Bytes that are replaced one by one, and keys that are compared by their bytes.
+
+-- What a map whose keys are compared by their bytes finds after one more key.
+
+module _ {K X : Type 0} (bytes : K → List ℕ) (bs : List ℕ) (old new : List (K × X)) where
+  abbrev at_bytes : List ℕ → List (K × X) → Option X
+  at_bytes cs es = lookup (λ k. bytes_eq cs (bytes k)) es
+
+  others_stay : KeepsOthers (λ x y. bytes_eq (bytes x) (bytes y)) (λ k. bytes_eq bs (bytes k)) old new → (cs : List ℕ) → bytes_eq bs cs ≡ false →
+      at_bytes cs new ≡ at_bytes cs old
+  unfolding KeepsOthers
+  others_stay h cs n =
+      h (λ k. bytes_eq cs (bytes k)) (λ x y. nat_list_eq_equiv.congr cs (bytes x) (bytes y))
+      (λ k y. nat_list_eq_equiv.symm cs (bytes k) ∙ (ap (λ l. bytes_eq l cs) (sym ((bytes_decides bs (bytes k)).0 y)) ∙ n))
+
+  pub found_after : (v : X) → KeepsOthers (λ x y. bytes_eq (bytes x) (bytes y)) (λ k. bytes_eq bs (bytes k)) old new → at_bytes bs old ≡ None → at_bytes bs new ≡ Some v →
+      (cs : List ℕ) → at_bytes cs new ≡ (if bytes_eq bs cs then Some (unwrap_or (at_bytes cs old) v) else at_bytes cs old)
+  found_after v h none some cs = go (bytes_eq bs cs) refl
+    where
+      go : (b : Bool) → bytes_eq bs cs ≡ b → at_bytes cs new ≡ (if b then Some (unwrap_or (at_bytes cs old) v) else at_bytes cs old)
+      go true y = subst (λ l. at_bytes l new ≡ Some (unwrap_or (at_bytes l old) v)) ((bytes_decides bs cs).0 y) (some ∙ sym (ap (λ o. Some (unwrap_or o v)) none))
+      go false n = others_stay h cs n
+
+-- A list of bytes that are replaced one by one, each by its image.
+
+module _ (f : ℕ → ℕ) where
+  -- the first i are replaced
+  abbrev pub replaced : ℕ → List ℕ → List ℕ
+  replaced i bs = map f (take i bs) ++ drop i bs
+
+  next : (bs : List ℕ) (i b : ℕ) → i < length bs → b ≡ f (get_or (replaced i bs) i 0) → slice_set (replaced i bs) i b ≡ replaced (suc i) bs
+  next [] i b h k = absurd (omega arith)
+  next (a ∷ bs) zero b h k = ap (λ z. z ∷ bs) k
+  next (a ∷ bs) (suc i) b h k = ap (λ l. f a ∷ l) (next bs i b (omega arith) k)
+
+  -- one more is
+  pub replaced_next : (bs cs : List ℕ) (i b : ℕ) → i < length bs → cs ≡ replaced i bs → b ≡ f (get_or cs i 0) → slice_set cs i b ≡ replaced (i + 1) bs
+  replaced_next bs cs i b h e k =
+      ap (λ l. slice_set l i b) e ∙ (next bs i b h (k ∙ ap (λ l. f (get_or l i 0)) e) ∙ ap (λ n. replaced n bs) (sym (add-one i)))
+
+  pub length_same : (bs : List ℕ) (i : ℕ) → length (replaced i bs) ≡ length bs
+  length_same [] zero = refl
+  length_same [] (suc i) = refl
+  length_same (b ∷ bs) zero = refl
+  length_same (b ∷ bs) (suc i) = ap (λ n. suc n) (length_same bs i)
+
+  -- all are
+  pub all_replaced : (bs : List ℕ) (i : ℕ) → length bs ≤ i → replaced i bs ≡ map f bs
+  all_replaced [] zero h = refl
+  all_replaced [] (suc i) h = refl
+  all_replaced (b ∷ bs) zero h = absurd (omega arith)
+  all_replaced (b ∷ bs) (suc i) h = ap (λ l. f b ∷ l) (all_replaced bs i (omega arith))

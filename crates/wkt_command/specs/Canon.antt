@@ -1,8 +1,10 @@
--- What becomes of a text, and what `wkt canon` writes.
+-- What becomes of a text, what `wkt canon` writes, and the geometries that were seen.
 use Rattle.std.specs.Prelude.{◌≡◌, ℕ, List, take, drop, Option, Bool, true, false, ◌⊎◌, ℤ, [], ◌∷◌, ◌++◌, min, Some, None, String, string_bytes, IsUtf8}
 use Rattle.std.specs.declared.alloc.Global.{Global}
 use Rattle.std.specs.Io.KnownBytes.{Appends}
 use Rattle.std.specs.Io.Buffered.{writer_contents}
+use Rattle.std.specs.Str.{bytes_eq}
+use Rattle.std.specs.HashMap.{get_by}
 use Rattle.wkt_num.specs.Bytes.{AllWhite}
 use Rattle.wkt_read.specs.Front.{HasNoFront, Front}
 use Rattle.wkt_canonical.specs.Canonical.{IsCanonicalTo}
@@ -15,6 +17,10 @@ use Rattle.wkt_access.specs.Shapes.{shape_of}
 use Rattle.wkt_access.specs.Texts.{shape_text}
 use Rattle.wkt_command.specs.declared.options.Options.{Options}
 use Rattle.wkt_command.specs.declared.output.Output.{Output}
+use Rattle.wkt_command.specs.declared.dups.Seen.{Seen}
+use Rattle.wkt_command.specs.declared.dups.Spot.{Spot}
+
+-- What becomes of a text, and what `wkt canon` writes.
 
 -- What becomes of a text.
 
@@ -46,3 +52,9 @@ pub record Canonizes (o : Options) (text : List ℕ) (old new : Option (List ℕ
   pub read : IsUtf8 text → (v : Value ℤ) (end : ℕ) → IsReadAs o text v end
       → Appends old new (shape_text (decimal_text (min o.places 18)) (shape_of v) ++ 10 ∷ [])
   pub refused : (IsUtf8 text → (v : Value ℤ) (end : ℕ) → IsReadAs o text v end → ⊥) → Appends old new (refused_line o.refused)
+
+-- The geometries that were seen.
+
+-- Where the geometry of this canonical text was seen first, if it was.
+abbrev pub first_of : Seen → List ℕ → Option Spot
+first_of s key = get_by (λ k. bytes_eq key k.items) s.first

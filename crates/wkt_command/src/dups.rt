@@ -1,7 +1,7 @@
 //! `wkt dups`: the texts that name a geometry which an earlier text names.
 ghost use Rattle.std.specs.Prelude.{◌≡◌, ℕ, List, Some, IfOk, OnOk, OnErr, if◌then◌else◌, unwrap_or};
 ghost use Rattle.std.specs.Str.{bytes_eq};
-ghost use Rattle.wkt_command.specs.Seen.{first_of};
+ghost use Rattle.wkt_command.specs.Canon.{first_of};
 
 use crate::output::Output;
 use crate::report::Origin;

@@ -13,15 +13,14 @@ use Rattle.wkt_flat.specs.Shape.{flat_shape, flat_shapes, sequence_numbers, ring
 use Rattle.wkt_flat.specs.Shape as shape
 use Rattle.wkt_flat.specs.Rings.{Rings}
 use Rattle.wkt_flat.specs.Tree.{Flat, Flats}
-use Rattle.wkt_flat.proofs.Rings.{writable}
+use Rattle.wkt_flat.proofs.TreeLemmas.{writable}
 use Rattle.wkt_convert.specs.Back.{back, all_back, line_string_back, rings_back, point_back, polygon_back, wkt_text}
 use Rattle.wkt_convert.specs.Laws.{FlatAndBack}
 use Rattle.wkt_flat.specs.declared.coord.Coord as flat_coord
 use Rattle.wkt_flat.specs.declared.point.Point as flat_point
 use Rattle.wkt_access.specs.declared.error.Error.{Error}
 use Rattle.wkt_access.specs.declared.error.Error.TheVariants.{FmtError, RectUnsupportedDimension, UnknownDimension, TooFewNumbers, Memory}
-use Rattle.wkt_access.specs.Lawful.{IsLawful}
-use Rattle.wkt_access.specs.WellFormed.{IsWellFormed}
+use Rattle.wkt_access.specs.WellFormed.{IsLawful, IsWellFormed}
 use Rattle.wkt_bytes.specs.Sinks.{SinkOfBytes, IsOut, IsPartOut}
 use Rattle.wkt_convert.specs.Sent.{Sends, IfShape, IsRefusal, IsMemory}
 use Rattle.wkt_convert.specs.declared.send.ToWktError.{ToWktError}

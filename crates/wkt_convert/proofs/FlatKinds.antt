@@ -1,13 +1,21 @@
--- What is no geometry of a kind.
-use Rattle.std.proofs.Common.{◌≡◌, ap, subst, Option, None}
+-- What is no geometry of a kind, and the tree of a `Wkt` of a kind whose value is made or taken apart here.
+use Rattle.std.proofs.Common.{◌≡◌, ap, subst, Option, None, sym, ◌∙◌}
 use Rattle.wkt_flat.specs.Tree.{Flat, Flats, flat_tree, geometry_step, flats_step}
 use Rattle.wkt_flat.specs.declared.geometry.Geometry.{Geometry, out-Geometry, roll-Geometry}
 use Rattle.wkt_flat.specs.declared.geometry.GeometryCollection.{GeometryCollection}
 use Rattle.wkt_flat.specs.declared.geometry.Geometry.TheOpen.{Geometry-F}
+use Rattle.wkt_convert.specs.Kinds.{point_in, line_in, line_string_in, rings_in, points_in, line_strings_in, polygons_in, corners_in, triangle_in}
 use Rattle.wkt_flat.specs.declared.geometry.Geometry.TheVariants as variants
 use Rattle.wkt_flat.specs.declared.geometry.Geometry.TheViews as views
 use Rattle.wkt_flat.specs.declared.geometry.Geometry.TheFolds as folds
-use Rattle.wkt_convert.specs.Kinds.{point_in, line_in, line_string_in, rings_in, points_in, line_strings_in, polygons_in, corners_in, triangle_in}
+use Rattle.wkt_types.specs.Tree.{point, line_string, multi_point, Tree, tree, wkt_step, collection_step}
+use Rattle.wkt_types.specs.Held.{Held, HeldPoint}
+use Rattle.wkt_types.specs.declared.coord.Coord.{Coord}
+use Rattle.wkt_types.specs.declared.geometry.Wkt.TheVariants as of_wkt
+use Rattle.wkt_types.specs.declared.geometry.Wkt.TheFolds as wkt_folds
+use Rattle.wkt_types.specs.declared.geometry.Wkt.TheOpen as opened
+
+-- What is no geometry of a kind.
 
 -- one level of a geometry
 abbrev pub Level : Type 0 → Type 0
@@ -82,3 +90,22 @@ level_no_triangle {T} f h = ap triangle_in (folds.fold-roll-Geometry T (Flat T) 
 
 pub no_triangle : {T : Type 0} (g : Geometry T) → HasNone variants.Triangle triangle_in g
 no_triangle = at_each variants.Triangle triangle_in level_no_triangle
+
+-- The tree of a `Wkt` of a kind whose value is made or taken apart here.
+
+pub tree-point : {T : Type 0} (x : HeldPoint (Coord T)) → tree (of_wkt.Point x) ≡ point x
+tree-point {T} x =
+    ap tree (sym (of_wkt.rolls-Point x))
+    ∙ wkt_folds.fold-roll-Wkt T (Tree T) (Tree T) wkt_step collection_step (opened.Wkt-F.Point x)
+
+pub tree-line_string : {T : Type 0} (x : Held (Coord T)) → tree (of_wkt.LineString x) ≡ line_string x
+tree-line_string {T} x =
+    ap tree (sym (of_wkt.rolls-LineString x))
+    ∙ wkt_folds.fold-roll-Wkt T (Tree T) (Tree T) wkt_step collection_step (opened.Wkt-F.LineString x)
+
+pub tree-multi_point : {T : Type 0} (x : Held (HeldPoint (Coord T))) → tree (of_wkt.MultiPoint x) ≡ multi_point x
+tree-multi_point {T} x =
+    ap tree (sym (of_wkt.rolls-MultiPoint x))
+    ∙ wkt_folds.fold-roll-Wkt T (Tree T) (Tree T) wkt_step collection_step (opened.Wkt-F.MultiPoint x)
+
+pub ruleset tree_line_string = tree-line_string

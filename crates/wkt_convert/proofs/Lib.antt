@@ -1,7 +1,6 @@
 pub mod Opened
 pub mod OpenedFlat
-pub mod FlatKinds
 pub mod OpenedBack
 pub mod PlainComesBack
 pub mod FlatAndBackShapes
-pub mod KindTrees
+pub mod FlatKinds

@@ -6,9 +6,8 @@ use Rattle.wkt_types.specs.declared.geometry.Wkt.{Wkt}
 use Rattle.wkt_flat.specs.Tree.{Flat, Flats, flat_tree, flat_members, flats_of}
 use Rattle.wkt_flat.specs.declared.geometry.Geometry.{Geometry}
 use Rattle.wkt_convert.specs.Back.{back, all_back}
-use Rattle.wkt_convert.specs.Flatten.{flat, flat_all}
+use Rattle.wkt_convert.specs.Flatten.{flat, flat_all, outcome_map, outcome_both, outcomes}
 use Rattle.wkt_types.specs.Outcome.{Outcome, value, refused, Fault, Answers}
-use Rattle.wkt_convert.specs.Outcomes.{outcome_map, outcome_both, outcomes}
 use Rattle.wkt_flat.specs.declared.coord.Coord as flat_coord
 use Rattle.wkt_convert.specs.declared.parts.Open.{Open}
 use Rattle.wkt_types.specs.declared.convert.ConvertError.{ConvertError}

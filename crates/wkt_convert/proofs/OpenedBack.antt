@@ -4,12 +4,11 @@ use Rattle.std.proofs.lemmas.List.{append-nil, map-append}
 use Rattle.wkt_access.specs.declared.dimensions.Dimension.TheVariants.{XY}
 use Rattle.wkt_types.specs.Tree.{Tree, tree, trees_of, members}
 use Rattle.wkt_types.specs.declared.geometry.Wkt.{Wkt}
-use Rattle.wkt_flat.specs.Tree.{Flat, flat_tree, flat_members}
+use Rattle.wkt_flat.specs.Tree.{Flat, flat_tree, flat_members, weight, weights}
 use Rattle.wkt_flat.specs.declared.geometry.Geometry.{Geometry}
 use Rattle.wkt_convert.specs.Back.{back}
 use Rattle.wkt_convert.specs.declared.parts.Open.{Open}
 use Rattle.wkt_convert.proofs.Opened.{all_back_members, none-left, falls-by-one}
-use Rattle.wkt_flat.specs.Weight.{weight, weights}
 use Rattle.wkt_flat.proofs.TreeLemmas.{at_least_one}
 
 -- what comes of a collection whose first members became `done`, and of which `rest` is left

@@ -3,16 +3,14 @@ use Rattle.std.proofs.Common.{◌≡◌, ◌<◌, refl, ap, sym, ◌∙◌, List
 use Rattle.std.proofs.lemmas.List.{append-nil, map-append}
 use Rattle.wkt_access.specs.declared.dimensions.Dimension.{Dimension}
 use Rattle.wkt_types.specs.Outcome.{Outcome, Fault, value, refused}
-use Rattle.wkt_types.specs.Tree.{Tree, tree, members}
+use Rattle.wkt_types.specs.Tree.{Tree, tree, members, weight, weights}
 use Rattle.wkt_types.specs.declared.geometry.Wkt.{Wkt}
 use Rattle.wkt_flat.specs.Tree.{Flat, flats_of, flat_tree, flat_members}
 use Rattle.wkt_flat.specs.declared.coord.Coord as flat_coord
 use Rattle.wkt_flat.specs.declared.geometry.Geometry.{Geometry}
 use Rattle.wkt_convert.specs.declared.parts.Open.{Open}
-use Rattle.wkt_convert.specs.Flatten.{flat}
-use Rattle.wkt_convert.specs.Outcomes.{outcome_map, outcome_both, outcomes}
+use Rattle.wkt_convert.specs.Flatten.{flat, outcome_map, outcome_both, outcomes}
 use Rattle.wkt_convert.proofs.Opened.{flatten_members, none-left, falls-by-one}
-use Rattle.wkt_types.specs.Weight.{weight, weights}
 use Rattle.wkt_types.proofs.TreeLemmas.{at_least_one}
 
 module _ {T : Type 0} (E : flat_coord.Coord T → flat_coord.Coord T → Bool) where

@@ -2,17 +2,14 @@
 use Rattle.std.proofs.Common.{◌≡◌, List, [], ◌∷◌, ◌++◌, map, Bool, if◌then◌else◌, refl, ap, ap₂, sym, ◌∙◌}
 use Rattle.std.proofs.lemmas.List.{append-nil}
 use Rattle.std.specs.List.{AllByRecursion}
-use Rattle.wkt_flat.specs.Exact.{IsExact}
-use Rattle.wkt_flat.specs.Equal.{coord_eq, coord_exact}
-use Rattle.wkt_flat.specs.Closed.{HasClosedRings, HaveClosedRings}
+use Rattle.wkt_flat.specs.Equal.{IsExact, coord_eq, coord_exact}
+use Rattle.wkt_flat.specs.Tree.{HasClosedRings, HaveClosedRings, Flat, Flats}
 use Rattle.wkt_flat.specs.Rings.{Rings, IsClosed, AreClosed, close}
-use Rattle.wkt_flat.specs.Tree.{Flat, Flats}
 use Rattle.wkt_flat.specs.declared.coord.Coord as flat_coord
 use Rattle.wkt_flat.specs.declared.point.Point as flat_point
 use Rattle.wkt_convert.specs.Back.{back, all_back, line_string_back, point_back, polygon_back}
-use Rattle.wkt_convert.specs.Flatten.{sequence, rings, points, flat, flat_all}
+use Rattle.wkt_convert.specs.Flatten.{sequence, rings, points, flat, flat_all, outcome_map, outcome_both}
 use Rattle.wkt_types.specs.Outcome.{value}
-use Rattle.wkt_convert.specs.Outcomes.{outcome_map, outcome_both}
 use Rattle.wkt_convert.specs.Laws.{IsPlain, ArePlain, IsPlainPolygon}
 
 sequence_again : {T : Type 0} (cs : List (flat_coord.Coord T)) → sequence (line_string_back cs) ≡ cs

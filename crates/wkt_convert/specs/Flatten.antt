@@ -1,15 +1,40 @@
--- The flat value of what a `Wkt` holds, or the error by name: z, m and dimensions are dropped, the order is kept, and rings are closed.
-use Rattle.std.specs.Prelude.{List, [], ◌∷◌, map, Bool, Option, Some, None, ℕ, codes}
+-- The flat value of what a `Wkt` holds, or the error by name: z, m and dimensions are dropped, the order is kept, and rings
+-- are closed. Outcomes of parts put together, and a geometry as it is looked at, in either direction.
+use Rattle.std.specs.Prelude.{List, [], ◌∷◌, map, Bool, Option, Some, None, ℕ, codes, ◌≡◌, Result, Ok, Err}
+use Rattle.wkt_types.specs.Outcome.{Outcome, value, refused, mismatched, xy, xy_point, point_or_fault, Answers}
 use Rattle.wkt_types.specs.Held.{Held, HeldPoint}
-use Rattle.wkt_types.specs.Tree.{Tree, Trees}
+use Rattle.wkt_types.specs.Tree.{Tree, Trees, tree, members}
 use Rattle.wkt_types.specs.declared.coord.Coord.{Coord}
-use Rattle.wkt_types.specs.Outcome.{Outcome, value, refused, mismatched}
-use Rattle.wkt_types.specs.Flattened.{xy, xy_point, point_or_fault}
+use Rattle.wkt_flat.specs.Rings.{Rings, closed_rings, one_ring}
+use Rattle.wkt_flat.specs.Tree.{Flat, Flats, flat_tree, flat_members}
 use Rattle.wkt_flat.specs.declared.coord.Coord as flat_coord
 use Rattle.wkt_flat.specs.declared.point.Point as flat_point
-use Rattle.wkt_flat.specs.Rings.{Rings, closed_rings, one_ring}
-use Rattle.wkt_flat.specs.Tree.{Flat, Flats}
-use Rattle.wkt_convert.specs.Outcomes.{outcome_map, outcome_both, outcomes}
+use Rattle.wkt_access.specs.declared.dimensions.Dimension.{Dimension}
+use Rattle.wkt_types.specs.declared.convert.ConvertError.{ConvertError}
+use Rattle.wkt_types.specs.declared.geometry.Wkt.{Wkt}
+use Rattle.wkt_flat.specs.declared.geometry.Geometry.{Geometry}
+use Rattle.wkt_convert.specs.Back.{back}
+use Rattle.wkt_convert.specs.declared.parts.Piece.{Piece}
+use Rattle.wkt_convert.specs.declared.parts.Piece.TheVariants.{Whole, Members}
+
+-- Outcomes of parts put together.
+
+-- The image of the value, or the same error.
+abbrev pub outcome_map : {X Y : Type 0} → (X → Y) → Outcome X → Outcome Y
+outcome_map f (value x) = value (f x)
+outcome_map f (refused k) = refused k
+
+-- Both values, or the first error of two.
+abbrev pub outcome_both : {X Y Z : Type 0} → (X → Y → Z) → Outcome X → Outcome Y → Outcome Z
+outcome_both f (value x) o = outcome_map (f x) o
+outcome_both f (refused k) o = refused k
+
+-- All values of a list, or its first error.
+abbrev pub outcomes : {A X : Type 0} → (A → Outcome X) → List A → Outcome (List X)
+outcomes f [] = value []
+outcomes f (x ∷ xs) = outcome_both (λ y ys. y ∷ ys) (f x) (outcomes f xs)
+
+-- The flat value of what a `Wkt` holds, or the error by name: z, m and dimensions are dropped, the order is kept, and rings are closed.
 
 -- The coordinates of a line string.
 abbrev pub sequence : {T : Type 0} → Held (Coord T) → List (flat_coord.Coord T)
@@ -68,3 +93,16 @@ tree_name (Tree.collection ts d) = codes "GeometryCollection"
 abbrev pub flat_collection : {T : Type 0} → (flat_coord.Coord T → flat_coord.Coord T → Bool) → Tree T → Outcome (Flats T)
 flat_collection E (Tree.collection ts d) = flat_all E ts
 flat_collection E t = refused (mismatched (codes "GeometryCollection") (tree_name t))
+
+-- A geometry as it is looked at, in either direction. Only private contracts cite these words.
+
+-- The flat value of the tree, the members of the collection that it is, or its error; or memory was lacking.
+abbrev pub IsPiece : {T : Type 0} → (flat_coord.Coord T → flat_coord.Coord T → Bool) → Tree T → Result (Piece (Wkt T) (Geometry T)) ConvertError → Type 0
+IsPiece E t (Ok (Whole g)) = flat E t ≡ value (flat_tree g)
+IsPiece E t (Ok (Members ws)) = (d : Dimension) × (t ≡ Tree.collection (members ws.now) d)
+IsPiece E t (Err e) = Answers flat_tree (flat E t) (Err e)
+
+-- The `Wkt` of the flat value, or the members of the collection that it is.
+abbrev pub IsPieceBack : {T : Type 0} → Flat T → Piece (Geometry T) (Wkt T) → Type 0
+IsPieceBack t (Whole w) = tree w ≡ back t
+IsPieceBack t (Members gs) = t ≡ Flat.collection (flat_members gs.now)

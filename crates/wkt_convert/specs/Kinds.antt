@@ -11,8 +11,7 @@ use Rattle.wkt_convert.specs.declared.flattened.Flattened.{Flattened}
 use Rattle.wkt_convert.specs.declared.flattened.Flattened.TheVariants.{Collection, RefusedCollection, Other, RefusedMultiPoint}
 use Rattle.wkt_convert.specs.declared.flattened.Found.TheVariants as found
 use Rattle.wkt_flat.specs.Equal.{coord_eq}
-use Rattle.wkt_flat.specs.Corners.{Corners}
-use Rattle.wkt_flat.specs.Rings.{Rings}
+use Rattle.wkt_flat.specs.Rings.{Corners, Rings}
 use Rattle.wkt_flat.specs.declared.line.Line.{Line}
 use Rattle.wkt_flat.specs.declared.point.Point.{Point}
 use Rattle.wkt_flat.specs.declared.triangle.Triangle.{Triangle}

@@ -1,10 +1,9 @@
 -- What the laws of flat values and their `Wkt` say; `laws` proves each.
 use Rattle.std.specs.Prelude.{◌≡◌, None, Bool, List, [], ◌∷◌}
 use Rattle.std.specs.List.{AllByRecursion}
-use Rattle.wkt_flat.specs.Closed.{HasClosedRings}
+use Rattle.wkt_flat.specs.Tree.{HasClosedRings, Flat, Flats}
 use Rattle.wkt_flat.specs.Equal.{coord_eq}
 use Rattle.wkt_flat.specs.Shape.{flat_shape}
-use Rattle.wkt_flat.specs.Tree.{Flat, Flats}
 use Rattle.wkt_types.specs.Outcome.{value}
 use Rattle.wkt_types.specs.Values.{tree_shape}
 use Rattle.wkt_access.specs.Faults.{fault}

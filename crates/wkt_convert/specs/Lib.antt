@@ -1,7 +1,5 @@
-pub mod Outcomes
-pub mod Flatten
 pub mod Back
-pub mod Pieces
+pub mod Flatten
 pub mod Sent
 pub mod Laws
 pub mod Kinds

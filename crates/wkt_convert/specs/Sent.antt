@@ -6,7 +6,7 @@ use Rattle.wkt_access.specs.declared.error.Error.{Error}
 use Rattle.wkt_access.specs.declared.error.Error.TheVariants.{FmtError, RectUnsupportedDimension, UnknownDimension, TooFewNumbers, Memory}
 use Rattle.wkt_access.specs.Shapes.{Shape}
 use Rattle.wkt_access.specs.Faults.{fault}
-use Rattle.wkt_access.specs.Lawful.{IsLawful}
+use Rattle.wkt_access.specs.WellFormed.{IsLawful}
 use Rattle.wkt_access.specs.Texts.{shape_text}
 use Rattle.wkt_convert.specs.declared.send.ToWktError.{ToWktError}
 use Rattle.wkt_convert.specs.declared.send.ToWktError.TheVariants as send

@@ -2,7 +2,7 @@
 ghost use Rattle.std.specs.Prelude.{◌≡◌, ◌++◌, ◌∷◌, ◌+◌, ◌≤◌, [], IfOk, length, map, vec_len, vec_capacity};
 ghost use Rattle.wkt_types.specs.Tree as trees;
 ghost use Rattle.wkt_flat.specs.Tree.{flat_tree, flat_members};
-ghost use Rattle.wkt_convert.specs.Pieces.{IsPieceBack};
+ghost use Rattle.wkt_convert.specs.Flatten.{IsPieceBack};
 ghost use Rattle.wkt_convert.specs.Back.{flat_xy, point_back, line_string_back, polygon_back, back, all_back};
 
 use crate::flat_values::FlatValue;

@@ -5,8 +5,7 @@ ghost use Rattle.wkt_types.specs.declared.convert.ConvertError.{ConvertError};
 ghost use Rattle.wkt_types.specs.Outcome.{Answers, value};
 ghost use Rattle.wkt_flat.specs.Tree.{Flat, flat_tree, flat_trees};
 ghost use Rattle.wkt_flat.specs.Equal.{coord_eq};
-ghost use Rattle.wkt_convert.specs.Outcomes.{outcome_map};
-ghost use Rattle.wkt_convert.specs.Flatten.{sequence, rings, points, flat, flat_all, trees_in};
+ghost use Rattle.wkt_convert.specs.Flatten.{outcome_map, sequence, rings, points, flat, flat_all, trees_in};
 
 use crate::flatten::{all_points, collection};
 use crate::parts::{Turn, turn_all};

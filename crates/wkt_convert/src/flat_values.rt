@@ -81,7 +81,7 @@ impl<T: WktNum> FlatValue for flat::LineString<T> {
     }
 
     #[inline(always)]
-    #[tactic(auto, using(crate::proofs::KindTrees::tree_line_string))]
+    #[tactic(auto, using(crate::proofs::FlatKinds::tree_line_string))]
     fn make_wkt(&self, alloc: Global) -> Result<Wkt<T>, AllocError> {
         Ok(Wkt::LineString(self.turn(alloc)?))
     }
@@ -160,7 +160,7 @@ impl<T: WktNum> FlatValue for flat::GeometryCollection<T> {
 
     ghost value = { λ x. Flat.collection (flat_trees x) };
 
-    #[tactic(auto, using(wkt_access::proofs::Members::gathered_each))]
+    #[tactic(auto, using(wkt_access::proofs::Collections::gathered_each))]
     fn write_flat<W: TextSink>(&self, f: &mut W) -> Result<(), Error> {
         write_geometry_collection(f, self)
     }

@@ -1,12 +1,10 @@
 //! Flat values of what a `Wkt` holds.
 ghost use Rattle.std.specs.Prelude.{◌≡◌, ◌++◌, ◌∷◌, [], IfOk, OnOk, map};
-ghost use Rattle.wkt_types.specs.Flattened.{xy};
+ghost use Rattle.wkt_types.specs.Outcome.{xy, Answers};
 ghost use Rattle.wkt_types.specs.Tree.{tree, members};
 ghost use Rattle.wkt_flat.specs.Tree.{flat_tree, flat_trees};
 ghost use Rattle.wkt_flat.specs.Equal.{coord_eq};
-ghost use Rattle.wkt_types.specs.Outcome.{Answers};
-ghost use Rattle.wkt_convert.specs.Pieces.{IsPiece};
-ghost use Rattle.wkt_convert.specs.Flatten.{sequence, rings, points, point_or_none, flat, flat_all};
+ghost use Rattle.wkt_convert.specs.Flatten.{IsPiece, sequence, rings, points, point_or_none, flat, flat_all};
 
 use crate::parts::{Open, Piece, Turn, turn_all};
 use std::alloc::{AllocError, Global};

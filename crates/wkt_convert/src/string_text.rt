@@ -2,7 +2,7 @@
 ghost use Rattle.std.specs.Prelude.{◌≡◌, IfOk, IfErr, OnOk, None, string_bytes};
 ghost use Rattle.wkt_access.specs.Texts.{shape_text};
 ghost use Rattle.wkt_access.specs.Faults.{fault};
-ghost use Rattle.wkt_access.specs.Lawful.{IsLawful};
+ghost use Rattle.wkt_access.specs.WellFormed.{IsLawful};
 ghost use Rattle.wkt_write.specs.Writes.{Writes, Pushes};
 ghost use Rattle.wkt_convert.specs.Sent.{IsRefusal};
 

@@ -9,10 +9,9 @@ use Rattle.std.proofs.lemmas.Str.{IsUtf8-drop, IsCharBoundary-before_ascii}
 use Rattle.wkt_num.specs.Bytes.{Lexeme, Open, Close, Comma, Word, Num, Class, Nul, White, Mark, Run, AllRun, class_of}
 use Rattle.wkt_read.specs.Lexemes.{lexeme_of, IsBoundary, starts_number, without_plus}
 use Rattle.wkt_read.specs.Spanned.{Spanned, lexemes_of, marks, front, after_run, joined, spanned_from, spanned}
-use Rattle.wkt_events.specs.Remaining.{before_feed, line_of, class_in, remaining_spanned, remaining, IsRunEnd, TakesOne, Legible, IsMark}
-use Rattle.wkt_read.proofs.LawLemmas.HeaderPlaces.{seam, past_ascii}
+use Rattle.wkt_events.specs.Remaining.{before_feed, line_of, class_in, remaining_spanned, remaining, IsRunEnd, TakesOne, Legible, IsMark, IsNumberAt, NoNumber}
+use Rattle.wkt_read.proofs.HeaderPlaces.{seam, past_ascii}
 use Rattle.wkt_events.proofs.Utf8Lines.{drop-line}
-use Rattle.wkt_events.specs.Numbers.{IsNumberAt, NoNumber}
 
 -- What is left of a text's lexemes behind a byte, a mark or a run.
 

@@ -14,11 +14,9 @@ use lib.Lanes.{chunk, mask_l, top, zip2}
 use mir.Val.{bits, hbits}
 use borrow.Author.Tests.{ltb-false}
 use Rattle.wkt_num.specs.Bytes.{Nul, Run, AllRun, class_of}
-use Rattle.wkt_events.specs.Windows.{low_mask, high_mask}
-use Rattle.wkt_num.specs.Number.{begins_number, IsNumberText}
-use Rattle.wkt_num.specs.Kept.{KeepsText, StopsRun}
+use Rattle.wkt_events.specs.Remaining.{low_mask, high_mask, plus_len, IsNumberAt}
+use Rattle.wkt_num.specs.Number.{begins_number, IsNumberText, KeepsText, StopsRun}
 use Rattle.wkt_read.specs.Lexemes.{starts_number, without_plus}
-use Rattle.wkt_events.specs.Numbers.{plus_len, IsNumberAt}
 
 -- Where a run ends.
 

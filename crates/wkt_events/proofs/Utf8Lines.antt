@@ -11,7 +11,7 @@ use Rattle.std.proofs.lemmas.Str.Ascii.{uppercase_is}
 use Rattle.wkt_events.specs.Remaining.{before_feed, line_of, Legible, class_in, remaining_spanned, TakesOne}
 use Rattle.wkt_num.specs.Bytes.{Lexeme, Nul, class_of, Open, Close, Comma, Word, Num, White, Mark, Run, AllWhite}
 use Rattle.wkt_read.specs.Spanned.{Spanned}
-use Rattle.wkt_read.proofs.TokenizerLemmas.Placings.{Stands, stands}
+use Rattle.wkt_read.proofs.Placings.{Stands, stands}
 use Rattle.wkt_access.specs.declared.dimensions.Dimension.{Dimension}
 use Rattle.wkt_access.specs.declared.dimensions.Dimension.TheVariants.{XYZ, XYM, XYZM}
 use Rattle.wkt_access.specs.Values.{Value, Values}
@@ -19,7 +19,7 @@ use Rattle.wkt_types.specs.declared.geometry_type.GeometryType.{GeometryType}
 use Rattle.wkt_read.specs.Lexemes.{starts_number, without_plus, SpellsLexeme, Takes, AreCharacters}
 use Rattle.wkt_read.specs.Grammar.{KindWord, kind_words, entry_in, kind_word, dim_word, DimPart, Header, IsEmptyWord, More, Listed, Perhaps, Numbers, Coord, Ring, Poly, Member, StandFor, Geometries, Further}
 use Rattle.wkt_read.specs.Front.{Front}
-use Rattle.wkt_read.proofs.LawLemmas.HeaderPlaces.{run_or_ascii, characters}
+use Rattle.wkt_read.proofs.HeaderPlaces.{run_or_ascii, characters}
 
 -- What stands before the first line feed.
 

@@ -1,3 +1,1 @@
 pub mod Remaining
-pub mod Windows
-pub mod Numbers

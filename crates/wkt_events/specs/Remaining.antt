@@ -1,7 +1,13 @@
--- The lexemes that are left in a text from a place of its bytes. A text ends at its first NUL or with its last byte; where `feed` is true, at its first LF too, which else is white space.
-use Rattle.std.specs.Prelude.{◌≡◌, ◌≢◌, ℕ, ◌≤◌, ◌<◌, List, [], ◌∷◌, ◌==◌, if◌then◌else◌, Bool, true, false, drop, length, get_or, slice_range, IsUtf8}
+-- The lexemes that are left in a text from a place of its bytes, a number at such a place, and the bytes of a window, as
+-- bits.
+use Rattle.std.specs.Prelude.{◌≡◌, ◌≢◌, ℕ, ◌≤◌, ◌<◌, List, [], ◌∷◌, ◌==◌, if◌then◌else◌, Bool, true, false, drop, length, get_or, slice_range, IsUtf8, Option, Some, None, IsTrue, map, nat_lt}
+use Rattle.std.specs.Simd.Lanes.{chunk, mask_l}
+use lib.Dec.{leb}
 use Rattle.wkt_num.specs.Bytes.{Lexeme, Open, Close, Comma, Word, Num, Class, Nul, Run, AllRun, class_of}
 use Rattle.wkt_read.specs.Spanned.{Spanned, lexemes_of, spanned_from}
+use Rattle.wkt_read.specs.Lexemes.{starts_number, without_plus}
+
+-- The lexemes that are left in a text from a place of its bytes. A text ends at its first NUL or with its last byte; where `feed` is true, at its first LF too, which else is white space.
 
 -- what stands before the first line feed
 abbrev pub before_feed : List ℕ → List ℕ
@@ -50,3 +56,38 @@ IsMark Close = Unit {0}
 IsMark Comma = Unit {0}
 IsMark (Word run) = ⊥
 IsMark (Num run) = ⊥
+
+-- A number at a place of a text.
+
+-- The run from `at` to `end` is a number's, which is read as x.
+pub record IsNumberAt {T : Type 0} (read : List ℕ → Option T) (text : List ℕ) (at end : ℕ) (x : T) : Type 0 where
+  pub order : at < end
+  pub ends : IsRunEnd text at end
+  pub begins : IsTrue (starts_number (get_or text at 0))
+  pub reads : read (without_plus (slice_range text at end)) ≡ Some x
+
+-- A number stands there up to `end`.
+abbrev pub EndsNumber : {T : Type 0} → (List ℕ → Option T) → List ℕ → ℕ → ℕ → Type 0
+EndsNumber {T} read text at end = (x : T) × IsNumberAt read text at end x
+
+-- A run ends at `end`, or none begins at `at`, and no number that is read stands there, if the run is UTF-8.
+pub record NoNumber {T : Type 0} (read : List ℕ → Option T) (text : List ℕ) (at : ℕ) : Type 0 where
+  pub end : ℕ
+  pub ends : IsRunEnd text at end
+  pub none : at < end → IsTrue (starts_number (get_or text at 0)) → IsUtf8 (without_plus (slice_range text at end)) → read (without_plus (slice_range text at end)) ≡ None
+
+-- The plus before a number.
+
+-- How many of a number's bytes stand before its text: the one plus, or none.
+abbrev pub plus_len : ℕ → ℕ
+plus_len b = if b == 43 then 1 else 0
+
+-- The low and the high bytes of a window, as bits. Only private contracts cite them.
+
+-- of the 32 bytes from a place on those that are no more than a comma, as bits
+unfoldable pub low_mask : List ℕ → ℕ → ℕ
+low_mask text from = mask_l (map (λ b. leb b 44) (chunk from 32 text))
+
+-- of these bytes those that aren't ASCII, as bits
+unfoldable pub high_mask : List ℕ → ℕ → ℕ
+high_mask text from = mask_l (map (λ b. nat_lt 127 b) (chunk from 32 text))

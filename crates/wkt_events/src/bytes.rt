@@ -3,8 +3,7 @@
 ghost use Rattle.std.specs.Bool.{OnTrue};
 ghost use Rattle.std.specs.Prelude.{◌≡◌, ◌≢◌, ◌↔◌, ◌≤◌, ◌<◌, ◌+◌, ℕ, IsTrue, IsAscii, length, get_or, slice_range};
 ghost use Rattle.wkt_num.specs.Bytes.{White, Run, class_of};
-ghost use Rattle.wkt_events.specs.Remaining.{line_of, class_in, remaining_spanned, IsRunEnd};
-ghost use Rattle.wkt_events.specs.Windows.{low_mask, high_mask};
+ghost use Rattle.wkt_events.specs.Remaining.{line_of, class_in, remaining_spanned, IsRunEnd, low_mask, high_mask};
 
 use std::simd::prelude::*;
 use wkt_read::words;

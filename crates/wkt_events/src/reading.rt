@@ -1,7 +1,7 @@
 //! Numbers as values.
 ghost use Rattle.std.specs.Prelude.{◌≡◌, ◌≤◌, ◌+◌, length, slice_index, slice_range, IfSome, IfNone, IsUtf8};
 ghost use Rattle.wkt_read.specs.Lexemes.{starts_number};
-ghost use Rattle.wkt_events.specs.Numbers.{IsNumberAt, EndsNumber, NoNumber, plus_len};
+ghost use Rattle.wkt_events.specs.Remaining.{IsNumberAt, EndsNumber, NoNumber, plus_len};
 
 use crate::bytes::{is_ascii_fast, run_end};
 use wkt_num::WktNum;

@@ -1,5 +1,5 @@
--- One geometry more after those that were read.
-use Rattle.std.proofs.Common.{◌≡◌, ℕ, List, [], ◌∷◌, ◌++◌, drop, Option, Some, None, is_some, false, Err, refl, sym, subst}
+-- One geometry more after those that were read, and what was added to an empty text.
+use Rattle.std.proofs.Common.{◌≡◌, ℕ, List, [], ◌∷◌, ◌++◌, drop, Option, Some, None, is_some, false, Err, refl, sym, subst, length, ap, ◌∙◌}
 use Rattle.std.specs.Prelude.{IfNone}
 use Rattle.wkt.specs.Bytes.{Lexeme}
 use Rattle.wkt.specs.Tree.{Tree}
@@ -8,6 +8,10 @@ use Rattle.wkt.specs.Begun.{NoneBegins}
 use Rattle.wkt.specs.ReadError.{ReadError}
 use Rattle.wkt.specs.ReadError.TheVariants.{Text, Memory}
 use Rattle.wkt_examples.specs.Ordered.{BeginsWith, StreamBeginsWith, StreamStops}
+use Rattle.wkt.specs.Values.{Value}
+use Rattle.wkt.specs.Front.{Front}
+
+-- One geometry more after those that were read.
 
 -- what is claimed where there is none, and there is none
 pub none_there : {A P : Type 0} (o : Option A) → is_some o ≡ false → IfNone o P → P
@@ -29,3 +33,11 @@ module _ {T : Type 0} (read : List ℕ → Option T) where
       → StreamBeginsWith read old ts mid → OnText {X = Unit {0}} (Err e) (NoneBegins read mid) → OnText {X = Unit {0}} (Err e) (StreamStops read old)
   stream_stops (Text m) old ts mid h none = (ts, mid, h, none)
   stream_stops (Memory e) old ts mid h none = tt
+
+-- What was added to an empty text.
+
+-- what was added to an empty text is read as what the addition is read as
+pub front_of_text : {N : Type 0} (read : List ℕ → Option N) (old new text : List ℕ) (v : Value N) → old ≡ [] → new ≡ old ++ text → Front read text v (length text) → Front read new v (length new)
+front_of_text read old new text v e h f =
+    let same : new ≡ text = h ∙ ap (λ (l : List ℕ). l ++ text) e in
+    subst (λ (bs : List ℕ). Front read bs v (length bs)) (sym same) f

@@ -1,7 +1,7 @@
 //! All geometries of a text one after the other, by `read_front`, and those of a stream of lexemes,
 //! by `read_tokens`.
 ghost use Rattle.std.specs.Prelude.{◌≡◌, [], ◌∷◌, ◌++◌, IfOk, OnOk, map};
-ghost use Rattle.wkt.specs.Ahead.{rest};
+ghost use Rattle.wkt.specs.Stream.{rest};
 ghost use Rattle.wkt.specs.Answered.{OnText};
 ghost use Rattle.wkt.specs.Front.{HasNoFront};
 ghost use Rattle.wkt.specs.Tree.{tree};

@@ -1,2 +1,1 @@
-pub mod CharBoundaries
 pub mod StopsAreRefusals

@@ -4,12 +4,10 @@ ghost use Rattle.wkt_read.specs.Front.{HasNoFront};
 ghost use Rattle.wkt_read.specs.Refusal.{IsRefusedWith};
 ghost use Rattle.wkt_read.specs.Explained.{EndsFront, IsRefusedAt, IsPart};
 ghost use Rattle.wkt_read.specs.Table.{IsReportedAt};
-ghost use Rattle.wkt_explain.specs.Problems.{IsPastWhite};
-ghost use Rattle.wkt_explain.specs.Told.{EndsLexeme, IsTold};
+ghost use Rattle.wkt_explain.specs.Problems.{IsPastWhite, EndsLexeme, IsTold};
 ghost use Rattle.wkt_events.specs.Remaining.{remaining_spanned};
-ghost use Rattle.wkt_machine.specs.BytesView.{IsDark};
-ghost use Rattle.wkt_machine.specs.Goes.{IsStuck};
-ghost use Rattle.wkt_machine.specs.Stops.{StopsAt};
+ghost use Rattle.wkt_machine.specs.View.{IsDark};
+ghost use Rattle.wkt_machine.specs.Goes.{IsStuck, StopsAt};
 
 use crate::explanation::Refusal;
 use wkt_events::{byte_at, run_end, skip_white};

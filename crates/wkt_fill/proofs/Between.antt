@@ -8,13 +8,12 @@ use Rattle.std.proofs.lemmas.List.Concat.{flat_map-append}
 use Rattle.wkt_access.specs.declared.dimensions.Dimension.{Dimension}
 use Rattle.wkt_access.specs.declared.dimensions.Dimension.TheVariants.{XY, XYZ, XYM, XYZM}
 use Rattle.wkt_access.specs.Values.{size, Value}
-use Rattle.wkt_fill.specs.Arrays.{joined, offsets, numbers_in, parts_of, IsGiven}
-use Rattle.wkt_fill.specs.Parts.{from_on, up_to, between, Ascend, AreOffsetsTo, AreWhole, coordinate_at, ring_at, polygon_at, polygons_in, AreRingsOfOne, HasParts, HasPartsOf}
+use Rattle.wkt_fill.specs.Arrays.{joined, offsets, numbers_in, parts_of, IsGiven, from_on, up_to, between, Ascend, AreOffsetsTo, AreWhole, coordinate_at, ring_at, polygon_at, polygons_in, AreRingsOfOne, HasParts, HasPartsOf}
 use Rattle.wkt_fill.specs.declared.given.Given.{Given}
 use Rattle.wkt_num.specs.Decimal.{IsUnits}
 use Rattle.wkt_access.specs.WellFormed.{CoordFits, LineStringFits, PointFits, IsWellFormed}
 use Rattle.wkt_types.specs.declared.geometry_type.GeometryType.{GeometryType}
-use Rattle.wkt_read.specs.Kinds.{kind_of, dim_of}
+use Rattle.wkt_read.specs.Header.{kind_of, dim_of}
 use Rattle.wkt_machine.specs.Events.{Event, numbers, further, listed, perhaps, events}
 use Rattle.wkt_machine.specs.declared.part.Part.{Part}
 use Rattle.wkt_types.specs.declared.geometry_type.GeometryType.TheVariants as kind

@@ -18,7 +18,7 @@ use Rattle.wkt_access.specs.WellFormed.{CoordFits, LineStringFits, PolygonFits, 
 use Rattle.wkt_machine.specs.declared.part.Axis.{Axis}
 use Rattle.wkt_machine.specs.declared.part.Axis.TheVariants as axis
 use Rattle.wkt_machine.specs.declared.part.Part.TheVariants as part
-use Rattle.wkt_read.specs.Kinds.{kind_of, dim_of}
+use Rattle.wkt_read.specs.Header.{kind_of, dim_of}
 use Rattle.wkt_types.specs.declared.geometry_type.GeometryType.TheVariants as kind
 
 -- One ring more, or one polygon.

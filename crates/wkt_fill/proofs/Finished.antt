@@ -15,7 +15,7 @@ use Rattle.wkt_num.specs.DecimalLaws.{decimal_reads_values}
 use Rattle.wkt_num.proofs.ReadNumbers.{decimal_utf8}
 use Rattle.wkt_access.specs.Values.{Value}
 use Rattle.wkt_read.specs.Front.{Front}
-use Rattle.wkt_read.proofs.LawLemmas.OneForm.{geometry_fits}
+use Rattle.wkt_read.proofs.OneForm.{geometry_fits}
 use Rattle.wkt_events.proofs.Utf8Lines.{text-with-front, text-behind-front}
 use Rattle.wkt_machine.specs.Events.{events}
 use Rattle.wkt_fill.specs.Arrays.{joined, numbers_in, offsets, HasLarge, IsUnheld}

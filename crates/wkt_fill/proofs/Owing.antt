@@ -5,8 +5,7 @@ use Rattle.wkt_machine.specs.Events.{Event, further, listed, numbers, events}
 use Rattle.wkt_machine.specs.Makers.{Maker}
 use Rattle.wkt_machine.specs.Room.{Leaves, header_cost}
 use Rattle.wkt_machine.specs.declared.part.Part.{Part}
-use Rattle.wkt_fill.specs.Arrays.{event_cost, events_cost, Tells, IsGiven, AreGiven}
-use Rattle.wkt_fill.specs.Parts.{from_on, up_to, AreWhole, HasPartsOf}
+use Rattle.wkt_fill.specs.Arrays.{event_cost, events_cost, Tells, IsGiven, AreGiven, from_on, up_to, AreWhole, HasPartsOf}
 use Rattle.wkt_access.specs.Values.{size, Value}
 use Rattle.wkt_access.specs.declared.dimensions.Dimension.{Dimension}
 use Rattle.wkt_access.specs.declared.dimensions.Dimension.TheVariants.{XY, XYZ, XYM, XYZM}

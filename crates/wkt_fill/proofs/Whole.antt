@@ -9,9 +9,8 @@ use Rattle.wkt_access.specs.WellFormed.{CoordFits, LineStringFits, PolygonFits, 
 use Rattle.wkt_access.specs.declared.dimensions.Dimension.{Dimension}
 use Rattle.wkt_types.specs.declared.geometry_type.GeometryType.{GeometryType}
 use Rattle.wkt_types.specs.declared.geometry_type.GeometryType.TheVariants as kind
-use Rattle.wkt_read.specs.Kinds.{kind_of, dim_of}
-use Rattle.wkt_fill.specs.Arrays.{parts_of, joined, offsets, numbers_in, IsGiven}
-use Rattle.wkt_fill.specs.Parts.{from_on, coordinate_at, ring_at, polygon_at, polygons_in, AreWhole, AreRingsOfOne, HasParts, HasPartsOf}
+use Rattle.wkt_read.specs.Header.{kind_of, dim_of}
+use Rattle.wkt_fill.specs.Arrays.{parts_of, joined, offsets, numbers_in, IsGiven, from_on, coordinate_at, ring_at, polygon_at, polygons_in, AreWhole, AreRingsOfOne, HasParts, HasPartsOf}
 use Rattle.wkt_fill.specs.declared.given.Given.{Given}
 use Rattle.wkt_fill.proofs.Between.{from-list, from-length, climbs, joined-between, offsets-between, joined-cuts, numbers-flat, fewer}
 

@@ -1,15 +1,20 @@
--- A value as flat arrays; arrays that are given, and what a builder is told of them.
-use Rattle.std.specs.Prelude.{◌≡◌, ◌+◌, ◌⊎◌, ℕ, ℤ, List, [], ◌∷◌, map, flat_map, length, Option, Some, None, option_to_list}
-use Rattle.std.specs.List.{Contains}
+-- A value as flat arrays; arrays that are given, what a builder is told of them, and the parts of a geometry between their
+-- offsets.
+use Rattle.std.specs.Prelude.{◌≡◌, ◌+◌, ◌⊎◌, ℕ, ℤ, List, [], ◌∷◌, map, flat_map, length, Option, Some, None, option_to_list, zero, suc, ◌-◌, ◌*◌, ◌≤◌, ◌<◌, take, drop}
+use Rattle.std.specs.List.{Contains, slice_index}
 use Rattle.wkt_num.specs.Whole.{IsSigned}
-use Rattle.wkt_access.specs.Values.{Value}
+use Rattle.wkt_access.specs.Values.{Value, size}
 use Rattle.wkt_access.specs.WellFormed.{IsWellFormed}
 use Rattle.wkt_num.specs.Decimal.{IsUnits}
-use Rattle.wkt_read.specs.Kinds.{kind_of, dim_of}
+use Rattle.wkt_read.specs.Header.{kind_of, dim_of}
 use Rattle.wkt_machine.specs.Events.{Event}
 use Rattle.wkt_machine.specs.Makers.{Maker}
 use Rattle.wkt_machine.specs.Room.{header_cost, Leaves}
 use Rattle.wkt_fill.specs.declared.given.Given.{Given}
+use Rattle.wkt_types.specs.declared.geometry_type.GeometryType.{GeometryType}
+use Rattle.wkt_types.specs.declared.geometry_type.GeometryType.TheVariants as kind
+
+-- A value as flat arrays; arrays that are given, and what a builder is told of them.
 
 -- A value as flat arrays.
 
@@ -85,3 +90,66 @@ module _ {N B : Type 0} (maker : Maker N B) where
   pub record Tells (b : B) (es : List (Event N)) (c : B) : Type 0 where
     pub makes : maker.makes b es c
     pub leaves : Leaves maker b (events_cost es) c
+
+-- The parts of a geometry between the offsets of flat arrays. Only private contracts cite these words.
+
+-- So many items, from an index on.
+abbrev pub from_on : {A : Type 0} → (ℕ → A) → ℕ → ℕ → List A
+from_on item i zero = []
+from_on item i (suc n) = item i ∷ from_on item (i + 1) n
+
+-- The items from one index up to another.
+abbrev pub up_to : {A : Type 0} → (ℕ → A) → ℕ → ℕ → List A
+up_to item from to = from_on item from (to - from)
+
+-- What stands between the offsets of that index and the next.
+abbrev pub between : {A : Type 0} → (ℕ → A) → List ℕ → ℕ → List A
+between item offs i = up_to item (slice_index offs i) (slice_index offs (i + 1))
+
+-- The coordinate, the ring and the polygon of that index.
+abbrev pub coordinate_at : Given → ℕ → List ℤ
+coordinate_at g i = take (size g.dimension) (drop (i * size g.dimension) g.numbers.now)
+
+abbrev pub ring_at : Given → ℕ → List (List ℤ)
+ring_at g i = between (coordinate_at g) g.rings.now i
+
+abbrev pub polygon_at : Given → ℕ → List (List (List ℤ))
+polygon_at g i = between (ring_at g) g.polygons.now i
+
+abbrev pub polygons_in : Given → List (List (List (List ℤ)))
+polygons_in g = up_to (polygon_at g) 0 (length g.polygons.now - 1)
+
+-- None is less than the one before it.
+abbrev pub Ascend : List ℕ → Type 0
+Ascend offs = (i : ℕ) → i + 1 < length offs → slice_index offs i ≤ slice_index offs (i + 1)
+
+-- Each ring has one coordinate at most.
+abbrev pub AreRingsOfOne : List ℕ → Type 0
+AreRingsOfOne offs = (i : ℕ) → i + 1 < length offs → slice_index offs (i + 1) ≤ slice_index offs i + 1
+
+-- Offsets begin with 0, none is less than the one before it, and the last is `end`.
+pub record AreOffsetsTo (offs : List ℕ) (end : ℕ) : Type 0 where
+  pub some : 1 ≤ length offs
+  pub first : slice_index offs 0 ≡ 0
+  pub ascend : Ascend offs
+  pub last : slice_index offs (length offs - 1) ≡ end
+
+-- Numbers and offsets of rings and polygons fit each other.
+pub record AreWhole (g : Given) : Type 0 where
+  pub coordinates : ℕ
+  pub numbers : length g.numbers.now ≡ coordinates * size g.dimension
+  pub rings : AreOffsetsTo g.rings.now coordinates
+  pub polygons : AreOffsetsTo g.polygons.now (length g.rings.now - 1)
+
+-- A geometry of the kind has so many polygons and such rings.
+abbrev pub HasPartsOf : GeometryType → Given → Type 0
+HasPartsOf kind.Point g = (length g.polygons.now ≡ 2) × (length g.rings.now ≡ 2) × AreRingsOfOne g.rings.now
+HasPartsOf kind.LineString g = (length g.polygons.now ≡ 2) × (length g.rings.now ≡ 2)
+HasPartsOf kind.Polygon g = length g.polygons.now ≡ 2
+HasPartsOf kind.MultiLineString g = length g.polygons.now ≡ 2
+HasPartsOf kind.MultiPoint g = (length g.polygons.now ≡ 2) × AreRingsOfOne g.rings.now
+HasPartsOf kind.MultiPolygon g = Unit {0}
+HasPartsOf kind.GeometryCollection g = ⊥
+
+abbrev pub HasParts : Given → Type 0
+HasParts g = HasPartsOf g.kind g

@@ -19,7 +19,7 @@ use Rattle.wkt_num.specs.Decimal.{read_decimal, IsUnits}
 use Rattle.wkt_access.specs.Values.{Value}
 use Rattle.wkt_access.specs.WellFormed.{IsWellFormed}
 use Rattle.wkt_read.specs.Front.{Front, HasNoFront}
-use Rattle.wkt_read.specs.Kinds.{kind_of, dim_of}
+use Rattle.wkt_read.specs.Header.{kind_of, dim_of}
 use Rattle.wkt_fill.specs.declared.fill.Filled.{Filled}
 
 -- Flat arrays, as the events of a geometry fill them.

@@ -1,7 +1,7 @@
 //! Flat arrays, filled as the parts of a geometry come.
 ghost use Rattle.std.specs.Prelude.{◌≡◌, ◌≢◌, ◌⊎◌, ◌≤◌, [], ◌∷◌, length, take, IfSome, IfNone};
 ghost use Rattle.wkt_num.specs.Decimal.{read_decimal};
-ghost use Rattle.wkt_events.specs.Numbers.{NoNumber};
+ghost use Rattle.wkt_events.specs.Remaining.{NoNumber};
 ghost use Rattle.wkt_machine.specs.Makers.{MakesNumber};
 ghost use Rattle.wkt_fill.specs.Filled.{is_collection, kind_of_part, end_ring, end_polygon, end_part, ended, put, headed, on, filler_maker, view, FillerBecomes, FillerBegins, RefusesCollection, with_flat};
 

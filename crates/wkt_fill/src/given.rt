@@ -4,8 +4,7 @@ ghost use Rattle.std.specs.Bool.{OnTrue, OnFalse};
 ghost use Rattle.std.specs.List.{All, slice_index};
 ghost use Rattle.wkt_num.specs.Whole.{IsSigned};
 ghost use Rattle.wkt_access.specs.Values.{Value, size};
-ghost use Rattle.wkt_fill.specs.Arrays.{IsGiven};
-ghost use Rattle.wkt_fill.specs.Parts.{AreOffsetsTo, AreWhole, AreRingsOfOne, HasParts, Ascend};
+ghost use Rattle.wkt_fill.specs.Arrays.{IsGiven, AreOffsetsTo, AreWhole, AreRingsOfOne, HasParts, Ascend};
 
 use wkt_types::{Dimension, GeometryType};
 

@@ -4,8 +4,7 @@ ghost use Rattle.std.specs.List.{slice_index, slice_index_or};
 ghost use Rattle.wkt_access.specs.Values.{Value, size};
 ghost use Rattle.wkt_machine.specs.Events.{numbers, listed, events};
 ghost use Rattle.wkt_machine.specs.declared.part.Part.TheVariants as parts;
-ghost use Rattle.wkt_fill.specs.Arrays.{IsGiven, AreGiven, events_cost, Tells};
-ghost use Rattle.wkt_fill.specs.Parts.{AreWhole, coordinate_at, ring_at, polygon_at, polygons_in, up_to};
+ghost use Rattle.wkt_fill.specs.Arrays.{IsGiven, AreGiven, events_cost, Tells, AreWhole, coordinate_at, ring_at, polygon_at, polygons_in, up_to};
 
 use crate::given::{Given, size_of};
 use wkt_machine::{Axis, Builder, Part};

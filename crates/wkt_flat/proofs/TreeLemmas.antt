@@ -1,34 +1,35 @@
--- The tree of a geometry, kind by kind, and lists of members, compared, copied, closed and weighed.
-use Rattle.std.proofs.Common.{◌≡◌, ℕ, ◌<◌, ◌≤◌, ◌+◌, ◌-◌, ap, sym, ◌∙◌, List, [], ◌∷◌, drop, length, get_or, Bool, true, false, ◌&&◌, nat_eq, add-one, arith, eq-eqb, length-drop, refl, map, zero, suc, take, subst, ◌++◌, slice_set, Result, Ok, Err, ◌↔◌, IsTrue, ap₂, Some, slice_get}
+-- The tree of a geometry, kind by kind; lists of members, compared, copied, closed and weighed; the last of a ring; and no
+-- flat value has an error.
+use Rattle.std.proofs.Common.{◌≡◌, ℕ, ◌<◌, ◌≤◌, ◌+◌, ◌-◌, ap, sym, ◌∙◌, List, [], ◌∷◌, drop, length, get_or, Bool, true, false, ◌&&◌, nat_eq, add-one, arith, eq-eqb, length-drop, refl, map, zero, suc, take, subst, ◌++◌, slice_set, Result, Ok, Err, ◌↔◌, IsTrue, ap₂, Some, slice_get, if◌then◌else◌, sub-one, Option, None}
 use Rattle.std.specs.Prelude.{OnOk}
 use Rattle.std.proofs.lemmas.Bool.Decides.{nat_tests}
 use Rattle.std.proofs.Math.Seq.{drop-cons}
-use Rattle.std.proofs.lemmas.List.{drop_all, map-append, append_assoc, map_more}
+use Rattle.std.proofs.lemmas.List.{drop_all, map-append, append_assoc, map_more, append-nil}
 use Rattle.std.specs.List.{AllByRecursion}
 use Rattle.std.specs.Result.{IsOk}
-use Rattle.wkt_flat.specs.Trees.{flat_eq, flats_eq}
-use Rattle.wkt_flat.specs.Tree.{point, line, line_string, polygon, multi_point, multi_line_string, multi_polygon, collection, rect, triangle, Flat, Flats, flat_tree, flat_trees, flat_members, geometry_step, flats_step}
-use Rattle.wkt_flat.specs.Corners.{Corners}
-use Rattle.wkt_flat.specs.Rings.{Rings}
+use Rattle.std.specs.Cmp.Lexicographic.{pointwise}
+use Rattle.std.specs.Option.{option_or}
+use Rattle.wkt_flat.specs.Equal.{flat_eq, flats_eq, IsExact, exactly, exact_by, pointwise_exact, coord_eq, coord_exact, point_eq, point_exact, rings_eq, rings_exact}
+use Rattle.wkt_flat.specs.Tree.{point, line, line_string, polygon, multi_point, multi_line_string, multi_polygon, collection, rect, triangle, Flat, Flats, flat_tree, flat_trees, flat_members, geometry_step, flats_step, HasClosedRings, HaveClosedRings, total, flat_inside, inside, flats_weight, weight, weights, IsOneMore, no_flats, more_flats}
+use Rattle.wkt_flat.specs.Rings.{Corners, Rings, close, last_from, IsClosed}
 use Rattle.wkt_flat.specs.declared.coord.Coord.{Coord}
 use Rattle.wkt_flat.specs.declared.point.Point.{Point}
 use Rattle.wkt_flat.specs.declared.line.Line.{Line}
 use Rattle.wkt_flat.specs.declared.triangle.Triangle.{Triangle}
 use Rattle.wkt_flat.specs.declared.geometry.GeometryCollection.{GeometryCollection}
+use Rattle.wkt_access.specs.declared.dimensions.Dimensions.TheVariants.{Xy}
+use Rattle.wkt_access.specs.Shapes.{Shape, Shapes}
+use Rattle.wkt_access.specs.Parts.{collection_of, gathered, each, members_of}
+use Rattle.wkt_flat.specs.Shape.{flat_shape, flat_shapes, flat_numbers, flat_point_numbers, sequence_numbers, rings_shape}
+use Rattle.wkt_flat.specs.declared.geometry.Geometry.{Geometry}
 use Rattle.wkt_flat.specs.declared.geometry.Geometry.TheViews as views
 use Rattle.wkt_flat.specs.declared.geometry.Geometry.TheVariants as variants
 use Rattle.wkt_flat.specs.declared.geometry.Geometry.TheFolds as folds
 use Rattle.wkt_flat.specs.declared.geometry.Geometry.TheOpen as opens
-use Rattle.wkt_access.specs.declared.dimensions.Dimensions.TheVariants.{Xy}
-use Rattle.wkt_access.specs.Shapes.{Shape, Shapes}
-use Rattle.wkt_access.specs.Parts.{collection_of, gathered, each, members_of}
-use Rattle.wkt_flat.specs.Shape.{flat_shape, flat_shapes}
-use Rattle.wkt_flat.specs.declared.geometry.Geometry.{Geometry}
-use Rattle.wkt_flat.specs.Closed.{HasClosedRings, HaveClosedRings}
-use Rattle.wkt_flat.specs.Weight.{total, flat_inside, inside, flats_weight, weight, weights, IsOneMore}
-use Rattle.wkt_flat.specs.Exact.{IsExact, exactly, exact_by, pointwise_exact}
-use Rattle.wkt_flat.specs.Equal.{coord_eq, coord_exact, point_eq, point_exact, rings_eq, rings_exact}
-use Rattle.std.specs.Cmp.Lexicographic.{pointwise}
+use Rattle.wkt_access.specs.declared.error.Error.{Error}
+use Rattle.wkt_access.specs.Faults.{fault, faults, first_fault, coordinate_fault, coordinates_fault, point_fault, polygon_fault}
+
+-- The tree of a geometry, kind by kind, and lists of members, compared, copied, closed and weighed.
 
 -- Two lists compared item by item, by a loop over the first.
 
@@ -258,3 +259,76 @@ module _ {X Y : Type 0} (f : X → Y) where
   pub grown : (xs : List X) (i : ℕ) (x : X) (all new : List Y) (y : Y) → i < length xs → x ≡ get_or xs i x →
       all ≡ map f (take i xs) → y ≡ f x → new ≡ all ++ y ∷ [] → new ≡ map f (take (i + 1) xs)
   grown xs i x all new y lt e h k n = grown_after [] xs i x all new y lt e h k n
+
+-- The last of a ring; and no flat value has an error.
+
+-- The last of a ring.
+
+pub last_is : {C : Type 0} (c : C) (cs : List C) (x : C) → slice_get (c ∷ cs) (length cs) ≡ Some x → last_from c cs ≡ x
+last_is c [] x h = cc
+last_is c (d ∷ cs) x h = last_is d cs x h
+
+pub close_at : {C : Type 0} (E : C → C → Bool) (ring : List C) (first last : C) (b : Bool) →
+    slice_get ring 0 ≡ Some first → slice_get ring (length ring - 1) ≡ Some last → E last first ≡ b →
+    close E ring ≡ ring ++ (if b then [] else first ∷ [])
+close_at E [] first last b h k e = cc
+close_at E (c ∷ cs) first last b h k e =
+    let f : c ≡ first = cc in
+    let l : last_from c cs ≡ last = last_is c cs last (rw sub-one at k) in
+    rw (l, f, e) refl
+
+-- the same of coordinates
+pub ends_alike : {T : Type 0} (E : T → T → Bool) (ring : List (Coord T)) (first last : Coord T) →
+    Some first ≡ slice_get ring 0 → Some last ≡ slice_get ring (length ring - 1) → true ≡ coord_eq E last first → close (coord_eq E) ring ≡ ring ++ []
+ends_alike E ring first last h k e = close_at (coord_eq E) ring first last true (sym h) (sym k) (sym e)
+
+pub end_missing : {T : Type 0} (E : T → T → Bool) (ring : List (Coord T)) (first last : Coord T) →
+    Some first ≡ slice_get ring 0 → Some last ≡ slice_get ring (length ring - 1) → false ≡ coord_eq E last first → close (coord_eq E) ring ≡ ring ++ first ∷ []
+end_missing E ring first last h k e = close_at (coord_eq E) ring first last false (sym h) (sym k) (sym e)
+
+pub last-append : {C : Type 0} (c : C) (cs : List C) (x : C) → last_from c (cs ++ x ∷ []) ≡ x
+last-append c [] x = refl
+last-append c (d ∷ cs) x = last-append d cs x
+
+closed_by : {C : Type 0} (E : C → C → Bool) (e : IsExact E) (c : C) (cs : List C) (b : Bool) → E (last_from c cs) c ≡ b →
+    IsClosed (c ∷ cs ++ (if b then [] else c ∷ []))
+closed_by E e c cs true h = ap (λ xs. last_from c xs) (append-nil cs) ∙ e.only (last_from c cs) c h
+closed_by E e c cs false h = last-append c cs c
+
+pub close_closed : {C : Type 0} (E : C → C → Bool) (e : IsExact E) (ring : List C) → IsClosed (close E ring)
+close_closed E e [] = tt
+close_closed E e (c ∷ cs) = closed_by E e c cs (E (last_from c cs) c) refl
+
+pub all_closed : {C : Type 0} (E : C → C → Bool) (e : IsExact E) (rings : List (List C)) → AllByRecursion IsClosed (map (close E) rings)
+all_closed E e [] = tt
+all_closed E e (r ∷ rs) = (close_closed E e r, all_closed E e rs)
+
+-- No flat value has an error.
+
+clear : {A B : Type 0} (f : B → Option Error) (g : A → B) → ((x : A) → f (g x) ≡ None) → (xs : List A) → first_fault f (map g xs) ≡ None
+clear f g one [] = refl
+clear f g one (x ∷ xs) = ap (λ o. option_or o (first_fault f (map g xs))) (one x) ∙ clear f g one xs
+
+pub sequence_clear : {T : Type 0} (cs : List (Coord T)) → coordinates_fault 2 (sequence_numbers cs) ≡ None
+sequence_clear cs = clear (coordinate_fault 2) flat_numbers (λ c. refl) cs
+
+rings_clear : {T : Type 0} (e : List (Coord T)) (is : List (List (Coord T))) → polygon_fault 2 (rings_shape (record { exterior = e; interiors = is })) ≡ None
+rings_clear [] is = refl
+rings_clear (c ∷ cs) is = clear (coordinates_fault 2) sequence_numbers sequence_clear ((c ∷ cs) ∷ is)
+
+mutual
+  pub writable : {T : Type 0} (t : Flat T) → fault (flat_shape t) ≡ None
+  writable (point p) = refl
+  writable (line l) = refl
+  writable (line_string cs) = sequence_clear cs
+  writable (polygon y) = rings_clear y.exterior y.interiors
+  writable (multi_point ps) = clear (point_fault 2) (λ p. Some (flat_point_numbers p)) (λ p. refl) ps
+  writable (multi_line_string ls) = clear (coordinates_fault 2) sequence_numbers sequence_clear ls
+  writable (multi_polygon ys) = clear (polygon_fault 2) rings_shape (λ y. rings_clear y.exterior y.interiors) ys
+  writable (collection ts) = all_writable ts
+  writable (rect r) = refl
+  writable (triangle t) = refl
+
+  all_writable : {T : Type 0} (ts : Flats T) → faults (flat_shapes ts) ≡ None
+  all_writable no_flats = refl
+  all_writable (more_flats t ts) = ap (λ o. option_or o (faults (flat_shapes ts))) (writable t) ∙ all_writable ts

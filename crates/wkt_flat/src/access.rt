@@ -2,8 +2,7 @@
 ghost use Rattle.std.specs.Prelude.{map, Some};
 ghost use Rattle.wkt_access.specs.declared.dimensions.Dimensions.TheVariants.{Xy};
 ghost use Rattle.wkt_access.specs.Parts.{each};
-ghost use Rattle.wkt_flat.specs.Numbers.{flat_numbers};
-ghost use Rattle.wkt_flat.specs.Shape.{flat_point_numbers, sequence_numbers, rings_shape, flat_shapes};
+ghost use Rattle.wkt_flat.specs.Shape.{flat_numbers, flat_point_numbers, sequence_numbers, rings_shape, flat_shapes};
 ghost use Rattle.wkt_flat.specs.Tree.{flat_trees};
 
 use crate::coord::Coord;

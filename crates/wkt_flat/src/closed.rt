@@ -1,8 +1,7 @@
 //! That the rings of every polygon are closed, as a fact of whole geometries.
 ghost use Rattle.std.specs.List.{AllByRecursion};
 ghost use Rattle.wkt_flat.specs.Rings.{AreClosed};
-ghost use Rattle.wkt_flat.specs.Tree.{flat_tree, flat_trees};
-ghost use Rattle.wkt_flat.specs.Closed.{HasClosedRings, HaveClosedRings};
+ghost use Rattle.wkt_flat.specs.Tree.{flat_tree, flat_trees, HasClosedRings, HaveClosedRings};
 
 use crate::geometry::{Geometry, GeometryCollection};
 use crate::polygon::Polygon;

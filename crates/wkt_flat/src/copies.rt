@@ -1,7 +1,7 @@
 //! Copies of lists, which can run out of memory.
 ghost use Rattle.std.specs.Prelude.{◌≡◌, IfOk, OnOk};
 ghost use Rattle.std.specs.Result.{IsOk};
-ghost use Rattle.wkt_flat.specs.Weight.{IsOneMore};
+ghost use Rattle.wkt_flat.specs.Tree.{IsOneMore};
 
 use std::alloc::{AllocError, Global};
 

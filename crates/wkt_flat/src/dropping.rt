@@ -2,7 +2,7 @@
 //!
 //! The flat geometries and those of `wkt_types` are dropped by this one loop.
 ghost use Rattle.std.specs.Prelude.{◌≡◌, ◌+◌, ◌≤◌, ℕ, IfSome};
-ghost use Rattle.wkt_flat.specs.Weight.{total};
+ghost use Rattle.wkt_flat.specs.Tree.{total};
 
 use std::mem;
 

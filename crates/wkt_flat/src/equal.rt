@@ -2,10 +2,8 @@
 ghost use Rattle.std.specs.Prelude.{◌≡◌, IsTrue, ◌↔◌};
 ghost use Rattle.std.specs.Cmp.{on_per};
 ghost use Rattle.std.specs.Cmp.Lexicographic.{pointwise};
-ghost use Rattle.wkt_flat.specs.Equal.{coord_eq, coord_exact, point_eq, point_exact, line_eq, line_exact, sequence_eq, sequence_exact, rings_eq, rings_exact, corners_eq, corners_exact, triangle_eq, triangle_exact};
-ghost use Rattle.wkt_flat.specs.Exact.{exact_by, exact_per, pointwise_exact};
+ghost use Rattle.wkt_flat.specs.Equal.{coord_eq, coord_exact, point_eq, point_exact, line_eq, line_exact, sequence_eq, sequence_exact, rings_eq, rings_exact, corners_eq, corners_exact, triangle_eq, triangle_exact, exact_by, exact_per, pointwise_exact, flat_eq, flats_eq, flat_exact, flats_exact};
 ghost use Rattle.wkt_flat.specs.Tree.{flat_tree, flat_trees, flat_members};
-ghost use Rattle.wkt_flat.specs.Trees.{flat_eq, flats_eq, flat_exact, flats_exact};
 
 use crate::coord::Coord;
 use crate::geometry::{Geometry, GeometryCollection};

@@ -55,7 +55,7 @@ impl<T: Drop> Drop for GeometryCollection<T> {
 }
 
 impl<T: Drop> Nested for Geometry<T> {
-    ghost use Rattle.wkt_flat.specs.Weight.{inside, total};
+    ghost use Rattle.wkt_flat.specs.Tree.{inside, total};
 
     ghost inside = { inside };
 

@@ -8,16 +8,13 @@ use Rattle.wkt_flat.specs.declared.coord.Coord.{Coord}
 use Rattle.wkt_machine.specs.Growing.{numbers_by, members_of, Frame}
 use Rattle.wkt_flat_read.specs.Trees.{flat_coord, flat_line, flat_point, flat_points, plain, plains, is_empty, some_empty, holds_empty, hold_empty, flat_area, alone, coord_by, point_at, some_holds, found_of, members, FlatHoldsEnded, GivesCollection, GivesFlat, GivesOther, GivesMembers, FlatGives, IsLone}
 use Rattle.wkt_access.specs.declared.dimensions.Dimension.{Dimension}
-use Rattle.wkt_types.specs.Coords.{numbers_of}
-use Rattle.wkt_types.specs.Flattened.{xy}
-use Rattle.wkt_types.specs.Held.{Held, HeldPoint}
-use Rattle.wkt_types.specs.Outcome.{Outcome, value, refused, empty_point, mismatched}
+use Rattle.wkt_types.specs.Held.{numbers_of, Held, HeldPoint}
+use Rattle.wkt_types.specs.Outcome.{xy, Outcome, value, refused, empty_point, mismatched}
 use Rattle.wkt_types.specs.Tree.{Tree, Trees}
 use Rattle.wkt_types.specs.Values.{value_of, values_of, point_numbers, line_string_numbers, polygon_numbers}
 use Rattle.wkt_flat.specs.declared.point.Point.{Point}
-use Rattle.wkt_convert.specs.Flatten.{sequence, first_outside, rings, points, point_or_none, flat, flat_all, flat_collection}
+use Rattle.wkt_convert.specs.Flatten.{sequence, first_outside, rings, points, point_or_none, flat, flat_all, flat_collection, outcome_map, outcome_both}
 use Rattle.wkt_convert.specs.Kinds.{found_name}
-use Rattle.wkt_convert.specs.Outcomes.{outcome_map, outcome_both}
 use Rattle.wkt_convert.specs.declared.flattened.Found.{Found}
 use Rattle.wkt_types.specs.declared.coord.Coord as wkt_coord
 use Rattle.wkt_convert.specs.declared.flattened.Found.TheVariants as found

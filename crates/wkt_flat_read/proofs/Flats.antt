@@ -7,8 +7,7 @@ use Rattle.wkt_access.specs.declared.dimensions.Dimension.{Dimension}
 use Rattle.wkt_access.specs.declared.dimensions.Dimension.TheVariants.{XY, XYZ, XYM, XYZM}
 use Rattle.wkt_access.specs.Values.{Value, Values}
 use Rattle.wkt_access.specs.WellFormed.{CoordFits, LineStringFits, PolygonFits, PointFits, IsWellFormed, AreWellFormed}
-use Rattle.wkt_types.specs.Coords.{numbers_of}
-use Rattle.wkt_types.specs.Held.{Held, HeldPoint}
+use Rattle.wkt_types.specs.Held.{numbers_of, Held, HeldPoint}
 use Rattle.wkt_types.specs.Tree.{Tree, Trees}
 use Rattle.wkt_types.specs.Values.{HasDim, IsPointIn, IsLineStringIn, IsPolygonIn, AreUniform, IsWktOf, values_of, point_numbers, line_string_numbers, polygon_numbers}
 use Rattle.wkt_types.specs.declared.coord.Coord.{Coord as WktCoord}
@@ -17,7 +16,7 @@ use Rattle.wkt_read.specs.Refusal.{IfText}
 use Rattle.wkt_read.specs.Spanned.{lexemes_of, spanned}
 use Rattle.wkt_read.specs.declared.error.ReadError.{ReadError}
 use Rattle.wkt_read.specs.declared.error.ReadError.TheVariants.{Text, Memory}
-use Rattle.wkt_read.proofs.LawLemmas.OneForm.{geometry_fits}
+use Rattle.wkt_read.proofs.OneForm.{geometry_fits}
 use Rattle.wkt_flat.specs.declared.coord.Coord.{Coord}
 use Rattle.wkt_convert.specs.declared.flattened.Flattened.{Flattened}
 use Rattle.wkt_machine.specs.Events.{events}
@@ -25,10 +24,9 @@ use Rattle.wkt_machine.specs.Growing.{Growing, rest}
 use Rattle.wkt_machine.specs.Values.{TakesValue}
 use Rattle.wkt_machine.specs.View.{View}
 use Rattle.wkt_machine.proofs.ValueFromEvents.{value_grows}
-use Rattle.wkt_flat_read.specs.Read.{AnswersFlat, IsFlatRead, IsFlatFront}
-use Rattle.wkt_flat_read.specs.Trees.{FlatGrew, FlatHolds, FlatHoldsWhole, FlatIsLost, tree_maker, tree_of}
+use Rattle.wkt_flat_read.specs.Trees.{AnswersFlat, IsFlatRead, IsFlatFront, FlatGrew, FlatHolds, FlatHoldsWhole, FlatIsLost, tree_maker, tree_of}
 use Rattle.wkt_flat_read.specs.declared.tree.FlatTree.{FlatTree}
-use Rattle.wkt_machine.specs.Drives.{is_over}
+use Rattle.wkt_machine.specs.Machine.{is_over}
 use Rattle.wkt_machine.specs.Goes.{GoesFrom}
 use Rattle.wkt_machine.specs.Machines.{state_of}
 use Rattle.wkt_machine.specs.declared.source.At.{At}

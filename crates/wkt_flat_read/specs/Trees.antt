@@ -1,6 +1,7 @@
--- What a flat tree holds of what has grown, also where it is lent, and the flat value that it stands for.
+-- What a flat tree holds of what has grown, also where it is lent, the flat value that it stands for, and what a source and
+-- a text are read as.
 use Rattle.std.proofs.Common.{sym, subst, inl, inr}
-use Rattle.std.specs.Prelude.{List, [], ◌∷◌, ◌++◌, map, Option, Some, None, Bool, true, false, ◌||◌, ◌≡◌, ◌⊎◌, IfSome, Vec}
+use Rattle.std.specs.Prelude.{List, [], ◌∷◌, ◌++◌, map, Option, Some, None, Bool, true, false, ◌||◌, ◌≡◌, ◌⊎◌, IfSome, Vec, ℕ, Result, Ok, Err}
 use Rattle.std.specs.declared.alloc.Global.{Global}
 use Rattle.std.specs.Borrow.{MutBor}
 use Rattle.wkt_access.specs.Values.{Value, Values}
@@ -20,11 +21,18 @@ use Rattle.wkt_machine.specs.Events.{Event}
 use Rattle.wkt_machine.specs.Growing.{Frame, Growing, grow_all, joined, members_of, MayAll, grow}
 use Rattle.wkt_flat_read.specs.declared.tree.FlatEnded.{FlatEnded}
 use Rattle.wkt_flat_read.specs.declared.tree.FlatTree.{FlatTree}
-use Rattle.wkt_convert.specs.declared.flattened.Found.TheVariants as found
-use Rattle.wkt_flat_read.specs.declared.tree.FlatEnded.TheVariants as ended
 use Rattle.wkt_machine.specs.Trees.{grow_append}
 use Rattle.wkt_machine.specs.Makers.{Maker}
 use Rattle.wkt_flat_read.specs.declared.grower.FlatGrower.{FlatGrower}
+use Rattle.wkt_convert.specs.declared.flattened.Found.TheVariants as found
+use Rattle.wkt_flat_read.specs.declared.tree.FlatEnded.TheVariants as ended
+use Rattle.wkt_read.specs.Answered.{IsFront}
+use Rattle.wkt_read.specs.declared.error.ReadError.{ReadError}
+use Rattle.wkt_read.specs.declared.error.ReadError.TheVariants.{Text, Memory}
+use Rattle.wkt_machine.specs.Values.{IsRead}
+use Rattle.wkt_machine.specs.View.{View}
+
+-- What a flat tree holds of what has grown, also where it is lent, and the flat value that it stands for.
 
 -- The flat value of what is read, but for the empty points of multipoints: these aren't flat, and are left out.
 
@@ -273,3 +281,20 @@ module _ {T : Type 0} (E : Coord T → Coord T → Bool) where
     more = λ g h i es fs. grew_more (tree_of g).now (tree_of h).now (tree_of i).now es fs;
     less = λ s m n order h. tt;
   }
+
+-- What a source, and a text, are read as.
+
+-- The flat value of the geometry that ended; or memory was lacking.
+abbrev pub AnswersFlat : {T : Type 0} → (Coord T → Coord T → Bool) → FlatTree T → Result (Flattened T) ReadError → Type 0
+AnswersFlat {T} E t (Ok f) = (t.is_lost ≡ false) × ((v : Value T) → FlatHoldsWhole E t [] v → (k : Tree T) → value_of k ≡ v → IsFlattened E k f)
+AnswersFlat E t (Err (Text m)) = ⊥
+AnswersFlat E t (Err (Memory e)) = Unit {0}
+
+module _ {N : Type 0} (read : List ℕ → Option N) (E : Coord N → Coord N → Bool) where
+  -- It is flat what the value is read as that the lexemes which are taken stand for.
+  abbrev pub IsFlatRead : {S : Type 0} → View S → S → Flattened N → S → Type 0
+  IsFlatRead view s f t = (k : Tree N) × IsRead read view s k t × IsFlattened E k f
+
+  -- It is the flat value of the text's front.
+  abbrev pub IsFlatFront : List ℕ → Flattened N → Type 0
+  IsFlatFront text f = (k : Tree N) × IsFront read text k × IsFlattened E k f

@@ -5,7 +5,7 @@ ghost use Rattle.wkt_read.specs.Answered.{HasBadNumber, OnText, OnMessage};
 ghost use Rattle.wkt_read.specs.Front.{HasNoFront};
 ghost use Rattle.wkt_read.specs.Items.{bad_number};
 ghost use Rattle.wkt_read.specs.Refusal.{IsTextRefused, IfText};
-ghost use Rattle.wkt_flat_read.specs.Read.{AnswersFlat, IsFlatFront};
+ghost use Rattle.wkt_flat_read.specs.Trees.{AnswersFlat, IsFlatFront};
 
 use crate::grower::FlatGrower;
 use crate::tree::FlatTree;

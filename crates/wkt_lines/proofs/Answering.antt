@@ -12,7 +12,7 @@ use Rattle.wkt_lines.specs.Output.{IsAnswer}
 use Rattle.wkt_lines.specs.Replies.{AreReplies, BreaksReply, AddsReplyLine, BreaksReplyLine, BreaksReplies, RepliesLine, RepliesAll, RepliesBefore, ArePartReplies, PartReplied, PutsAnswer, OnSink, OnAnswerMemory}
 use Rattle.wkt_num.specs.Sink.{Sink, Adds, Breaks, GrewBy, next_count}
 use Rattle.wkt_lines.specs.declared.answer.AnswerError.{AnswerError}
-use Rattle.wkt_lines.proofs.OutputOfParts.{lines_step}
+use Rattle.wkt_lines.proofs.Outcomes.{lines_step}
 use Rattle.wkt_lines.specs.declared.answer.AnswerError.TheVariants as answered
 use Rattle.wkt_lines.specs.First.{AnswersFirst, EndsLine, AnswersBehind, TestsFrom}
 use Rattle.wkt_access.specs.Shapes.{shape_of}

@@ -1,4 +1,3 @@
-pub mod OutputOfParts
 pub mod Answering
 pub mod Outcomes
 pub mod Lining

@@ -4,7 +4,7 @@ use Rattle.wkt_events.specs.Remaining.{before_feed}
 use Rattle.wkt_lines.specs.Lines.{after_feed}
 use Rattle.wkt_lines.specs.Output.{IsAnswer}
 use Rattle.wkt_num.specs.Number.{ReadsTexts}
-use Rattle.wkt_canonical.specs.LongTexts.{HasLongText}
+use Rattle.wkt_canonical.specs.Canonical.{HasLongText}
 use Rattle.wkt_canonical.specs.declared.canonical.NoRoom.{NoRoom}
 use Rattle.wkt_lines.specs.declared.in_room.Answer.{Answer}
 

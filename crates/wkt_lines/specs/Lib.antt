@@ -1,4 +1,3 @@
-pub mod Numbers
 pub mod Output
 pub mod Laws
 pub mod Replies

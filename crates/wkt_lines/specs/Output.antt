@@ -1,5 +1,6 @@
--- The output of a program that answers line by line. Numbers are read by `read` and printed by `num`.
-use Rattle.std.specs.Prelude.{◌≡◌, ℕ, List, ◌⊎◌, Option, codes, IsUtf8, Result, Ok, Err}
+-- The output of a program that answers line by line. Numbers are read by `read` and printed by `num`; those of the program
+-- are decimals of eighteen places.
+use Rattle.std.specs.Prelude.{◌≡◌, ℕ, List, ◌⊎◌, Option, codes, IsUtf8, Result, Ok, Err, ℤ}
 use Rattle.wkt_num.specs.Sink.{Sink}
 use Rattle.wkt_access.specs.Values.{Value}
 use Rattle.wkt_access.specs.Shapes.{shape_of}
@@ -9,6 +10,9 @@ use Rattle.wkt_lines.specs.Lines.{input_lines}
 use Rattle.wkt_lines.specs.Replies.{AreReplies, AddsReply, BreaksReply}
 use Rattle.wkt_lines.specs.declared.lines.RunError.{RunError}
 use Rattle.wkt_lines.specs.declared.lines.RunError.TheVariants as run
+use Rattle.wkt_num.specs.Decimal.{read_decimal, decimal_text}
+
+-- The output of a program that answers line by line. Numbers are read by `read` and printed by `num`.
 
 module _ {N : Type 0} (read : List ℕ → Option N) (num : N → List ℕ) where
   -- The line is UTF-8 and has a front, and the answer is the text of the front's value.
@@ -79,3 +83,13 @@ UnlessRunWrite (Ok x) P = P
 UnlessRunWrite (Err (run.Read e)) P = P
 UnlessRunWrite (Err (run.Write e)) P = Unit {0}
 UnlessRunWrite (Err (run.Memory e)) P = P
+
+-- The numbers of the program: decimals of eighteen places.
+
+-- What a number of a line is read as.
+abbrev pub read_line : List ℕ → Option ℤ
+read_line = read_decimal 127 36 18
+
+-- What a number of an answer is printed as.
+abbrev pub print_line : ℤ → List ℕ
+print_line = decimal_text 18

@@ -2,7 +2,7 @@
 ghost use Rattle.std.specs.Prelude.{◌≡◌, ◌≢◌, ℕ, List, ◌≤◌, ◌<◌, [], ◌++◌, OnOk, OnErr, IfOk, length, take, drop, get_or, vec_len};
 ghost use Rattle.std.specs.Io.KnownBytes.{Consumes, Keeps, IsAtEnd};
 ghost use Rattle.wkt_num.specs.Sink.{next_count};
-ghost use Rattle.wkt_bytes.specs.ReadAll.{OnRead, UnlessRead};
+ghost use Rattle.wkt_bytes.specs.Sinks.{OnRead, UnlessRead};
 ghost use Rattle.wkt_lines.specs.Laws.{IsWholeLines};
 ghost use Rattle.wkt_lines.specs.Lines.{HasNoFeed};
 

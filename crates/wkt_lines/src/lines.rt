@@ -1,7 +1,6 @@
 //! Answers each line of a whole input.
 ghost use Rattle.std.specs.Prelude.{◌≡◌, ◌≤◌, ◌+◌, length, drop};
-ghost use Rattle.wkt_lines.specs.Numbers.{read_line, print_line};
-ghost use Rattle.wkt_lines.specs.Output.{IsAnswer};
+ghost use Rattle.wkt_lines.specs.Output.{read_line, print_line, IsAnswer};
 ghost use Rattle.wkt_lines.specs.Buffers.{AnswersAll};
 ghost use Rattle.wkt_lines.specs.Streaming.{Runs};
 

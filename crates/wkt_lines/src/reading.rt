@@ -2,7 +2,7 @@
 ghost use Rattle.std.specs.Prelude.{◌≡◌, ◌≢◌, ℕ, ◌+◌, ◌≤◌, [], IfOk, OnOk, OnErr, true, false, length, take, drop};
 ghost use Rattle.std.specs.Io.KnownBytes.{Keeps, IsAtEnd};
 ghost use Rattle.wkt_num.specs.Sink.{next_count};
-ghost use Rattle.wkt_bytes.specs.ReadAll.{OnRead, UnlessRead};
+ghost use Rattle.wkt_bytes.specs.Sinks.{OnRead, UnlessRead};
 ghost use Rattle.wkt_lines.specs.First.{EndsLine};
 ghost use Rattle.wkt_lines.specs.Buffers.{unanswered};
 

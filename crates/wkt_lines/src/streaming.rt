@@ -1,6 +1,5 @@
 //! Answers each line of an input that is read block by block.
-ghost use Rattle.wkt_lines.specs.Numbers.{read_line, print_line};
-ghost use Rattle.wkt_lines.specs.Output.{IsAnswer};
+ghost use Rattle.wkt_lines.specs.Output.{read_line, print_line, IsAnswer};
 ghost use Rattle.wkt_lines.specs.Streaming.{Streams};
 
 use crate::buffered::answer_block;

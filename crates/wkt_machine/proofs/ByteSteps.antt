@@ -6,18 +6,15 @@ use Rattle.std.proofs.lemmas.List.{take_rest}
 use Rattle.wkt_num.specs.Bytes.{Lexeme, Open, Close, Comma, Word, Num, Mark, class_of, Run, AllRun}
 use Rattle.wkt_access.specs.declared.dimensions.Dimension.{Dimension}
 use Rattle.wkt_read.specs.Spanned.{Spanned, AreEnds}
-use Rattle.wkt_events.specs.Remaining.{Legible, remaining_spanned, class_in, IsRunEnd, TakesOne}
-use Rattle.wkt_events.specs.Numbers.{NoNumber, IsNumberAt}
+use Rattle.wkt_events.specs.Remaining.{Legible, remaining_spanned, class_in, IsRunEnd, TakesOne, NoNumber, IsNumberAt}
 use Rattle.wkt_machine.specs.Action as act
-use Rattle.wkt_machine.specs.BytesView.{IsBetween, IsDark, bytes_view, has_coordinates}
+use Rattle.wkt_machine.specs.View.{IsBetween, IsDark, bytes_view, has_coordinates, seen_of, sight}
 use Rattle.wkt_machine.specs.Events.{Event}
 use Rattle.wkt_machine.specs.Goes.{Stays, MakesOneNumber, IsUnread, IsStuck, Goes, Refuses, closes}
-use Rattle.wkt_machine.specs.Machine.{at, numbers_after, inside, outside, last_place, number_step, said, moved, move, kind_step, joined_step, part_of}
+use Rattle.wkt_machine.specs.Machine.{at, numbers_after, inside, outside, last_place, number_step, said, moved, move, kind_step, joined_step, part_of, State}
 use Rattle.wkt_machine.specs.Machines.{state_of, place_of, after_third, state_for, next_after, is_single, HasNext, IsSound}
 use Rattle.wkt_machine.specs.Makers.{Maker}
-use Rattle.wkt_machine.specs.Place.{State}
-use Rattle.wkt_machine.specs.Place as place
-use Rattle.wkt_machine.specs.View.{seen_of, sight}
+use Rattle.wkt_machine.specs.Machine as place
 use Rattle.wkt_machine.specs.declared.bytes.Bytes.{Bytes}
 use Rattle.wkt_machine.specs.declared.machine.Machine.{Machine}
 use Rattle.wkt_machine.specs.declared.machine.State.{State as Next}
@@ -48,10 +45,10 @@ use Rattle.wkt_num.proofs.ReadNumbers.{decimal_utf8}
 use Rattle.wkt_access.specs.Values.{Value}
 use Rattle.wkt_types.specs.declared.geometry_type.GeometryType.{GeometryType}
 use Rattle.wkt_read.specs.Front.{Front}
-use Rattle.wkt_read.proofs.LawLemmas.HeaderPlaces.{front-of-lexemes}
-use Rattle.wkt_read.proofs.TokenizerLemmas.Placings.{spanned-ends}
+use Rattle.wkt_read.proofs.HeaderPlaces.{front-of-lexemes}
+use Rattle.wkt_read.proofs.Placings.{spanned-ends}
 use Rattle.wkt_events.proofs.Runs.{kept-there}
-use Rattle.wkt_machine.specs.Points.{IsPointFront}
+use Rattle.wkt_machine.specs.Lones.{IsPointFront}
 use Rattle.wkt_types.specs.declared.geometry_type.GeometryType.TheVariants as kind
 
 -- Numbers, commas and parentheses of coordinates in bytes, as steps of the machine.

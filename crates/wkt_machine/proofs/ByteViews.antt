@@ -7,22 +7,19 @@ use Rattle.wkt_num.specs.Bytes.{Lexeme, Open, Close, Comma, Word, Num, Class, Nu
 use Rattle.wkt_read.specs.Grammar.{kind_word}
 use Rattle.wkt_read.specs.Lexemes.{lexeme_of, starts_number, without_plus}
 use Rattle.wkt_read.specs.Spanned.{Spanned, lexemes_of, spanned}
-use Rattle.wkt_events.specs.Remaining.{Legible, class_in, remaining_spanned, remaining, IsRunEnd, TakesOne}
-use Rattle.wkt_events.specs.Numbers.{NoNumber, IsNumberAt}
+use Rattle.wkt_events.specs.Remaining.{Legible, class_in, remaining_spanned, remaining, IsRunEnd, TakesOne, NoNumber, IsNumberAt}
 use Rattle.wkt_events.proofs.RemainingLexemes.{class-same, class-in-mark, class-in-run, remaining-all, spanned-nul, spanned-past, remaining-begins, takes-mark, takes-run, takes-number, no-number}
 use Rattle.wkt_events.proofs.RemainingLexemes as classes
 use Rattle.wkt_events.proofs.Utf8Lines.{legible-one}
 use Rattle.wkt_events.proofs.Runs.{late-run, kept-there, range-run}
-use Rattle.wkt_machine.specs.BytesView.{IsBetween, IsDark, IsUnmarked, Sees, IsLooked, bytes_view}
+use Rattle.wkt_machine.specs.View.{IsBetween, IsDark, IsUnmarked, Sees, IsLooked, bytes_view, seen_of, seen_word, sight}
 use Rattle.wkt_machine.specs.Goes.{Stays, Skips, MakesOneNumber, IsUnread}
 use Rattle.wkt_machine.specs.Makers.{Maker, MakesNumber}
-use Rattle.wkt_machine.specs.View.{seen_of, seen_word, sight}
 use Rattle.wkt_machine.specs.declared.bytes.Bytes.{Bytes}
 use Rattle.wkt_machine.specs.declared.machine.Seen.{Seen}
 use Rattle.wkt_machine.specs.declared.part.Axis.{Axis}
 use Rattle.wkt_machine.specs.declared.machine.Seen.TheVariants as seen
-use Rattle.wkt_num.specs.Kept.{BeginsNumber, StopsRun}
-use Rattle.wkt_num.specs.Number.{IsNumberText}
+use Rattle.wkt_num.specs.Number.{BeginsNumber, StopsRun, IsNumberText}
 
 -- the bytes of marks
 pub open_mark : class_of 40 ≡ Mark Open

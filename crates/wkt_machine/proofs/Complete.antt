@@ -4,14 +4,13 @@ use Rattle.std.specs.Prelude.{◌⊎◌}
 use Rattle.std.specs.Str.{str_to_ascii_uppercase}
 use Rattle.wkt_num.specs.Bytes.{Lexeme, Open, Close, Comma, Word, Num}
 use Rattle.wkt_machine.specs.Events.{Event, axis_of, numbers, further, listed, perhaps, events, geometries, members}
-use Rattle.wkt_machine.specs.Machine.{Move, after, and_then, move, run, numbers_after, at, inside, outside, moved, said, comma_step, last_place, last_step, step, made, part_of, joined_step, kind_step, dimension_step}
-use Rattle.wkt_machine.specs.Place.{State}
-use Rattle.wkt_machine.specs.Place as place
+use Rattle.wkt_machine.specs.Machine.{Move, after, and_then, move, run, numbers_after, at, inside, outside, moved, said, comma_step, last_place, last_step, step, made, part_of, joined_step, kind_step, dimension_step, State}
+use Rattle.wkt_machine.specs.Machine as place
 use Rattle.wkt_access.specs.declared.dimensions.Dimension.{Dimension}
 use Rattle.wkt_access.specs.declared.dimensions.Dimension.TheVariants.{XY, XYZ, XYM, XYZM}
 use Rattle.wkt_access.specs.Values.{size, Value, Values}
 use Rattle.wkt_read.specs.Grammar.{IsEmptyWord, Within, More, Listed, Perhaps, Numbers, Coord, Ring, Poly, Member, dim_word, dim_in, DimPart, Header, StandFor, Geometries, Further}
-use Rattle.wkt_read.proofs.LawLemmas.KindWords.{is_empty}
+use Rattle.wkt_read.proofs.KindWords.{is_empty}
 use Rattle.wkt_machine.specs.declared.part.Part.{Part}
 use Rattle.wkt_machine.specs.Action as act
 use Rattle.wkt_machine.specs.declared.part.Axis.TheVariants as axis

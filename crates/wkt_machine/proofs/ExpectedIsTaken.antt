@@ -5,16 +5,14 @@ use Rattle.wkt_num.specs.Bytes.{Lexeme, Open, Close, Comma, Word, Num}
 use Rattle.wkt_access.specs.declared.dimensions.Dimension.{Dimension}
 use Rattle.wkt_access.specs.declared.dimensions.Dimension.TheVariants.{XY, XYZ, XYM, XYZM}
 use Rattle.wkt_read.specs.Grammar.{KindWord, kind_word, dim_word, is_empty_word}
-use Rattle.wkt_read.specs.Begun.{IsDead}
-use Rattle.wkt_read.proofs.LawLemmas.KindWords.{empty_is, is_empty}
+use Rattle.wkt_read.specs.Begun.{IsDead, opens, closes}
+use Rattle.wkt_read.proofs.KindWords.{empty_is, is_empty}
 use Rattle.wkt_read.specs.Explained.{IsKind, IsDimension, IsOpening, IsNumber, IsNamed, IsExpectedAfter}
-use Rattle.wkt_machine.specs.Drives.{start, is_over, over_at}
+use Rattle.wkt_machine.specs.Machine.{start, is_over, over_at, Move, outside, numbers_after, kind_step, dimension_step, bare_step, comma_step, said, moved, at, and_then, after, move, run, part_of, inside, joined_step, number_step, Place, State}
 use Rattle.wkt_machine.specs.Events.{Event}
 use Rattle.wkt_machine.specs.Refusing.{last_number, item_expected, opening_expected, expected_at, around, own}
-use Rattle.wkt_machine.specs.Machine.{Move, outside, numbers_after, kind_step, dimension_step, bare_step, comma_step, said, moved, at, and_then, after, move, run, part_of, inside, joined_step, number_step}
 use Rattle.wkt_machine.specs.declared.part.Part.{Part}
-use Rattle.wkt_machine.specs.Place.{Place, State}
-use Rattle.wkt_machine.specs.Place as place
+use Rattle.wkt_machine.specs.Machine as place
 use Rattle.wkt_machine.specs.Action.{Action}
 use Rattle.wkt_machine.specs.Action as act
 use Rattle.wkt_machine.proofs.WholeRuns.{exact, goes_on, refuses, run_append, then_some}
@@ -22,7 +20,6 @@ use Rattle.wkt_read.specs.declared.expected.Expected.TheVariants as expected
 use Rattle.wkt_machine.specs.declared.part.Part.TheVariants as part
 use Rattle.wkt_types.specs.declared.geometry_type.GeometryType.{GeometryType}
 use Rattle.wkt_read.specs.Context.{Context, no_context, after_lexeme}
-use Rattle.wkt_read.specs.Early.{opens, closes}
 use Rattle.wkt_machine.proofs.ContextOfPlace.{NotBare, is_inner, Fits, FitsState, fits_next}
 use Rattle.wkt_types.specs.declared.geometry_type.GeometryType.TheVariants as kind
 

@@ -1,4 +1,5 @@
--- Where a drive over a text ends its front does, and what is read there is its value.
+-- Where a drive over a text ends its front does, and what is read there is its value; what is answered where the machine
+-- was driven over the text that a source begins with.
 use Rattle.std.proofs.Common.{◌≡◌, ℕ, List, [], ◌∷◌, ◌++◌, sym, refl, ap, ◌∙◌, subst, append_assoc, append-nil, Option, Some, None, false, true, ◌⊎◌, inl, inr, Result, Ok, Err, IfOk, IfSome, ◌||◌, option_map}
 use Rattle.std.specs.Borrow.{MutBor}
 use Rattle.std.specs.declared.alloc.AllocError.{AllocError}
@@ -7,21 +8,19 @@ use Rattle.wkt_num.specs.Bytes.{Lexeme}
 use Rattle.wkt_access.specs.Values.{Value}
 use Rattle.wkt_read.specs.Begun.{NoneBegins}
 use Rattle.wkt_read.specs.Front.{Front, HasNoFront, NeedsNoMemory}
-use Rattle.wkt_read.specs.Spanned.{Spanned, lexemes_of, end_after, AreEnds, spanned}
-use Rattle.wkt_read.proofs.LawLemmas.Begun.{CutIn, Later, Earlier, cut_in}
-use Rattle.wkt_read.proofs.LawLemmas.OneForm.{taken_begin, geometry_fits, front_one}
-use Rattle.wkt_read.proofs.LawLemmas.HeaderPlaces.{front-of-lexemes}
-use Rattle.wkt_read.proofs.LawLemmas.Splits.{split_one}
-use Rattle.wkt_read.proofs.TokenizerLemmas.Placings.{spanned-split, spanned-ends}
-use Rattle.wkt_machine.specs.Drives.{start, is_over}
+use Rattle.wkt_read.specs.Spanned.{Spanned, lexemes_of, end_after, AreEnds, spanned, Standing}
+use Rattle.wkt_read.proofs.Begun.{CutIn, Later, Earlier, cut_in}
+use Rattle.wkt_read.proofs.OneForm.{taken_begin, geometry_fits, front_one}
+use Rattle.wkt_read.proofs.HeaderPlaces.{front-of-lexemes}
+use Rattle.wkt_read.proofs.Splits.{split_one}
+use Rattle.wkt_read.proofs.Placings.{spanned-split, spanned-ends}
+use Rattle.wkt_machine.specs.Machine.{start, is_over, Move, at, move, run, State}
+use Rattle.wkt_machine.specs.Machine as place
 use Rattle.wkt_machine.specs.Events.{Event, events, numbers}
 use Rattle.wkt_machine.specs.Goes.{GoesFrom, RefusesFrom, IsStuck}
-use Rattle.wkt_machine.specs.Machine.{Move, at, move, run}
 use Rattle.wkt_machine.specs.Machines.{state_of}
 use Rattle.wkt_machine.specs.Makers.{Maker}
-use Rattle.wkt_machine.specs.Place.{State}
-use Rattle.wkt_machine.specs.Place as place
-use Rattle.wkt_machine.specs.View.{View}
+use Rattle.wkt_machine.specs.View.{View, tokens_view}
 use Rattle.wkt_machine.specs.declared.source.At.{At}
 use Rattle.wkt_machine.proofs.Complete.{value_run}
 use Rattle.wkt_machine.proofs.WholeRuns.{exact, goes_on, front_run, stuck, no_front}
@@ -36,32 +35,31 @@ use Rattle.wkt_machine.specs.declared.tree.Tree.{Tree}
 use Rattle.wkt_machine.specs.declared.value.Unread.{Unread}
 use Rattle.wkt_machine.specs.declared.value.Unread.TheVariants.{Refused, Memory}
 use Rattle.wkt_machine.proofs.ValueFromEvents.{value_grows}
-use Rattle.wkt_machine.specs.declared.part.Part.TheVariants as part
 use Rattle.wkt_read.specs.Answered.{IsFrontTo, HasBadNumber, IsFront, OnText, OnMessage}
 use Rattle.wkt_access.specs.declared.dimensions.Dimension.TheVariants.{XY}
-use Rattle.wkt_machine.specs.declared.machine.State.TheVariants as state
-use Rattle.wkt_types.specs.Coords.{numbers_of}
-use Rattle.wkt_types.specs.Held.{HeldPoint}
+use Rattle.wkt_types.specs.Held.{numbers_of, HeldPoint}
 use Rattle.wkt_types.specs.Values.{HasDimIfAny, IsWktOf}
 use Rattle.wkt_types.specs.declared.coord.Coord.{Coord}
-use Rattle.wkt_read.specs.Ahead.{remaining, rest as rest_of, end_of}
+use Rattle.wkt_read.specs.Stream.{remaining, rest as rest_of, end_of}
 use Rattle.wkt_read.specs.Items.{bad_number}
 use Rattle.wkt_read.specs.Messages.{message_text}
 use Rattle.wkt_read.specs.Refusal.{IsTextRefused, IfText}
-use Rattle.wkt_read.specs.Standing.{Standing}
 use Rattle.wkt_read.specs.declared.error.ReadError.{ReadError}
 use Rattle.wkt_read.specs.declared.messages.Message.{Message}
-use Rattle.wkt_read.proofs.ParserLemmas.Answering.{from-front, no-front, split-of}
+use Rattle.wkt_read.proofs.Answering.{from-front, no-front, split-of}
 use Rattle.wkt_machine.specs.Refusing.{refused as refusal}
-use Rattle.wkt_machine.specs.TokensView.{tokens_view}
 use Rattle.wkt_machine.specs.declared.tokens.OneByOne.{OneByOne}
 use Rattle.wkt_machine.specs.declared.tree.Grower.{Grower}
 use Rattle.wkt_machine.proofs.Reading.{front, memory_free, ok_advances, ok_found, stuck_bad, stuck_none, stuck_refusal}
+use Rattle.wkt_machine.specs.declared.part.Part.TheVariants as part
+use Rattle.wkt_machine.specs.declared.machine.State.TheVariants as state
 use Rattle.wkt_types.specs.declared.geometry.Wkt.TheVariants as variants
 use Rattle.wkt_types.specs.declared.geometry.Wkt.TheFolds as folds
 use Rattle.wkt_types.specs.declared.geometry.Wkt.TheOpen as opened
 use Rattle.wkt_read.specs.declared.error.ReadError.TheVariants as reader
 use Rattle.wkt_machine.specs.declared.tree.Ended.TheVariants as ended
+
+-- Where a drive over a text ends its front does, and what is read there is its value.
 
 -- Where a drive over a text ends, its front does, or it has none.
 
@@ -344,3 +342,32 @@ pub answer_refusal : {N : Type 0} (u : Tree N) (P : List ℕ → Type 0) (r : Re
 answer_refusal u P (Ok w) k = tt
 answer_refusal u P (Err (reader.Text m)) k = absurd k
 answer_refusal u P (Err (reader.Memory e)) k = tt
+
+-- What is answered where the machine was driven over the text that a source begins with.
+
+-- A tree that holds nothing yet grows over the source, and a value ends.
+module _ {N S : Type 0} (is_value : N → Type 0) (read : List ℕ → Option N) (values : (bs : List ℕ) → IfSome (read bs) is_value) (view : View S)
+    (text : List ℕ) (s : S) (begins : view.remaining s ≡ spanned text) (b : Grower N) (to : At S (Grower N))
+    (on : GoesFrom read view tree_maker s b to) (over : is_over (state_of to.machine) ≡ true) (empty : Holds (tree_of b).now (rest [] None))
+    (u : Tree N) (same : u ≡ (tree_of to.builder).now) (upto : ℕ) (ends : (end : ℕ) → view.place to.source end → upto ≡ end) where
+  grew_driven : (v : Value N) × TakesValue read view s v to.source × Grew (tree_of b).now (events v) u
+  grew_driven =
+      let (v, takes, grew) = taken read view tree_maker s b to on over in
+      (v, takes, subst (Grew (tree_of b).now (events v)) (sym same) grew)
+
+  pub ended_found_to : (w : Wkt N) → AnswersTree u (Ok w) → IsFrontTo read text (tree w) upto
+  ended_found_to w k =
+      found_in read view text s begins to.source upto ends w (Ok w) refl
+      (read_off is_value read values view (tree_of b).now u s to.source empty grew_driven (Ok w) k)
+
+  pub answer_found_to : (w : Wkt N) → AnswersReader u (Ok w) → IsFrontTo read text (tree w) upto
+  answer_found_to w k = ended_found_to w k
+
+  lost_driven : (e : AllocError) → AnswersTree u (Err (Memory e)) → (v : Value N) (end : ℕ) → Front read text v end → NeedsNoMemory v → ⊥
+  lost_driven e k v end is_front free =
+      memory_in read view text s begins to.source e (Memory e) (Err (Memory e)) refl refl
+      (wants_memory is_value read values view (tree_of b).now u s to.source empty grew_driven (Err (Memory e)) k) ⊥ v end is_front free
+
+  pub answer_lost_free : (e : ReadError) → AnswersReader u (Err e) → (v : Value N) (end : ℕ) → Front read text v end → NeedsNoMemory v → ⊥
+  answer_lost_free (reader.Text m) k v end is_front free = absurd k
+  answer_lost_free (reader.Memory e) k v end is_front free = lost_driven e k v end is_front free

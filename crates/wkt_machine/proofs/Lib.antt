@@ -17,5 +17,4 @@ pub mod NextLexeme
 pub mod Reading
 pub mod ByteSteps
 pub mod FrontValues
-mod DrivenBytes
 mod Lones

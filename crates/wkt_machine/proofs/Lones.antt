@@ -8,24 +8,23 @@ use Rattle.wkt_types.specs.Tree.{tree, Tree as Kept}
 use Rattle.wkt_types.specs.Values.{IsWktOf}
 use Rattle.wkt_types.specs.declared.coord.Coord.{Coord}
 use Rattle.wkt_types.specs.declared.geometry.Wkt.TheVariants as variants
-use Rattle.wkt_read.specs.Ahead.{remaining, rest as rest_of, end_of}
+use Rattle.wkt_read.specs.Stream.{remaining, rest as rest_of, end_of}
 use Rattle.wkt_read.specs.Answered.{HasBadNumber, IsFront}
 use Rattle.wkt_read.specs.Front.{HasNoFront}
 use Rattle.wkt_read.specs.Items.{bad_number}
 use Rattle.wkt_read.specs.Messages.{message_text}
 use Rattle.wkt_read.specs.Refusal.{IsTextRefused}
-use Rattle.wkt_read.specs.Spanned.{AreEnds, lexemes_of, spanned}
-use Rattle.wkt_read.specs.Standing.{Standing}
+use Rattle.wkt_read.specs.Spanned.{AreEnds, lexemes_of, spanned, Standing}
 use Rattle.wkt_read.specs.declared.messages.Message.{Message}
-use Rattle.wkt_read.proofs.LawLemmas.OneForm.{geometry_fits}
-use Rattle.wkt_read.proofs.ParserLemmas.Answering.{no-front, split-of}
-use Rattle.wkt_machine.specs.Drives.{is_over}
+use Rattle.wkt_read.proofs.OneForm.{geometry_fits}
+use Rattle.wkt_read.proofs.Answering.{no-front, split-of}
+use Rattle.wkt_machine.specs.Machine.{is_over}
 use Rattle.wkt_machine.specs.Events.{Event, events, geometries, listed, numbers, perhaps}
 use Rattle.wkt_machine.specs.Goes.{GoesFrom, RefusesFrom}
 use Rattle.wkt_machine.specs.Lones.{IsLonePair, lone_maker, lone_of, tell, tell_all}
 use Rattle.wkt_machine.specs.Machines.{state_of}
 use Rattle.wkt_machine.specs.Refusing.{refused as refusal}
-use Rattle.wkt_machine.specs.TokensView.{tokens_view}
+use Rattle.wkt_machine.specs.View.{tokens_view}
 use Rattle.wkt_machine.specs.Values.{IsRead}
 use Rattle.wkt_machine.specs.declared.lone.Keeper.{Keeper}
 use Rattle.wkt_machine.specs.declared.lone.Lone.{Lone}

@@ -5,8 +5,7 @@ use Rattle.std.specs.Borrow.{Bor}
 use Rattle.wkt_num.specs.Bytes.{Lexeme, Num, Word, Mark, class_of, Open, Close, Comma}
 use Rattle.wkt_access.specs.declared.dimensions.Dimension.{Dimension}
 use Rattle.wkt_access.specs.declared.dimensions.Dimension.TheVariants.{XY, XYZ, XYM, XYZM}
-use Rattle.wkt_read.specs.Ahead.{first_of}
-use Rattle.wkt_read.specs.Parser.Walks.{IsFirst, TakesNext}
+use Rattle.wkt_read.specs.Stream.{first_of, IsFirst, TakesNext}
 use Rattle.wkt_read.specs.Spanned.{Spanned, lexemes_of}
 use Rattle.wkt_read.specs.Table.{at_bad, at_number, stays, at_end, at_place, closing, closings}
 use Rattle.wkt_read.specs.declared.expected.Expected.{Expected}
@@ -14,30 +13,26 @@ use Rattle.wkt_machine.specs.Action.{Action}
 use Rattle.wkt_machine.specs.Action as act
 use Rattle.wkt_machine.specs.Refusing.{expected_at, last_number, number_expected, blamed, is_number, takes_number}
 use Rattle.wkt_machine.specs.Goes.{IsStuck, Stays, MakesOneNumber, IsUnread, Goes, Refuses, EndsPoint, closes}
-use Rattle.wkt_machine.specs.Machine.{at, move, moved, number_step, numbers_after, said, bare_step, last_place, last_step, step_at, made}
+use Rattle.wkt_machine.specs.Machine.{at, move, moved, number_step, numbers_after, said, bare_step, last_place, last_step, step_at, made, Place, State, is_over, over_at}
 use Rattle.wkt_machine.specs.Machines.{state_of, place_of, after_third, state_for, next_after, HasNext, IsSound}
-use Rattle.wkt_machine.specs.Place.{Place, State}
-use Rattle.wkt_machine.specs.Place as place
+use Rattle.wkt_machine.specs.Machine as place
 use Rattle.wkt_machine.specs.declared.machine.Machine.{Machine}
 use Rattle.wkt_read.specs.declared.expected.Expected.TheVariants as expected
 use Rattle.wkt_read.specs.declared.messages.Message.TheVariants as message
 use Rattle.wkt_machine.specs.declared.part.Part.TheVariants as part
 use Rattle.wkt_read.specs.Lexemes.{starts_number, without_plus}
 use Rattle.wkt_read.specs.declared.messages.Message.{Message}
-use Rattle.wkt_events.specs.Remaining.{class_in, remaining, remaining_spanned, IsRunEnd, TakesOne}
-use Rattle.wkt_events.specs.Numbers.{IsNumberAt, NoNumber}
+use Rattle.wkt_events.specs.Remaining.{class_in, remaining, remaining_spanned, IsRunEnd, TakesOne, IsNumberAt, NoNumber}
 use Rattle.wkt_events.proofs.RemainingLexemes.{takes-after, takes-remaining, takes-mark, takes-number}
 use Rattle.wkt_events.proofs.RemainingLexemes as classes
-use Rattle.wkt_machine.specs.BytesView.{IsDark, IsUnmarked}
+use Rattle.wkt_machine.specs.View.{IsDark, IsUnmarked, seen_of, seen_word, seen_other, sight, View}
 use Rattle.wkt_machine.specs.LexemesAhead.{ShowsLexeme, GivesNext}
 use Rattle.wkt_machine.specs.declared.message.Given.{Given}
 use Rattle.wkt_machine.proofs.ByteViews.{none_left, none_unread, number_run, takes_word, takes_digits}
 use Rattle.wkt_machine.specs.declared.message.Given.TheVariants as given
 use Rattle.wkt_read.specs.Grammar.{KindWord, kind_word, dim_word, is_empty_word}
-use Rattle.wkt_machine.specs.Drives.{is_over, over_at}
 use Rattle.wkt_machine.specs.Events.{Event, axis_of}
 use Rattle.wkt_machine.specs.Makers.{Maker}
-use Rattle.wkt_machine.specs.View.{seen_of, seen_word, seen_other, sight, View}
 use Rattle.wkt_machine.specs.declared.machine.Seen.{Seen}
 use Rattle.wkt_machine.specs.declared.part.Axis.{Axis}
 use Rattle.wkt_machine.specs.declared.part.Part.{Part}

@@ -8,13 +8,11 @@ use Rattle.wkt_access.specs.Values.{size, Value, Values}
 use Rattle.wkt_types.specs.declared.geometry_type.GeometryType.{GeometryType}
 use Rattle.wkt_types.specs.declared.geometry_type.GeometryType.TheVariants as kind
 use Rattle.wkt_read.specs.Grammar.{KindWord, kind_word, dim_word, DimPart, Header, IsEmptyWord, Within, More, Many, Listed, Perhaps, Numbers, Coord, Ring, Poly, Member, StandFor, Geometries, Further, is_empty_word}
-use Rattle.wkt_read.proofs.LawLemmas.KindWords.{empty_is}
-use Rattle.wkt_machine.specs.Machine.{part_of, numbers_after, inside, outside, kind_step, joined_step, dimension_step, last_place, number_step, bare_step, comma_step, step_at}
+use Rattle.wkt_read.proofs.KindWords.{empty_is}
+use Rattle.wkt_machine.specs.Machine.{part_of, numbers_after, inside, outside, kind_step, joined_step, dimension_step, last_place, number_step, bare_step, comma_step, step_at, Place, State}
 use Rattle.wkt_machine.specs.declared.part.Part.{Part}
 use Rattle.wkt_machine.specs.declared.part.Part.TheVariants as part
-use Rattle.wkt_machine.specs.Place.{Place}
-use Rattle.wkt_machine.specs.Place as place
-use Rattle.wkt_machine.specs.Place.{State}
+use Rattle.wkt_machine.specs.Machine as place
 use Rattle.wkt_machine.specs.Action.{Action}
 use Rattle.wkt_machine.specs.Action as act
 use Rattle.wkt_machine.proofs.Complete.{size_after, some_after}

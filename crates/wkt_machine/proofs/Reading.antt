@@ -3,10 +3,8 @@ use Rattle.std.proofs.Common.{◌≡◌, ◌≤◌, ℕ, zero, suc, ◌+◌, Lis
 use Rattle.std.specs.Prelude.{IfOk}
 use Rattle.std.specs.declared.alloc.AllocError.{AllocError}
 use Rattle.wkt_num.specs.Bytes.{Lexeme, Open}
-use Rattle.wkt_read.specs.Ahead.{remaining, end_of, taken_of, Moves, Advances, rest, IsNear}
-use Rattle.wkt_read.specs.Parser.Walks.{IsFirst, TakesNext}
-use Rattle.wkt_read.specs.Spanned.{end_after, Spanned, lexemes_of, AreEnds}
-use Rattle.wkt_read.specs.Standing.{Standing}
+use Rattle.wkt_read.specs.Stream.{remaining, end_of, taken_of, Moves, Advances, rest, IsNear, IsFirst, TakesNext}
+use Rattle.wkt_read.specs.Spanned.{end_after, Spanned, lexemes_of, AreEnds, Standing}
 use Rattle.wkt_read.specs.declared.messages.Message.{Message}
 use Rattle.wkt_read.specs.Table.{at_place, left_at, stays, closing, closings}
 use Rattle.wkt_read.specs.declared.expected.Expected.{Expected}
@@ -16,21 +14,19 @@ use Rattle.wkt_access.specs.Values.{Value}
 use Rattle.wkt_types.specs.Tree.{Tree, tree}
 use Rattle.wkt_types.specs.declared.geometry.Wkt.{Wkt}
 use Rattle.wkt_read.specs.Answered.{Begins, IsReadOff, IsFront, OnText, OnMessage}
-use Rattle.wkt_read.specs.Bad.{HasBad}
-use Rattle.wkt_read.specs.Begun.{NoneBegins}
-use Rattle.wkt_read.specs.Early.{StopsEarly}
+use Rattle.wkt_read.specs.Items.{HasBad, bad_number}
+use Rattle.wkt_read.specs.Begun.{NoneBegins, StopsEarly}
 use Rattle.wkt_read.specs.Front.{NeedsNoMemory}
-use Rattle.wkt_read.specs.Items.{bad_number}
 use Rattle.wkt_read.specs.Messages.{message_text}
 use Rattle.wkt_read.specs.Refusal.{HasMessage, IsRefused as SaysOf, IfText}
 use Rattle.wkt_read.specs.declared.error.ReadError.{ReadError}
 use Rattle.wkt_read.specs.declared.error.ReadError.TheVariants.{Text, Memory}
 use Rattle.wkt_read.proofs.Refusals.{one-text, message_none, message_bad}
-use Rattle.wkt_read.proofs.LawLemmas.OneForm.{geometry_one}
-use Rattle.wkt_read.proofs.ParserLemmas.Answering.{rest-is, some-taken, to-front}
+use Rattle.wkt_read.proofs.OneForm.{geometry_one}
+use Rattle.wkt_read.proofs.Answering.{rest-is, some-taken, to-front}
 use Rattle.wkt_machine.specs.Goes.{IsStuck}
 use Rattle.wkt_machine.specs.Machines.{state_of}
-use Rattle.wkt_machine.specs.TokensView.{tokens_view}
+use Rattle.wkt_machine.specs.View.{tokens_view}
 use Rattle.wkt_machine.specs.Values.{TakesValue, IsRead, MachineRefuses, OnMemory, OnRefused, WantsMemory}
 use Rattle.wkt_machine.specs.declared.machine.Machine.{Machine}
 use Rattle.wkt_machine.specs.declared.tokens.OneByOne.{OneByOne}

@@ -12,7 +12,7 @@ use Rattle.wkt_types.specs.declared.geometry_type.GeometryType.{GeometryType}
 use Rattle.wkt_read.specs.Grammar.{KindWord, kind_words, entry_in, kind_word, dim_word, is_empty_word}
 use Rattle.wkt_read.specs.Lexemes.{lexeme_of, starts_number, without_plus}
 use Rattle.wkt_read.specs.Spanned.{Spanned, front, after_run, joined, spanned_from}
-use Rattle.wkt_read.proofs.LawLemmas.KindWords.{empty_is}
+use Rattle.wkt_read.proofs.KindWords.{empty_is}
 use Rattle.wkt_events.specs.Remaining.{before_feed, line_of, class_in, remaining_spanned}
 use Rattle.wkt_events.proofs.RemainingLexemes.{class-in-mark, class-in-run, spanned-class, within}
 use Rattle.wkt_machine.specs.Machine.{part_of, at, inside, outside}

@@ -3,17 +3,14 @@ use Rattle.std.proofs.Common.{◌≡◌, ℕ, ◌+◌, ◌*◌, ◌≤◌, List,
 use Rattle.wkt_num.specs.Bytes.{Lexeme, Mark, class_of, Num}
 use Rattle.wkt_access.specs.declared.dimensions.Dimension.{Dimension}
 use Rattle.wkt_types.specs.declared.geometry_type.GeometryType.{GeometryType}
-use Rattle.wkt_read.specs.Ahead.{remaining, end_of, Moves}
-use Rattle.wkt_read.specs.Standing.{Standing}
-use Rattle.wkt_read.specs.Taking.{Looks, TakesNumber, TakesKind}
+use Rattle.wkt_read.specs.Stream.{remaining, end_of, Moves, Looks, TakesNumber, TakesKind}
+use Rattle.wkt_read.specs.Spanned.{Standing}
 use Rattle.wkt_events.specs.Remaining.{remaining_spanned, IsRunEnd, TakesOne}
-use Rattle.wkt_machine.specs.BytesView.{bytes_view}
+use Rattle.wkt_machine.specs.View.{bytes_view, seen_of, sight, tokens_view}
 use Rattle.wkt_machine.specs.LexemesAhead.{StandsHead}
 use Rattle.wkt_machine.specs.Machine.{part_of}
 use Rattle.wkt_machine.specs.Makers.{Maker, MakesNumber}
 use Rattle.wkt_machine.specs.Room.{header_cost, need, Leaves, HasRoom, number_cost, FitsNumber, LeavesBehind, HasNumberRoom, LeavesNumber}
-use Rattle.wkt_machine.specs.View.{seen_of, sight}
-use Rattle.wkt_machine.specs.TokensView.{tokens_view}
 use Rattle.wkt_machine.specs.declared.bytes.Bytes.{Bytes}
 use Rattle.wkt_machine.specs.declared.part.Part.{Part}
 use Rattle.wkt_machine.specs.declared.tokens.OneByOne.{OneByOne}

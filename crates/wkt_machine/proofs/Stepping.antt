@@ -9,17 +9,15 @@ use Rattle.wkt_access.specs.declared.dimensions.Dimension.TheVariants.{XY, XYZ, 
 use Rattle.wkt_types.specs.declared.geometry_type.GeometryType.{GeometryType}
 use Rattle.wkt_read.specs.Grammar.{KindWord, kind_words, entry_in, kind_word, dim_word, dim_in, is_empty_word}
 use Rattle.wkt_read.specs.Spanned.{Spanned}
-use Rattle.wkt_read.proofs.LawLemmas.KindWords.{empty_is}
+use Rattle.wkt_read.proofs.KindWords.{empty_is}
 use Rattle.wkt_machine.specs.Action.{Action}
 use Rattle.wkt_machine.specs.Action as act
-use Rattle.wkt_machine.specs.Drives.{is_over, over_at}
+use Rattle.wkt_machine.specs.Machine.{is_over, over_at, at, part_of, inside, outside, kind_step, joined_step, dimension_step, bare_step, number_step, comma_step, step_at, made, number_of, moved, and_then, move, run, Place, State}
 use Rattle.wkt_machine.specs.Events.{Event}
 use Rattle.wkt_machine.specs.Goes.{Stays, Skips, IsStuck, Goes, Refuses}
-use Rattle.wkt_machine.specs.Machine.{at, part_of, inside, outside, kind_step, joined_step, dimension_step, bare_step, number_step, comma_step, step_at, made, number_of, moved, and_then, move, run}
 use Rattle.wkt_machine.specs.Machines.{state_of, place_of, is_single, IsSound}
 use Rattle.wkt_machine.specs.Makers.{Maker}
-use Rattle.wkt_machine.specs.Place.{Place, State}
-use Rattle.wkt_machine.specs.Place as place
+use Rattle.wkt_machine.specs.Machine as place
 use Rattle.wkt_machine.specs.View.{seen_of, seen_word, seen_other, sight, View}
 use Rattle.wkt_machine.specs.declared.machine.Machine.{Machine}
 use Rattle.wkt_machine.specs.declared.machine.Seen.{Seen}

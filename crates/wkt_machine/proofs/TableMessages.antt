@@ -6,7 +6,7 @@ use Rattle.wkt_num.specs.Bytes.{Lexeme, White, class_of, AllWhite}
 use Rattle.wkt_access.specs.Values.{Value}
 use Rattle.wkt_read.specs.Answered.{Begins, HasBadNumber}
 use Rattle.wkt_read.specs.Context.{context, IsTurn}
-use Rattle.wkt_read.specs.Early.{opens, closes}
+use Rattle.wkt_read.specs.Begun.{opens, closes}
 use Rattle.wkt_read.specs.Explained.{IsExpectedAfter}
 use Rattle.wkt_read.specs.Front.{HasNoFront, Front}
 use Rattle.wkt_read.specs.Items.{bad_number}
@@ -15,29 +15,26 @@ use Rattle.wkt_read.specs.Messages.{message_text}
 use Rattle.wkt_read.specs.Refusal.{StopsBetween, HasMessage, IsTextRefused, IsRefusedWith}
 use Rattle.wkt_read.specs.Table.{reports}
 use Rattle.wkt_read.specs.declared.messages.Message.{Message}
-use Rattle.wkt_read.proofs.LawLemmas.OneForm.{taken_begin}
-use Rattle.wkt_read.proofs.LawLemmas.Splits.{split_one}
+use Rattle.wkt_read.proofs.OneForm.{taken_begin}
+use Rattle.wkt_read.proofs.Splits.{split_one}
 use Rattle.wkt_read.proofs.Refusals.{one-text, message_none}
-use Rattle.wkt_machine.specs.Drives.{start, is_over}
+use Rattle.wkt_machine.specs.Machine.{start, is_over, Move, and_then, after, move, run, State}
 use Rattle.wkt_machine.specs.Events.{Event}
 use Rattle.wkt_machine.specs.Refusing.{expected_at, own, refused}
-use Rattle.wkt_machine.specs.Machine.{Move, and_then, after, move, run}
-use Rattle.wkt_machine.specs.Place.{State}
 use Rattle.wkt_machine.proofs.ContextOfPlace.{turn}
 use Rattle.wkt_machine.proofs.WholeRuns.{one_place, one_left, exact, goes_on, refuses, run_append}
-use Rattle.wkt_read.proofs.LawLemmas.OneExpected.{one_expected}
+use Rattle.wkt_read.proofs.OneExpected.{one_expected}
 use Rattle.wkt_machine.proofs.ExpectedIsTaken.{expected_after, counted}
 use Rattle.wkt_read.specs.declared.messages.Message.TheVariants as message
 use Rattle.wkt_read.specs.Grammar.{StandFor}
 use Rattle.wkt_read.specs.Spanned.{Spanned, lexemes_of, end_after, AreEnds, spanned}
 use Rattle.wkt_read.specs.Laws.{OneMessage}
-use Rattle.wkt_read.proofs.TokenizerLemmas.Placings.{spanned-split, spanned-ends}
-use Rattle.wkt_read.proofs.LawLemmas.HeaderPlaces.{front-of-lexemes}
+use Rattle.wkt_read.proofs.Placings.{spanned-split, spanned-ends}
+use Rattle.wkt_read.proofs.HeaderPlaces.{front-of-lexemes}
 use Rattle.wkt_events.specs.Remaining.{Legible, remaining, remaining_spanned, class_in}
-use Rattle.wkt_machine.specs.BytesView.{IsBetween, bytes_view, between_none}
-use Rattle.wkt_machine.specs.Goes.{IsStuck}
+use Rattle.wkt_machine.specs.View.{IsBetween, bytes_view, between_none}
+use Rattle.wkt_machine.specs.Goes.{IsStuck, StopsAt}
 use Rattle.wkt_machine.specs.Machines.{state_of}
-use Rattle.wkt_machine.specs.Stops.{StopsAt}
 use Rattle.wkt_machine.specs.Values.{MachineRefuses, OnRefused}
 use Rattle.wkt_machine.specs.declared.bytes.Bytes.{Bytes}
 use Rattle.wkt_machine.specs.declared.machine.Machine.{Machine}

@@ -2,26 +2,21 @@
 use Rattle.std.proofs.Common.{◌≡◌, ◌≢◌, ℕ, List, [], ◌∷◌, arith, sym, refl, ap, ◌∙◌, subst, Option, Some, None, false, ◌-◌, true, ◌<◌, length, length-append}
 use Rattle.std.specs.Prelude.{Ok, Result, Err, IfOk, IfErr}
 use Rattle.wkt_num.specs.Bytes.{Lexeme, Open, Close, Comma, Word, Num}
-use Rattle.wkt_read.specs.Ahead.{remaining, end_of, first_of, Moves}
-use Rattle.wkt_read.specs.Spanned.{Spanned}
-use Rattle.wkt_read.specs.Taking.{Looks, StaysUnread, TakesNumber, TakesKind}
-use Rattle.wkt_machine.specs.Drives.{is_over}
+use Rattle.wkt_read.specs.Stream.{remaining, end_of, first_of, Moves, Looks, StaysUnread, TakesNumber, TakesKind}
+use Rattle.wkt_read.specs.Spanned.{Spanned, Standing}
+use Rattle.wkt_machine.specs.Machine.{is_over, at, numbers_after, inside, outside, last_place, number_step, said, moved, move, part_of, kind_step, joined_step, State}
 use Rattle.wkt_machine.specs.Events.{Event}
-use Rattle.wkt_machine.specs.Goes.{Stays, Skips, MakesOneNumber, IsUnread, IsStuck, Goes, Refuses, closes}
-use Rattle.wkt_machine.specs.Machine.{at, numbers_after, inside, outside, last_place, number_step, said, moved, move, part_of, kind_step, joined_step}
+use Rattle.wkt_machine.specs.Goes.{Stays, Skips, MakesOneNumber, IsUnread, IsStuck, Goes, Refuses, closes, Leads}
 use Rattle.wkt_machine.specs.Machines.{place_of, state_of, HasNext, IsSound, after_third, state_for, next_after, is_single}
 use Rattle.wkt_machine.specs.Makers.{Maker}
-use Rattle.wkt_machine.specs.View.{sight, View}
-use Rattle.wkt_machine.specs.TokensView.{seen_found, tokens_view}
+use Rattle.wkt_machine.specs.View.{sight, View, seen_found, tokens_view, has_coordinates}
 use Rattle.wkt_machine.specs.declared.machine.Machine.{Machine}
 use Rattle.wkt_machine.specs.declared.part.Axis.{Axis}
 use Rattle.wkt_machine.specs.declared.tokens.OneByOne.{OneByOne}
 use Rattle.wkt_machine.specs.declared.machine.Seen.TheVariants as seen
 use Rattle.wkt_machine.specs.declared.machine.State.TheVariants as next
 use Rattle.wkt_access.specs.declared.dimensions.Dimension.{Dimension}
-use Rattle.wkt_machine.specs.BytesView.{has_coordinates}
-use Rattle.wkt_machine.specs.Place.{State}
-use Rattle.wkt_machine.specs.Place as place
+use Rattle.wkt_machine.specs.Machine as place
 use Rattle.wkt_machine.specs.declared.machine.State.{State as Next}
 use Rattle.wkt_machine.specs.declared.part.Part.{Part}
 use Rattle.wkt_machine.proofs.ByteSteps.{behind_item}
@@ -32,8 +27,6 @@ use Rattle.wkt_machine.specs.declared.part.Axis.TheVariants as axis
 use Rattle.wkt_machine.specs.declared.part.Part.TheVariants as part
 use Rattle.wkt_access.specs.declared.dimensions.Dimension.TheVariants.{XY}
 use Rattle.wkt_types.specs.declared.geometry_type.GeometryType.{GeometryType}
-use Rattle.wkt_read.specs.Standing.{Standing}
-use Rattle.wkt_machine.specs.Leads.{Leads}
 use Rattle.wkt_machine.specs.declared.source.At.{At}
 use Rattle.wkt_machine.proofs.WaysJoin.{goes_on_to, refuses_after, goes_leads, leads_goes, goes_if, refuses_if}
 

@@ -8,7 +8,7 @@ use Rattle.std.proofs.lemmas.List.{map-append, get_or_at, set_at}
 use Rattle.wkt_access.specs.declared.dimensions.Dimension.{Dimension}
 use Rattle.wkt_access.specs.declared.dimensions.Dimension.TheVariants.{XY}
 use Rattle.wkt_access.specs.Values.{Value, Values}
-use Rattle.wkt_types.specs.Coords.{numbers_of, dim_by}
+use Rattle.wkt_types.specs.Held.{numbers_of, dim_by}
 use Rattle.wkt_types.specs.Tree.{tree, trees_of}
 use Rattle.wkt_types.specs.Tree as trees
 use Rattle.wkt_types.specs.Values.{HasDim, HasDimIfAny, IsPointIn, IsLineStringIn, IsPolygonIn, IsUniform, AreUniform, IsWktOf, value_of, values_of, point_numbers, line_string_numbers, polygon_numbers}

@@ -6,7 +6,7 @@ use Rattle.wkt_access.specs.declared.dimensions.Dimension.{Dimension}
 use Rattle.wkt_access.specs.declared.dimensions.Dimension.TheVariants.{XY, XYZ, XYM, XYZM}
 use Rattle.wkt_access.specs.Values.{Value, Values}
 use Rattle.wkt_access.specs.WellFormed.{CoordFits, LineStringFits, PolygonFits, PointFits, IsWellFormed, AreWellFormed}
-use Rattle.wkt_types.specs.Coords.{dim_by}
+use Rattle.wkt_types.specs.Held.{dim_by}
 use Rattle.wkt_machine.specs.Events.{Event, numbers, further, listed, perhaps, events, geometries, members}
 use Rattle.wkt_machine.specs.Trees.{grow_append}
 use Rattle.wkt_machine.specs.Growing.{Frame, Hand, Growing, bare, coord, numbers_by, headed, rest, members_of, opened, with_coord, with_item, ended, without_items, grow, grow_all, HasParts, HasNumbers, MayOpen, MayJoin, MayEnd, MayCome, MayAll}

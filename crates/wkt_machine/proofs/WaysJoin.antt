@@ -4,16 +4,14 @@ use Rattle.std.specs.Prelude.{Result, Ok, Err, IfErr, IfOk}
 use Rattle.std.specs.Bool.{OnTrue, OnFalse}
 use Rattle.wkt_read.specs.Spanned.{Spanned, lexemes_of, end_after}
 use Rattle.wkt_machine.specs.Events.{Event}
-use Rattle.wkt_machine.specs.Goes.{Goes, GoesFrom, Refuses, RefusesFrom}
-use Rattle.wkt_machine.specs.Machine.{after, run}
+use Rattle.wkt_machine.specs.Goes.{Goes, GoesFrom, Refuses, RefusesFrom, Leads, reached, standing}
+use Rattle.wkt_machine.specs.Machine.{after, run, State}
 use Rattle.wkt_machine.specs.Machines.{state_of}
 use Rattle.wkt_machine.specs.Makers.{Maker}
-use Rattle.wkt_machine.specs.Place.{State}
 use Rattle.wkt_machine.specs.View.{View}
 use Rattle.wkt_machine.specs.declared.machine.Machine.{Machine}
 use Rattle.wkt_machine.specs.declared.source.At.{At}
 use Rattle.wkt_machine.proofs.WholeRuns.{run_append}
-use Rattle.wkt_machine.specs.Leads.{Leads, reached, standing}
 use Rattle.wkt_machine.specs.declared.machine.State.{State as Next}
 
 -- A way after another.

@@ -4,19 +4,16 @@ use Rattle.std.proofs.lemmas.List.{append_cancel_left}
 use Rattle.wkt_num.specs.Bytes.{Lexeme, Open, Close, Comma, Word, Num}
 use Rattle.wkt_access.specs.Values.{Value}
 use Rattle.wkt_read.specs.Grammar.{StandFor, KindWord, kind_word, dim_word, is_empty_word}
-use Rattle.wkt_read.specs.Begun.{BegunGeometry, NoneBegins, IsDead}
-use Rattle.wkt_read.specs.Early.{IsJustDead, opens, closes, StopsEarly}
-use Rattle.wkt_machine.specs.Drives.{start, is_over, over_at}
+use Rattle.wkt_read.specs.Begun.{BegunGeometry, NoneBegins, IsDead, IsJustDead, opens, closes, StopsEarly}
+use Rattle.wkt_machine.specs.Machine.{start, is_over, over_at, Move, at, after, and_then, step, number_of, said, moved, move, run, part_of, inside, outside, kind_step, joined_step, dimension_step, number_step, bare_step, comma_step, step_at, Place, State}
 use Rattle.wkt_machine.specs.Events.{Event, events}
-use Rattle.wkt_machine.specs.Machine.{Move, at, after, and_then, step, number_of, said, moved, move, run, part_of, inside, outside, kind_step, joined_step, dimension_step, number_step, bare_step, comma_step, step_at}
-use Rattle.wkt_machine.specs.Place.{Place, State}
-use Rattle.wkt_machine.specs.Place as place
+use Rattle.wkt_machine.specs.Machine as place
 use Rattle.wkt_machine.specs.Action.{Action}
 use Rattle.wkt_machine.proofs.Complete.{after-nil, after-after, value_run}
 use Rattle.wkt_machine.proofs.BegunIsWalked.{begun_on, at_begun}
 use Rattle.wkt_machine.proofs.Places.{At, Keeps, IsRead, keeps}
 use Rattle.wkt_read.specs.Refusal.{StopsBetween, HasMessage}
-use Rattle.wkt_read.proofs.LawLemmas.Begun.{cuts_geometry, one_fault}
+use Rattle.wkt_read.proofs.Begun.{cuts_geometry, one_fault}
 use Rattle.wkt_read.specs.declared.messages.Message.{Message}
 use Rattle.wkt_read.proofs.Refusals.{Leaves, nothing_left, message_leaves}
 use Rattle.wkt_access.specs.declared.dimensions.Dimension.{Dimension}

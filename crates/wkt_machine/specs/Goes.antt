@@ -1,18 +1,22 @@
--- How a machine goes over what a source gives.
-use Rattle.std.specs.Prelude.{◌≡◌, ℕ, List, [], ◌∷◌, ◌++◌, Option, Some, None, Result, Ok, Err, false}
-use Rattle.wkt_num.specs.Bytes as lex
-use Rattle.wkt_read.specs.Spanned.{Spanned, lexemes_of, end_after}
-use Rattle.wkt_machine.specs.Drives.{start, is_over}
+-- How a machine goes over what a source gives, over lexemes or over none, and where it stops in a text that has no geometry
+-- at its front.
+use Rattle.std.specs.Prelude.{◌≡◌, ℕ, List, [], ◌∷◌, ◌++◌, Option, Some, None, Result, Ok, Err, false, ◌≤◌, length}
+use Rattle.wkt_read.specs.Spanned.{Spanned, lexemes_of, end_after, spanned}
+use Rattle.wkt_machine.specs.Machine.{start, is_over, at, last_place, run, move}
 use Rattle.wkt_machine.specs.Events.{Event}
-use Rattle.wkt_machine.specs.Machine.{at, last_place, run, move}
 use Rattle.wkt_machine.specs.Machines.{state_of, IsSound}
 use Rattle.wkt_machine.specs.Makers.{Maker}
-use Rattle.wkt_machine.specs.View.{View}
+use Rattle.wkt_machine.specs.View.{View, IsBetween}
 use Rattle.wkt_machine.specs.declared.machine.Machine.{Machine}
 use Rattle.wkt_machine.specs.declared.part.Axis.{Axis}
 use Rattle.wkt_machine.specs.declared.part.Part.{Part}
-use Rattle.wkt_machine.specs.declared.part.Part.TheVariants as part
 use Rattle.wkt_machine.specs.declared.source.At.{At}
+use Rattle.wkt_num.specs.Bytes as lex
+use Rattle.wkt_machine.specs.declared.part.Part.TheVariants as part
+use Rattle.wkt_machine.specs.declared.machine.State.{State as Next}
+use Rattle.wkt_events.specs.Remaining.{remaining_spanned}
+
+-- How a machine goes over what a source gives.
 
 -- The source is where it was, but for what was looked at.
 pub record Stays {S : Type 0} (view : View S) (s t : S) : Type 0 where
@@ -86,3 +90,35 @@ closes p = []
 abbrev pub EndsPoint : {N S B : Type 0} → Maker N B → Machine → S → B → Result (At S B) (At S B) → Type 0
 EndsPoint maker m s b (Ok to) = (to.source ≡ s) × (state_of to.machine ≡ at m.depth (last_place m.part m.dim)) × IsSound to.machine × maker.makes b (closes m.part) to.builder
 EndsPoint maker m s b (Err to) = ⊥
+
+-- How a machine goes over lexemes of a source, or over none. Only private contracts and proofs cite these words.
+
+-- The machine in another state of the same part.
+abbrev pub standing : Machine → Next → Machine
+standing m s = record { state = s; part = m.part; dim = m.dim; depth = m.depth }
+
+-- A source and what was made, with such a machine.
+abbrev pub reached : {S B : Type 0} → Machine → Next → S → B → At S B
+reached m s source builder = record { source = source; machine = standing m s; builder = builder }
+
+pub record Leads {N S B : Type 0} (read : List ℕ → Option N) (view : View S) (maker : Maker N B) (m : Machine) (s : S) (b : B) (n : Machine) (t : S) (c : B) : Type 0 where
+  pub taken : List Spanned
+  pub events : List (Event N)
+  pub split : view.remaining s ≡ taken ++ view.remaining t
+  pub behind : (end : ℕ) → view.behind s end → view.behind t (end_after end taken)
+  pub ran : run read (state_of m) (lexemes_of taken) ≡ Some (state_of n, events)
+  pub makes : maker.makes b events c
+  pub keeps : (k : view.Known) → view.keeps s k → view.keeps t k
+
+-- Where the machine stops in a text that has no geometry at its front.
+
+-- The machine goes over the text's first lexemes, and isn't over. Behind the last of them stands white space alone up to `to`; with the lexeme that comes next it doesn't move, or none does.
+pub record StopsAt {N : Type 0} (read : List ℕ → Option N) (text : List ℕ) (m : Machine) (to : ℕ) : Type 0 where
+  pub taken : List Spanned
+  pub events : List (Event N)
+  pub split : spanned text ≡ taken ++ remaining_spanned false text to
+  pub between : IsBetween false text (end_after 0 taken) to
+  pub inside : to ≤ length text
+  pub ran : run read start (lexemes_of taken) ≡ Some (state_of m, events)
+  pub is_open : is_over (state_of m) ≡ false
+  pub stuck : IsStuck read m (remaining_spanned false text to)

@@ -4,16 +4,13 @@ use Rattle.wkt_num.specs.Bytes.{Lexeme}
 use Rattle.wkt_access.specs.Values.{Value}
 use Rattle.wkt_access.specs.WellFormed.{IsWellFormed}
 use Rattle.wkt_read.specs.Grammar.{StandFor}
-use Rattle.wkt_read.specs.Begun.{BegunGeometry, NoneBegins}
-use Rattle.wkt_read.specs.Early.{IsJustDead}
+use Rattle.wkt_read.specs.Begun.{BegunGeometry, NoneBegins, IsJustDead}
 use Rattle.wkt_read.specs.Explained.{IsExpectedAfter}
-use Rattle.wkt_machine.specs.Place as place
-use Rattle.wkt_machine.specs.Place.{State}
-use Rattle.wkt_machine.specs.Drives.{start, is_over}
+use Rattle.wkt_machine.specs.Machine as place
+use Rattle.wkt_machine.specs.Machine.{State, start, is_over, at, after, move, run}
 use Rattle.wkt_machine.specs.Events.{Event, events}
 use Rattle.wkt_machine.specs.Growing.{rest, grow_all, MayAll}
 use Rattle.wkt_machine.specs.Refusing.{expected_at}
-use Rattle.wkt_machine.specs.Machine.{at, after, move, run}
 
 module _ {N : Type 0} (read : List ℕ → Option N) where
   -- The lexemes that stand for a value lead from the place of a geometry to behind it, whatever follows, and make its events.

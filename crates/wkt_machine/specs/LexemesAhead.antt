@@ -5,12 +5,12 @@ use Rattle.wkt_num.specs.Bytes as lex
 use Rattle.wkt_events.specs.Remaining.{remaining_spanned, TakesOne}
 use Rattle.wkt_machine.specs.declared.message.Given.{Given}
 use Rattle.wkt_machine.specs.declared.message.Given.TheVariants as given
-use Rattle.wkt_read.specs.Standing.{Standing}
+use Rattle.wkt_read.specs.Spanned.{Standing}
 use Rattle.wkt_machine.specs.declared.machine.Seen.{Seen}
 use Rattle.wkt_machine.specs.declared.machine.State.{State}
 use Rattle.wkt_machine.specs.declared.pairs.Mark.{Mark}
 use Rattle.wkt_machine.specs.declared.pairs.Mark.TheVariants.{Comma, Close, None as NoMark}
-use Rattle.wkt_read.specs.Ahead as ahead
+use Rattle.wkt_read.specs.Stream as ahead
 use Rattle.wkt_machine.specs.declared.machine.Seen.TheVariants as seen
 use Rattle.wkt_machine.specs.declared.machine.State.TheVariants as next
 use Rattle.wkt_read.specs.Grammar.{KindWord, kind_word}

@@ -1,14 +1,27 @@
--- What is known of a point that is alone in its text.
-use Rattle.std.specs.Prelude.{◌≡◌, List, [], ◌∷◌, ◌++◌, Some, true, false}
-use Rattle.std.specs.Borrow.{MutBor}
+-- A point that a text begins with, and what is known of one that is alone in its text.
 use Rattle.std.proofs.Common.{refl, ap, sym, ◌∙◌}
+use Rattle.std.specs.Prelude.{◌↔◌, ◌≤◌, ℕ, ℤ, List, [], ◌∷◌, length, drop, Some, IsUtf8, ◌≡◌, ◌++◌, true, false}
+use Rattle.std.specs.Borrow.{MutBor}
+use Rattle.wkt_num.specs.Decimal.{read_decimal}
 use Rattle.wkt_access.specs.declared.dimensions.Dimension.TheVariants.{XY}
+use Rattle.wkt_access.specs.Values.{Value}
+use Rattle.wkt_read.specs.Front.{Front}
 use Rattle.wkt_machine.specs.Events.{Event}
 use Rattle.wkt_machine.specs.Makers.{Maker}
 use Rattle.wkt_machine.specs.declared.lone.Keeper.{Keeper}
 use Rattle.wkt_machine.specs.declared.lone.Lone.{Lone}
 use Rattle.wkt_machine.specs.declared.part.Axis.TheVariants as axis
 use Rattle.wkt_machine.specs.declared.part.Part.TheVariants as part
+
+-- A point that a text begins with.
+
+-- The bytes have a front that ends there, which is the point of these two numbers, in units; and they are UTF-8 if and only if those behind it are.
+pub record IsPointFront (places : ℕ) (text : List ℕ) (x y : ℤ) (end : ℕ) : Type 0 where
+  pub front : Front (read_decimal 127 36 places) text (Value.point XY (Some (x ∷ y ∷ []))) end
+  pub within : end ≤ length text
+  pub utf8 : IsUtf8 text ↔ IsUtf8 (drop end text)
+
+-- What is known of a point that is alone in its text.
 
 -- After an event: the numbers of a point of two, or something else.
 abbrev pub tell : {T : Type 0} → Event T → Lone T → Lone T

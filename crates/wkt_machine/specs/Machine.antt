@@ -1,20 +1,37 @@
--- How the lexemes of a geometry read, one at a time: the state after each, and the events that it makes.
-use Rattle.std.specs.Prelude.{ℕ, zero, suc, ◌-◌, List, [], ◌∷◌, ◌++◌, Option, Some, None, if◌then◌else◌}
+-- How the lexemes of a geometry read, one at a time: the places in its text, the state after each lexeme, and the events
+-- that it makes; where a text begins, and where its geometry is over.
+use Rattle.std.specs.Prelude.{ℕ, zero, suc, ◌-◌, List, [], ◌∷◌, ◌++◌, Option, Some, None, if◌then◌else◌, Bool, true, false}
+use Rattle.wkt_access.specs.declared.dimensions.Dimension.{Dimension}
+use Rattle.wkt_machine.specs.declared.part.Part.{Part}
 use Rattle.wkt_num.specs.Bytes.{Lexeme}
 use Rattle.wkt_num.specs.Bytes as lex
-use Rattle.wkt_access.specs.declared.dimensions.Dimension.{Dimension}
 use Rattle.wkt_access.specs.declared.dimensions.Dimension.TheVariants.{XY, XYZ, XYM, XYZM}
 use Rattle.wkt_types.specs.declared.geometry_type.GeometryType.{GeometryType}
-use Rattle.wkt_types.specs.declared.geometry_type.GeometryType.TheVariants as kind
 use Rattle.wkt_read.specs.Grammar.{KindWord, kind_word, dim_word, is_empty_word}
 use Rattle.wkt_machine.specs.Action.{Action}
 use Rattle.wkt_machine.specs.Action as act
 use Rattle.wkt_machine.specs.Events.{Event, axis_of}
-use Rattle.wkt_machine.specs.Place.{Place, State}
-use Rattle.wkt_machine.specs.Place as place
+use Rattle.wkt_types.specs.declared.geometry_type.GeometryType.TheVariants as kind
 use Rattle.wkt_machine.specs.declared.part.Axis.TheVariants as axis
-use Rattle.wkt_machine.specs.declared.part.Part.{Part}
 use Rattle.wkt_machine.specs.declared.part.Part.TheVariants as part
+
+-- Places in the text of a geometry.
+
+-- What comes next: a geometry; what stands behind the kind word of this part; this part; a number of a coordinate, with so many after it; what stands behind an item; what stands behind a geometry.
+pub data Place : Type 0 where
+  Kind : Place
+  Alone : Part → Place
+  Opening : Part → Dimension → Place
+  Number : Part → Dimension → (more : ℕ) → Place
+  Item : Part → Dimension → Place
+  Geometry : Place
+
+-- A place, and in how many collections it is.
+pub record State : Type 0 where
+  pub place : Place
+  pub depth : ℕ
+
+-- How the lexemes of a geometry read, one at a time: the state after each, and the events that it makes.
 
 -- the part that stands behind the header of a kind
 abbrev pub part_of : GeometryType → Part
@@ -38,28 +55,28 @@ at n p = record { place = p; depth = n }
 
 -- where an item of a part begins
 abbrev pub inside : Part → Dimension → ℕ → State
-inside part.Polygon d n = at n (place.Opening part.Ring d)
-inside part.MultiLineString d n = at n (place.Opening part.Line d)
-inside part.MultiPoint d n = at n (place.Opening part.Member d)
-inside part.MultiPolygon d n = at n (place.Opening part.Area d)
-inside part.Area d n = at n (place.Opening part.AreaRing d)
-inside part.Collection d n = at (suc n) place.Kind
-inside p d n = at n (place.Number p d (numbers_after d))
+inside part.Polygon d n = at n (Opening part.Ring d)
+inside part.MultiLineString d n = at n (Opening part.Line d)
+inside part.MultiPoint d n = at n (Opening part.Member d)
+inside part.MultiPolygon d n = at n (Opening part.Area d)
+inside part.Area d n = at n (Opening part.AreaRing d)
+inside part.Collection d n = at (suc n) Kind
+inside p d n = at n (Number p d (numbers_after d))
 
 -- after a whole part
 abbrev pub outside : Part → Dimension → ℕ → State
-outside part.Ring d n = at n (place.Item part.Polygon d)
-outside part.Line d n = at n (place.Item part.MultiLineString d)
-outside part.Member d n = at n (place.Item part.MultiPoint d)
-outside part.Bare d n = at n (place.Item part.MultiPoint d)
-outside part.Area d n = at n (place.Item part.MultiPolygon d)
-outside part.AreaRing d n = at n (place.Item part.Area d)
-outside p d n = at n place.Geometry
+outside part.Ring d n = at n (Item part.Polygon d)
+outside part.Line d n = at n (Item part.MultiLineString d)
+outside part.Member d n = at n (Item part.MultiPoint d)
+outside part.Bare d n = at n (Item part.MultiPoint d)
+outside part.Area d n = at n (Item part.MultiPolygon d)
+outside part.AreaRing d n = at n (Item part.Area d)
+outside p d n = at n Geometry
 
 -- a kind word, with the dimension that is joined to it
 abbrev pub joined_step : Part → Option Dimension → ℕ → State × Action
-joined_step p (Some d) n = (at n (place.Opening p d), act.Header p d)
-joined_step p None n = (at n (place.Alone p), act.Nothing)
+joined_step p (Some d) n = (at n (Opening p d), act.Header p d)
+joined_step p None n = (at n (Alone p), act.Nothing)
 
 abbrev pub kind_step : Option KindWord → ℕ → Option (State × Action)
 kind_step (Some e) n = Some (joined_step (part_of e.kind) e.joined n)
@@ -67,13 +84,13 @@ kind_step None n = None
 
 -- after a kind word alone: a dimension word, or EMPTY
 abbrev pub dimension_step : Option Dimension → Part → List ℕ → ℕ → Option (State × Action)
-dimension_step (Some d) p w n = Some (at n (place.Opening p d), act.Header p d)
+dimension_step (Some d) p w n = Some (at n (Opening p d), act.Header p d)
 dimension_step None p w n = if is_empty_word w then Some (outside p XY n, act.HeaderEmpty p) else None
 
 -- behind the last number of a coordinate; a point without parentheses ends with it
 abbrev pub last_place : Part → Dimension → Place
-last_place part.Bare d = place.Item part.MultiPoint d
-last_place p d = place.Item p d
+last_place part.Bare d = Item part.MultiPoint d
+last_place p d = Item p d
 
 abbrev pub last_step : Part → Dimension → Action
 last_step part.Bare d = act.LastBare (axis_of d 0)
@@ -81,11 +98,11 @@ last_step p d = act.Number (axis_of d 0)
 
 abbrev pub number_step : Part → Dimension → ℕ → ℕ → State × Action
 number_step p d zero n = (at n (last_place p d), last_step p d)
-number_step p d (suc more) n = (at n (place.Number p d more), act.Number (axis_of d (suc more)))
+number_step p d (suc more) n = (at n (Number p d more), act.Number (axis_of d (suc more)))
 
 -- the first number of a point without parentheses
 abbrev pub bare_step : Part → Dimension → ℕ → Option (State × Action)
-bare_step part.Member d n = Some (at n (place.Number part.Bare d (numbers_after d - 1)), act.FirstBare)
+bare_step part.Member d n = Some (at n (Number part.Bare d (numbers_after d - 1)), act.FirstBare)
 bare_step p d n = None
 
 -- a comma, where a part may have more than one item
@@ -96,17 +113,17 @@ comma_step p d n = Some (inside p d n, act.Comma p)
 
 -- what each lexeme does at each place; no other may stand there
 abbrev pub step_at : Place → ℕ → Lexeme → Option (State × Action)
-step_at place.Kind n (lex.Word w) = kind_step (kind_word w) n
-step_at (place.Alone p) n (lex.Word w) = dimension_step (dim_word w) p w n
-step_at (place.Alone p) n lex.Open = Some (inside p XY n, act.HeaderOpen p)
-step_at (place.Opening p d) n lex.Open = Some (inside p d n, act.Open p)
-step_at (place.Opening p d) n (lex.Word w) = if is_empty_word w then Some (outside p d n, act.Empty p) else None
-step_at (place.Opening p d) n (lex.Num run) = bare_step p d n
-step_at (place.Number p d more) n (lex.Num run) = Some (number_step p d more n)
-step_at (place.Item p d) n lex.Comma = comma_step p d n
-step_at (place.Item p d) n lex.Close = Some (outside p d n, act.Close p)
-step_at place.Geometry (suc n) lex.Comma = Some (at (suc n) place.Kind, act.Comma part.Collection)
-step_at place.Geometry (suc n) lex.Close = Some (at n place.Geometry, act.Close part.Collection)
+step_at Kind n (lex.Word w) = kind_step (kind_word w) n
+step_at (Alone p) n (lex.Word w) = dimension_step (dim_word w) p w n
+step_at (Alone p) n lex.Open = Some (inside p XY n, act.HeaderOpen p)
+step_at (Opening p d) n lex.Open = Some (inside p d n, act.Open p)
+step_at (Opening p d) n (lex.Word w) = if is_empty_word w then Some (outside p d n, act.Empty p) else None
+step_at (Opening p d) n (lex.Num run) = bare_step p d n
+step_at (Number p d more) n (lex.Num run) = Some (number_step p d more n)
+step_at (Item p d) n lex.Comma = comma_step p d n
+step_at (Item p d) n lex.Close = Some (outside p d n, act.Close p)
+step_at Geometry (suc n) lex.Comma = Some (at (suc n) Kind, act.Comma part.Collection)
+step_at Geometry (suc n) lex.Close = Some (at n Geometry, act.Close part.Collection)
 step_at p n l = None
 
 abbrev pub step : State → Lexeme → Option (State × Action)
@@ -161,3 +178,17 @@ module _ {N : Type 0} (read : List ℕ → Option N) where
   abbrev pub run : State → List Lexeme → Option (Move N)
   run s [] = Some (s, [])
   run s (l ∷ ls) = and_then (move s l) (λ t. run t ls)
+
+-- Where a text begins, and where its geometry is over.
+
+-- where a text begins
+abbrev pub start : State
+start = at 0 Kind
+
+-- whether a geometry stands before that is in no collection
+abbrev pub over_at : Place → ℕ → Bool
+over_at Geometry zero = true
+over_at p n = false
+
+abbrev pub is_over : State → Bool
+is_over s = over_at s.place s.depth

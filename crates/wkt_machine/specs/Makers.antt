@@ -1,6 +1,6 @@
 -- What is known of what is made, also where nothing is kept.
 use Rattle.std.specs.Prelude.{ℕ, ◌≤◌, List, [], ◌∷◌, ◌++◌, Option}
-use Rattle.wkt_events.specs.Numbers.{IsNumberAt}
+use Rattle.wkt_events.specs.Remaining.{IsNumberAt}
 use Rattle.wkt_machine.specs.Events.{Event}
 use Rattle.wkt_machine.specs.declared.part.Axis.{Axis}
 use Rattle.wkt_machine.specs.declared.nothing.Nothing.{Nothing}

@@ -3,10 +3,9 @@ use Rattle.std.specs.Prelude.{ℕ, zero, suc, ◌==◌, if◌then◌else◌, ◌
 use Rattle.wkt_access.specs.declared.dimensions.Dimension.{Dimension}
 use Rattle.wkt_access.specs.declared.dimensions.Dimension.TheVariants.{XY, XYZ, XYM, XYZM}
 use Rattle.wkt_read.specs.declared.expected.Expected.{Expected}
-use Rattle.wkt_machine.specs.Machine.{numbers_after}
+use Rattle.wkt_machine.specs.Machine.{numbers_after, Place, State}
 use Rattle.wkt_machine.specs.declared.part.Part.{Part}
-use Rattle.wkt_machine.specs.Place.{Place, State}
-use Rattle.wkt_machine.specs.Place as place
+use Rattle.wkt_machine.specs.Machine as place
 use Rattle.wkt_read.specs.declared.expected.Expected.TheVariants as expected
 use Rattle.wkt_machine.specs.declared.part.Part.TheVariants as part
 use Rattle.wkt_num.specs.Bytes.{Lexeme, Num}

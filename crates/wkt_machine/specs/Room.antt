@@ -7,8 +7,8 @@ use Rattle.wkt_read.specs.Spanned.{Spanned}
 use Rattle.wkt_events.specs.Remaining.{IsRunEnd}
 use Rattle.wkt_machine.specs.Machines.{state_of}
 use Rattle.wkt_machine.specs.Makers.{Maker}
-use Rattle.wkt_machine.specs.Place.{Place, State}
-use Rattle.wkt_machine.specs.Place as place
+use Rattle.wkt_machine.specs.Machine.{Place, State}
+use Rattle.wkt_machine.specs.Machine as place
 use Rattle.wkt_machine.specs.View.{View}
 use Rattle.wkt_machine.specs.declared.part.Part.{Part}
 use Rattle.wkt_machine.specs.declared.part.Part.TheVariants as part

@@ -4,7 +4,7 @@ use Rattle.std.specs.Prelude.{◌≡◌, ◌⊎◌, List, [], ◌∷◌, ◌++�
 use Rattle.std.specs.List.{AllByRecursion}
 use Rattle.std.specs.Borrow.{MutBor}
 use Rattle.wkt_access.specs.Values.{Value, Values}
-use Rattle.wkt_types.specs.Coords.{numbers_of}
+use Rattle.wkt_types.specs.Held.{numbers_of}
 use Rattle.wkt_types.specs.Tree.{tree}
 use Rattle.wkt_types.specs.Values.{HasDim, HasDimIfAny, IsPointIn, IsLineStringIn, IsPolygonIn, IsUniform, IsWktOf, value_of, point_numbers, line_string_numbers, polygon_numbers}
 use Rattle.wkt_types.specs.declared.coord.Coord.{Coord}

@@ -7,10 +7,9 @@ use Rattle.wkt_types.specs.declared.geometry.Wkt.{Wkt}
 use Rattle.wkt_read.specs.Front.{NeedsNoMemory}
 use Rattle.wkt_read.specs.Grammar.{StandFor}
 use Rattle.wkt_read.specs.Spanned.{Spanned, lexemes_of, end_after}
-use Rattle.wkt_machine.specs.Drives.{start, is_over}
+use Rattle.wkt_machine.specs.Machine.{start, is_over, run}
 use Rattle.wkt_machine.specs.Events.{Event}
 use Rattle.wkt_machine.specs.Goes.{IsStuck}
-use Rattle.wkt_machine.specs.Machine.{run}
 use Rattle.wkt_machine.specs.Machines.{state_of}
 use Rattle.wkt_machine.specs.Trees.{HoldsWhole, IsLost}
 use Rattle.wkt_machine.specs.View.{View}

@@ -3,7 +3,7 @@ ghost use Rattle.std.specs.Prelude.{[], ◌∷◌, ◌≤◌, length, IfSome, If
 ghost use Rattle.wkt_machine.specs.Events.{Event};
 ghost use Rattle.wkt_machine.specs.Makers.{Maker, MakesNumber};
 ghost use Rattle.wkt_machine.specs.Room.{header_cost, Leaves, FitsNumber, LeavesBehind};
-ghost use Rattle.wkt_events.specs.Numbers.{NoNumber};
+ghost use Rattle.wkt_events.specs.Remaining.{NoNumber};
 
 use crate::part::{Axis, Part};
 use wkt_access::Dimension;

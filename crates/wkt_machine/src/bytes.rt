@@ -1,8 +1,7 @@
 //! Bytes as a source.
 ghost use Rattle.std.specs.Prelude.{◌≡◌, ◌≢◌, ◌≤◌, length, get_or};
 ghost use Rattle.wkt_read.specs.Grammar.{kind_word};
-ghost use Rattle.wkt_machine.specs.BytesView.{IsDark, IsUnmarked, Sees};
-ghost use Rattle.wkt_machine.specs.View.{seen_word};
+ghost use Rattle.wkt_machine.specs.View.{IsDark, IsUnmarked, Sees, seen_word};
 
 use crate::builder::Builder;
 use crate::coordinates::{coordinates, has_coordinates};
@@ -89,7 +88,7 @@ fn seen_word(word: &[u8]) -> Seen
 }
 
 impl<'a, T: WktNum, const FEED_ENDS: bool> Source<T> for Bytes<'a, FEED_ENDS> {
-    ghost use Rattle.wkt_machine.specs.BytesView.{bytes_view};
+    ghost use Rattle.wkt_machine.specs.View.{bytes_view};
 
     ghost view = { bytes_view FEED_ENDS };
 

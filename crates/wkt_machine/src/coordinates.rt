@@ -1,9 +1,8 @@
 //! Coordinates in bytes, as far as the parenthesis behind them.
 ghost use Rattle.std.specs.Prelude.{◌≡◌, ◌≢◌, ◌≤◌, length, IfOk, IfErr, true};
 ghost use Rattle.std.specs.Bool.{OnTrue, OnFalse};
-ghost use Rattle.wkt_machine.specs.BytesView.{bytes_view, has_coordinates};
-ghost use Rattle.wkt_machine.specs.Goes.{Goes, Refuses};
-ghost use Rattle.wkt_machine.specs.Leads.{reached, standing};
+ghost use Rattle.wkt_machine.specs.View.{bytes_view, has_coordinates};
+ghost use Rattle.wkt_machine.specs.Goes.{Goes, Refuses, reached, standing};
 ghost use Rattle.wkt_machine.specs.Machines.{state_for, next_after, HasNext};
 ghost use Rattle.wkt_machine.specs.Room.{HasRoom, RoomAt};
 ghost use Rattle.wkt_machine.specs.declared.machine.State.TheVariants as next;

@@ -1,6 +1,6 @@
 //! The one loop over lexemes.
 ghost use Rattle.std.specs.Prelude.{◌≡◌, ◌+◌, ◌≤◌, length, IfOk, IfErr, false, true};
-ghost use Rattle.wkt_machine.specs.Drives.{is_over};
+ghost use Rattle.wkt_machine.specs.Machine.{is_over};
 ghost use Rattle.wkt_machine.specs.Goes.{Goes, GoesFrom, Refuses, RefusesFrom};
 ghost use Rattle.wkt_machine.specs.Machines.{state_of, IsSound};
 ghost use Rattle.wkt_machine.specs.Room.{owed, HasRoom, RoomAt};

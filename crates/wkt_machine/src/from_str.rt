@@ -4,13 +4,11 @@ ghost use Rattle.std.specs.Result.{IsOk};
 ghost use Rattle.std.specs.Str.{IsCharBoundary};
 ghost use Rattle.wkt_access.specs.Values.{Value};
 ghost use Rattle.wkt_types.specs.Tree.{Tree, tree};
-ghost use Rattle.wkt_read.specs.Items.{bad_number};
+ghost use Rattle.wkt_read.specs.Items.{bad_number, HasBad};
 ghost use Rattle.wkt_machine.specs.Values.{AnswersReader};
 ghost use Rattle.wkt_read.specs.Front.{Front, HasNoFront, NeedsNoMemory};
-ghost use Rattle.wkt_read.specs.Begun.{NoneBegins};
-ghost use Rattle.wkt_read.specs.Early.{StopsEarly};
-ghost use Rattle.wkt_read.specs.Bad.{HasBad};
-ghost use Rattle.wkt_read.specs.Ahead.{rest, Advances, IsNear};
+ghost use Rattle.wkt_read.specs.Begun.{NoneBegins, StopsEarly};
+ghost use Rattle.wkt_read.specs.Stream.{rest, Advances, IsNear};
 ghost use Rattle.wkt_read.specs.Refusal.{IsRefused, IsTextRefused, IfText};
 ghost use Rattle.wkt_read.specs.Answered.{IsFront, IsFrontTo, Begins, IsReadOff, HasBadNumber, OnText, OnMessage};
 

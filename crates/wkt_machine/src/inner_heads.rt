@@ -3,7 +3,7 @@ ghost use Rattle.std.specs.Bool.{OnTrue};
 ghost use Rattle.std.specs.Int.{w64, to_le_bytes};
 ghost use Rattle.std.specs.Prelude.{◌≡◌, ◌≤◌, ◌+◌, length, take, codes, IfOk, IfErr, IfSome};
 ghost use Rattle.wkt_events.specs.Remaining.{Legible, remaining_spanned};
-ghost use Rattle.wkt_machine.specs.BytesView.{bytes_view, IsBetween};
+ghost use Rattle.wkt_machine.specs.View.{bytes_view, IsBetween};
 ghost use Rattle.wkt_machine.specs.Goes.{Goes, Refuses};
 ghost use Rattle.wkt_machine.specs.LexemesAhead.{IsKindName, StandsHead};
 ghost use Rattle.wkt_machine.specs.Room.{HasRoom, RoomAt};

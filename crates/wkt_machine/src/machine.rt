@@ -1,9 +1,8 @@
 //! The grammar, as a state machine over lexemes.
 ghost use Rattle.std.specs.Prelude.{◌≡◌, ◌<◌, ◌-◌};
-ghost use Rattle.wkt_machine.specs.Machine.{at, part_of, inside, outside};
+ghost use Rattle.wkt_machine.specs.Machine.{at, part_of, inside, outside, start, is_over};
 ghost use Rattle.wkt_machine.specs.Machines.{state_of, next_after, is_single, IsSound};
-ghost use Rattle.wkt_machine.specs.Drives.{start, is_over};
-ghost use Rattle.wkt_machine.specs.Place as place;
+ghost use Rattle.wkt_machine.specs.Machine as place;
 
 use crate::part::{Axis, Part};
 use wkt_access::Dimension;

@@ -1,7 +1,7 @@
 //! Marks in a row.
 ghost use Rattle.std.specs.Bool.{OnTrue};
 ghost use Rattle.std.specs.Prelude.{◌≡◌, ◌+◌, ◌≤◌, length, IfOk, IfErr, true, false};
-ghost use Rattle.wkt_machine.specs.Drives.{is_over};
+ghost use Rattle.wkt_machine.specs.Machine.{is_over};
 ghost use Rattle.wkt_machine.specs.Goes.{Goes, Refuses};
 ghost use Rattle.wkt_machine.specs.Machines.{state_of, IsSound};
 ghost use Rattle.wkt_machine.specs.LexemesAhead.{is_mark};

@@ -4,7 +4,7 @@ ghost use Rattle.wkt_num.specs.Bytes.{Lexeme};
 ghost use Rattle.wkt_events.specs.Remaining.{remaining, remaining_spanned};
 ghost use Rattle.wkt_machine.specs.Refusing.{expected_at, blamed, refused, takes_number};
 ghost use Rattle.wkt_machine.specs.Goes.{IsStuck};
-ghost use Rattle.wkt_machine.specs.BytesView.{IsDark, IsUnmarked};
+ghost use Rattle.wkt_machine.specs.View.{IsDark, IsUnmarked};
 ghost use Rattle.wkt_machine.specs.LexemesAhead.{ShowsLexeme, GivesNext};
 ghost use Rattle.wkt_machine.specs.Machines.{state_of};
 ghost use Rattle.wkt_read.specs.Table.{at_place, closing, closings, stays};

@@ -1,6 +1,6 @@
 //! Numbers in bytes.
 ghost use Rattle.std.specs.Prelude.{◌≡◌, ◌<◌, ◌≤◌, ℕ, length, slice_index_or, take, IfSome, IfNone};
-ghost use Rattle.wkt_events.specs.Numbers.{IsNumberAt, NoNumber};
+ghost use Rattle.wkt_events.specs.Remaining.{IsNumberAt, NoNumber};
 
 use wkt_events::{byte_at, number_there};
 use wkt_num::WktNum;

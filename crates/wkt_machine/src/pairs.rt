@@ -1,10 +1,9 @@
 //! Coordinates of two numbers, in tokens.
 ghost use Rattle.std.specs.Prelude.{◌≡◌, IfOk, IfErr, true};
 ghost use Rattle.wkt_access.specs.declared.dimensions.Dimension.TheVariants.{XY};
-ghost use Rattle.wkt_machine.specs.BytesView.{has_coordinates};
+ghost use Rattle.wkt_machine.specs.View.{has_coordinates, tokens_view};
 ghost use Rattle.wkt_machine.specs.Goes.{Goes, Refuses};
 ghost use Rattle.wkt_machine.specs.Room.{HasRoom, RoomAt};
-ghost use Rattle.wkt_machine.specs.TokensView.{tokens_view};
 ghost use Rattle.wkt_machine.specs.LexemesAhead.{TakesMark};
 ghost use Rattle.wkt_machine.specs.declared.machine.State.TheVariants as next;
 

@@ -4,7 +4,7 @@ ghost use Rattle.wkt_num.specs.Bytes.{Num};
 ghost use Rattle.wkt_num.specs.Decimal.{read_decimal};
 ghost use Rattle.wkt_num.specs.Whole.{IsSigned};
 ghost use Rattle.wkt_events.specs.Remaining.{TakesOne};
-ghost use Rattle.wkt_machine.specs.Points.{IsPointFront};
+ghost use Rattle.wkt_machine.specs.Lones.{IsPointFront};
 
 use crate::heads::point_head;
 use wkt_events::{byte_at, skip_white};

@@ -6,9 +6,8 @@ ghost use Rattle.wkt_read.specs.Table.{at_number, at_place, closing, closings, i
 ghost use Rattle.wkt_machine.specs.Refusing.{expected_at, item_expected, last_number, opening_expected, around, own, blamed, is_number, refused, stays_first};
 ghost use Rattle.wkt_machine.specs.Machines.{state_of};
 ghost use Rattle.wkt_machine.specs.Goes.{IsStuck};
-ghost use Rattle.wkt_read.specs.Ahead.{Advances, remaining, rest};
-ghost use Rattle.wkt_read.specs.Parser.Walks.{IsFirst};
-ghost use Rattle.wkt_read.specs.Tokenizer.Unread.{found};
+ghost use Rattle.wkt_read.specs.Stream.{Advances, remaining, rest, IsFirst};
+ghost use Rattle.wkt_read.specs.Peeks.{found};
 
 use crate::machine::{Machine, State};
 use crate::message::takes_number;

@@ -1,7 +1,7 @@
 //! The step of the machine.
 ghost use Rattle.std.specs.Bool.{OnTrue, OnFalse};
 ghost use Rattle.std.specs.Prelude.{◌≡◌, ◌≢◌, ◌+◌, ◌<◌, ◌≤◌, length, IfOk, IfErr, Ok, Err, false};
-ghost use Rattle.wkt_machine.specs.Drives.{is_over};
+ghost use Rattle.wkt_machine.specs.Machine.{is_over};
 ghost use Rattle.wkt_machine.specs.Goes.{Goes, Refuses, EndsPoint};
 ghost use Rattle.wkt_machine.specs.Machines.{state_of, state_for, IsSound};
 ghost use Rattle.wkt_machine.specs.Room.{header_cost, owed, HasRoom, RoomAt};

@@ -2,18 +2,14 @@
 ghost use Rattle.std.specs.Prelude.{◌≡◌, ◌+◌, ◌≤◌, length, IfOk, IfErr};
 ghost use Rattle.wkt_num.specs.Bytes.{Lexeme};
 ghost use Rattle.wkt_read.specs.Grammar.{kind_word};
-ghost use Rattle.wkt_read.specs.Taking.{StaysUnread, TakesNumber};
-ghost use Rattle.wkt_read.specs.Tokenizer.Unread.{found};
+ghost use Rattle.wkt_read.specs.Stream.{StaysUnread, TakesNumber, first_of, remaining, Looks};
+ghost use Rattle.wkt_read.specs.Peeks.{found};
 ghost use Rattle.wkt_machine.specs.Goes.{Goes, Refuses};
 ghost use Rattle.wkt_machine.specs.Room.{HasRoom, RoomAt};
-ghost use Rattle.wkt_machine.specs.View.{seen_word};
-ghost use Rattle.wkt_machine.specs.TokensView.{seen_found, tokens_of, tokens_view};
+ghost use Rattle.wkt_machine.specs.View.{seen_word, seen_found, tokens_of, tokens_view, NoKind};
 ghost use Rattle.wkt_machine.specs.declared.machine.State.TheVariants as next;
 ghost use Rattle.std.specs.Prelude.{MatchOption};
 ghost use Rattle.std.specs.Bool.{OnFalse};
-ghost use Rattle.wkt_read.specs.Ahead.{first_of, remaining};
-ghost use Rattle.wkt_read.specs.Taking.{Looks};
-ghost use Rattle.wkt_machine.specs.TokensView.{NoKind};
 
 use crate::builder::Builder;
 use crate::coordinates::has_coordinates;
@@ -89,7 +85,7 @@ fn take_number<T: WktNum>(tokens: &mut PeekableTokens<'_, T>) -> Option<T>
 }
 
 impl<'t, 'a, T: WktNum> Source<T> for OneByOne<'t, 'a, T> {
-    ghost use Rattle.wkt_machine.specs.TokensView.{tokens_view};
+    ghost use Rattle.wkt_machine.specs.View.{tokens_view};
 
     ghost view = { tokens_view };
 

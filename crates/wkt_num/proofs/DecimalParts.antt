@@ -11,13 +11,11 @@ use Rattle.std.proofs.lemmas.Bool.{cases_eq}
 use Rattle.std.proofs.lemmas.Nat.{pow-add}
 use borrow.Author.Tests.{eqb-true, ne_eqb}
 use Rattle.wkt_num.specs.Bytes.{class_of, Run, AllRun}
-use Rattle.wkt_num.specs.Number.{IsNumberText}
+use Rattle.wkt_num.specs.Number.{IsNumberText, StopsRun, KeepsText}
 use Rattle.wkt_num.specs.WholeLaws.{digits_are_run, point_run, minus_run}
-use Rattle.wkt_num.specs.Decimal.{read_magnitude, read_decimal, magnitude_text, decimal_text, fraction_digits, fraction_text}
+use Rattle.wkt_num.specs.Decimal.{read_magnitude, read_decimal, magnitude_text, decimal_text, fraction_digits, fraction_text, zeros}
 use Rattle.wkt_num.specs.DecimalLaws.{first_of, run_append, number_first, ten_pos, after_split}
-use Rattle.wkt_num.specs.Kept.{StopsRun, KeepsText}
 use Rattle.wkt_num.specs.DigitParts.{IsWholePart, IsPlainDecimal, HasZeros}
-use Rattle.wkt_num.specs.Printing.{zeros}
 use Rattle.wkt_num.proofs.TextInsideText.{digits-more, digits-suc, Shown, decimal-is, fraction-is, magnitude-is, reads-fraction, reads-whole, signed, value-less, value-some, value-low, digit-is, digits-zeros, fits-within}
 
 -- The parts of a decimal's text by their places in the bytes.

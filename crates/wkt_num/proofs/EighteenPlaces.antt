@@ -13,9 +13,8 @@ use mir.Val.{bits, hbits}
 use borrow.Rule.Slice.PartMut.{put_mid, mid_of, mid_len, same_len_mid}
 use lib.Arith.{digits_lt}
 use borrow.Author.Tests.{ne_eqb, eqb-true, eqb-false}
-use Rattle.wkt_num.specs.Printing.{padded, zeros, EndsInDigit}
+use Rattle.wkt_num.specs.Decimal.{padded, zeros, EndsInDigit, fraction_digits}
 use Rattle.wkt_num.specs.DigitParts.{lowest}
-use Rattle.wkt_num.specs.Decimal.{fraction_digits}
 use Rattle.wkt_num.specs.DecimalLaws.{ten_pos, fraction-none}
 use Rattle.wkt_num.proofs.Printed.{step, pads, last-digit, length-padded, zeros-snoc}
 

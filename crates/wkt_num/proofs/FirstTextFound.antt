@@ -15,7 +15,7 @@ use Rattle.std.proofs.Math.Seq.{take-append_seam, drop-append_seam}
 use Rattle.std.proofs.Math.Nat.{pow-le-pow_right}
 use Rattle.wkt_num.specs.Bytes.{class_of, Run}
 use Rattle.wkt_num.specs.WholeLaws.{digit_run}
-use Rattle.wkt_num.specs.Kept.{StopsRun, StandsFirst}
+use Rattle.wkt_num.specs.Number.{StopsRun, StandsFirst}
 use Rattle.wkt_num.specs.DigitParts.{IsPrinted, IsWholeText}
 use Rattle.wkt_num.proofs.DecimalParts.{length-range}
 

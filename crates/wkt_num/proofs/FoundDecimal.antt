@@ -11,11 +11,10 @@ use Rattle.std.proofs.Math.Seq.{get_or-append_seam}
 use Rattle.std.proofs.Math.Nat.{mod-lt, div-lt_iff_lt-mul}
 use borrow.Author.Tests.{eqb-true, eqb-false}
 use Rattle.wkt_num.specs.Bytes.{class_of, Run}
-use Rattle.wkt_num.specs.Decimal.{read_decimal, fraction_digits, fraction_text, magnitude_text, decimal_text, IsShortDecimal}
+use Rattle.wkt_num.specs.Decimal.{read_decimal, fraction_digits, fraction_text, magnitude_text, decimal_text, IsShortDecimal, zeros, EndsInDigit}
 use Rattle.wkt_num.specs.DecimalLaws.{not_negative, fraction-bytes, ten_pos}
 use Rattle.wkt_num.specs.WholeLaws.{point_run, minus_run, digit_run}
-use Rattle.wkt_num.specs.Kept.{StopsRun, KeepsText, StandsFirst}
-use Rattle.wkt_num.specs.Printing.{zeros, EndsInDigit}
+use Rattle.wkt_num.specs.Number.{StopsRun, KeepsText, StandsFirst}
 use Rattle.wkt_num.specs.DigitParts.{IsWholePart, HasZeros, IsFraction, IsDecimalText}
 use Rattle.wkt_num.proofs.Printed.{length-padded, pads, last-digit}
 use Rattle.wkt_num.proofs.FirstTextFound.{end, end-is, within, stops, minus, sign-is, sign-minus, digits, is-some, is-few, starts, zero-alone, past, seam-range, digit-in, not-both, no-digit, one-end, one-first, test-range, first-of}

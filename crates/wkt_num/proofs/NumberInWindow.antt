@@ -12,13 +12,12 @@ use Rattle.std.proofs.Math.Nat.{mul-le-mul_right, pow-le-pow_right}
 use borrow.Author.Tests.{ne_eqb, lt-ltb}
 use Rattle.wkt_num.specs.Whole.{keep_if, IsSigned, read_signed, read_unsigned}
 use Rattle.wkt_num.specs.Bytes.{class_of, Run, AllRun}
-use Rattle.wkt_num.specs.Number.{IsNumberText}
+use Rattle.wkt_num.specs.Number.{IsNumberText, BeginsNumber}
 use Rattle.wkt_num.specs.WholeLaws.{digits_are_run, point_run, minus_run, first_digit, read_signed_minus, read_signed_plain, read_unsigned_some}
 use Rattle.wkt_num.specs.Decimal.{read_magnitude, read_decimal, with_sign, and_then}
 use Rattle.wkt_num.specs.DecimalLaws.{first_of, run_append, number_first, digits_append, value_append, read-near, after_split, ten_pos}
 use Rattle.wkt_num.proofs.DecimalParts.{take-range, length-range, stops-at, digits-parts, range-split}
 use Rattle.wkt_num.proofs.TextInsideText.{reads-fraction, reads-whole}
-use Rattle.wkt_num.specs.Kept.{BeginsNumber}
 use Rattle.wkt_num.specs.DigitParts.{BeginsUnits, signed, ShowsWhole}
 
 -- Digits around a point, or without one, are read as their units.

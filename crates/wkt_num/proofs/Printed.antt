@@ -9,9 +9,8 @@ use Rattle.std.proofs.Math.Seq.{take-append-add, drop-set-lt, take-append_seam, 
 use Rattle.std.proofs.Math.Nat.{pow-suc, div-div-eq-div-mul, pow-le-pow_right, mod-lt, div-le_self, div-lt_iff_lt-mul, le-mul_of_pos_right, div-eq_of_lt, mod-eq_of_lt, mul-le-mul_right, mul-div-mul_right}
 use Rattle.std.proofs.lemmas.Nat.{mul-pow, div-add-mod', pow-add}
 use borrow.Author.Tests.{eq-eqb, ne_eqb, eqb-true, eqb-false}
-use Rattle.wkt_num.specs.Decimal.{fraction_digits, fraction_text, magnitude_text, decimal_text}
+use Rattle.wkt_num.specs.Decimal.{fraction_digits, fraction_text, magnitude_text, decimal_text, zeros, EndsInDigit, padded}
 use Rattle.wkt_num.specs.DecimalLaws.{ten_pos, fraction-bytes, fraction-none, not_negative}
-use Rattle.wkt_num.specs.Printing.{zeros, EndsInDigit, padded}
 
 -- A part of an array, as the text that was put there.
 

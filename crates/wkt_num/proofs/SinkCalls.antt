@@ -1,11 +1,15 @@
--- What calls on a sink do, one after the other, and what a formatter holds after them.
+-- What calls on a sink do, one after the other, and what a formatter holds after them. A call that failed with nothing added
+-- left a beginning of its text: the empty one.
 use Rattle.std.proofs.Common.{ℕ, List, [], ◌++◌, refl, ap, ◌∙◌, Result, Ok, Err, IsOk, ◌≡◌, sym, subst}
 use Rattle.std.specs.Result.{IsErrAnd}
 use Rattle.std.specs.Borrow.{MutBor}
 use Rattle.std.specs.Fmt.{HasWritten, HasWrittenStyled, IsPlainFormatter, IsDefaultSpec, IsFlush}
 use Rattle.std.specs.declared.fmt.Formatter.{Formatter}
-use Rattle.wkt_num.specs.Sink.{Sink, Adds, Breaks, Puts, next_count}
+use Rattle.std.proofs.lemmas.List.{append-nil}
+use Rattle.wkt_num.specs.Sink.{Sink, Adds, Breaks, Puts, next_count, GrewBy}
 use Rattle.wkt_num.specs.Borrowed.{Took, ShowsThrough}
+
+-- What calls on a sink do, one after the other, and what a formatter holds after them.
 
 -- Calls on a sink, one after the other.
 
@@ -54,3 +58,8 @@ module _ {W : Type 0} (gives : W → List ℕ → W → Type 0) where
   -- the same on a formatter that is plain
   pub displayed_plain : (f : Formatter W) (bs : List ℕ) (g : Formatter W) → IsPlainFormatter f → HasWrittenStyled gives f bs g → HasWritten gives f bs g
   displayed_plain f bs g p h = record { wrote = h.wrote; plain = record { bare = subst IsDefaultSpec (sym h.spec) p.bare; flush = h.flush } }
+
+-- A call that failed with nothing added left a beginning of its text: the empty one.
+
+pub none_grew : (old bs new : List ℕ) → new ≡ old → GrewBy old bs new
+none_grew old bs new e = record { part = []; rest = bs; begins = refl; grown = e ∙ sym (append-nil old) }

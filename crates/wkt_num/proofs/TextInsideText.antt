@@ -15,9 +15,8 @@ use Rattle.std.proofs.lemmas.Str.Parse.{digit_from_value, without_leading_plus_n
 use borrow.Author.Tests.{le-leb, ne_eqb, lt-ltb}
 use Rattle.wkt_num.specs.Whole.{is_numeral, keep_if}
 use Rattle.wkt_num.specs.WholeLaws.{is_numeral_of}
-use Rattle.wkt_num.specs.Decimal.{before_point, after_point, units_of, read_magnitude, read_decimal, with_sign, and_then, fraction_digits, fraction_text, magnitude_text, decimal_text}
+use Rattle.wkt_num.specs.Decimal.{before_point, after_point, units_of, read_magnitude, read_decimal, with_sign, and_then, fraction_digits, fraction_text, magnitude_text, decimal_text, zeros}
 use Rattle.wkt_num.specs.DecimalLaws.{before_digits, after_digits, digits_append, value_append, not_negative, units_is, after_split, ten_pos, fraction-none, read-near}
-use Rattle.wkt_num.specs.Printing.{zeros}
 use Rattle.wkt_num.proofs.Printed.{step}
 
 -- The reading of a short body.

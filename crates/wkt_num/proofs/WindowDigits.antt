@@ -24,9 +24,8 @@ use Rattle.wkt_num.specs.Bytes.{Class, Nul, White, Mark, Run, class_of}
 use Rattle.wkt_num.specs.declared.powers.TheConstants.{FIVES, TENS}
 use Rattle.wkt_num.specs.DigitParts.{is_other, bits_from, others_mask, IsFirstOther, IsWholeText}
 use Rattle.wkt_num.proofs.DigitLanes.{over-mask, byte-digit}
-use Rattle.wkt_num.specs.Number.{IsNumberText}
+use Rattle.wkt_num.specs.Number.{IsNumberText, KeepsText}
 use Rattle.wkt_num.specs.Whole.{read_signed, read_unsigned}
-use Rattle.wkt_num.specs.Kept.{KeepsText}
 use Rattle.wkt_num.proofs.TextInsideText.{decimal-is}
 use Rattle.wkt_num.proofs.DecimalParts.{take-range, length-range, first-range, stops-at, text-run, value-first}
 

@@ -1,4 +1,5 @@
--- Sinks that borrow what takes their text, and the sink over a string, which says what the string holds, after a failure too.
+-- Sinks that borrow what takes their text: over a string, which says what the string holds, after a failure too, over a
+-- writer, and over a formatter.
 use Rattle.std.proofs.Common.{sym, ap, subst, ◌∙◌, append_assoc}
 use Rattle.std.specs.Prelude.{◌≡◌, ℕ, List, [], ◌∷◌, ◌++◌, refl, String, string_bytes}
 use Rattle.std.specs.Borrow.{MutBor}
@@ -9,6 +10,10 @@ use Rattle.std.specs.declared.alloc.Global.{Global}
 use Rattle.std.proofs.lemmas.List.{append-nil}
 use Rattle.wkt_num.specs.Sink.{Sink, GrewBy, grew_after, grew_longer}
 use Rattle.wkt_num.specs.declared.string_text.StringText.{StringText}
+use Rattle.wkt_num.specs.declared.counted.CountedText.{CountedText}
+use Rattle.wkt_num.specs.declared.formatted.FormatterText.{FormatterText}
+
+-- Sinks that borrow what takes their text, and the sink over a string, which says what the string holds, after a failure too.
 
 -- A sink that borrows what takes its text.
 
@@ -136,3 +141,29 @@ string_sink = record {
   after = λ s t u bs cs h k. record { grew = grew_after text_of s t u bs cs h.grown k.grew; same = k.same ∙ h.same };
   longer = λ s t bs cs h. record { grew = grew_longer text_of s t bs cs h.grew; same = h.same };
 }
+
+-- The sinks over a writer and over a formatter.
+
+-- The writer that the sink borrows.
+abbrev pub writer_of : {W : Type 0} → CountedText W → MutBor W
+writer_of s = s.writer
+
+-- How many calls on the sink have failed.
+abbrev pub counted_failures : {W : Type 0} → CountedText W → ℕ
+counted_failures s = s.failures
+
+-- What the calls hand the writer.
+abbrev pub counted_sink : {W : Type 0} → (W → List ℕ → W → Type 0) → Sink (CountedText W)
+counted_sink gives = borrowed writer_of counted_failures (WritesInCalls gives) (calls_none gives) (calls_more gives)
+
+-- The formatter that the sink borrows.
+abbrev pub formatter_of : {W : Type 0} → FormatterText W → MutBor (Formatter W)
+formatter_of s = s.formatter
+
+-- How many calls on the sink have failed.
+abbrev pub formatted_failures : {W : Type 0} → FormatterText W → ℕ
+formatted_failures s = s.failures
+
+-- What the calls show through the formatter.
+abbrev pub formatted_sink : {W : Type 0} → (W → List ℕ → W → Type 0) → Sink (FormatterText W)
+formatted_sink gives = borrowed formatter_of formatted_failures (ShowsThrough gives) (shows_none gives) (shows_more gives)

@@ -9,10 +9,9 @@ use Rattle.std.specs.Str.Parse.{AllDigits, digits_value, digits_value_after}
 use lib.Count.{count_trailing_zeros}
 use lib.Lanes.{mask_l}
 use Rattle.wkt_num.specs.Bytes.{class_of, Run}
-use Rattle.wkt_num.specs.Printing.{zeros}
-use Rattle.wkt_num.specs.Decimal.{read_decimal}
+use Rattle.wkt_num.specs.Decimal.{zeros, read_decimal}
 use Rattle.wkt_num.specs.Whole.{IsSigned}
-use Rattle.wkt_num.specs.Kept.{KeepsText}
+use Rattle.wkt_num.specs.Number.{KeepsText}
 
 -- A number of units as an upper half and a lower one of 64 bits.
 

@@ -3,7 +3,7 @@ ghost use Rattle.std.specs.Prelude.{◌≡◌, ℤ, pos, ◌^◌, ◌+ℤ◌, �
 ghost use Rattle.std.specs.Ordering.{int_cmp, int_eq, as_partial_cmp};
 ghost use Rattle.std.specs.Cmp.{int_eq_equiv, int_cmp_total, signed_po, partial_equiv_from_equiv};
 ghost use Rattle.wkt_num.specs.Decimal.{read_decimal, decimal_text, IsUnits, IsShortDecimal};
-ghost use Rattle.wkt_num.specs.Kept.{KeepsText, FindsShort};
+ghost use Rattle.wkt_num.specs.Number.{KeepsText, FindsShort};
 ghost use Rattle.wkt_num.specs.DigitParts.{upper_half, lower_half, upper_back, lower_back};
 ghost use Rattle.wkt_num.specs.DecimalLaws.{decimal_reads_back, decimal_reads_values, decimal_number_text, decimal_same};
 

@@ -14,7 +14,7 @@ pub struct FormatterText<'a, W: fmt::Write> {
 }
 
 impl<'a, W: fmt::Write> FormatterText<'a, W> {
-    ghost use Rattle.wkt_num.specs.Counted.{formatter_of, formatted_failures};
+    ghost use Rattle.wkt_num.specs.Borrowed.{formatter_of, formatted_failures};
 
     /// A sink that has been given nothing yet.
     pub fn new(formatter: &'a mut Formatter<W>) -> FormatterText<'a, W>
@@ -36,7 +36,7 @@ impl<'a, W: fmt::Write> FormatterText<'a, W> {
 }
 
 impl<'a, W: fmt::Write> TextSink for FormatterText<'a, W> {
-    ghost use Rattle.wkt_num.specs.Counted.{formatted_sink};
+    ghost use Rattle.wkt_num.specs.Borrowed.{formatted_sink};
 
     ghost sink = { formatted_sink W.write_str_gives };
 

@@ -3,7 +3,7 @@ ghost use Rattle.std.specs.Prelude.{◌≡◌, ◌==◌, ℕ, ◌+◌, ◌≤◌
 ghost use Rattle.std.specs.Fmt.{sign_text};
 ghost use Rattle.std.specs.Str.Parse.{AllDigits, digits_value};
 ghost use Rattle.wkt_num.specs.Decimal.{read_decimal};
-ghost use Rattle.wkt_num.specs.Kept.{BeginsNumber};
+ghost use Rattle.wkt_num.specs.Number.{BeginsNumber};
 ghost use Rattle.wkt_num.specs.DigitParts.{signed, ShowsWhole};
 ghost use Rattle.wkt_num.specs.Whole.{read_signed, read_unsigned};
 

@@ -6,7 +6,7 @@ ghost use Rattle.std.specs.Fmt.{sign_text};
 ghost use Rattle.std.specs.Str.Parse.{AllDigits};
 ghost use Rattle.wkt_num.specs.Bytes.{class_of, Run};
 ghost use Rattle.wkt_num.specs.Decimal.{read_decimal, decimal_text};
-ghost use Rattle.wkt_num.specs.Kept.{KeepsText};
+ghost use Rattle.wkt_num.specs.Number.{KeepsText};
 ghost use Rattle.wkt_num.specs.DigitParts.{IsWholePart, IsDecimalText, IsPlainDecimal, HasZeros, IsFirstOther, others_mask};
 
 use crate::powers::SHORT_PLACES;

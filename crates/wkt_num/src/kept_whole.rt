@@ -2,7 +2,7 @@
 ghost use Rattle.std.specs.Prelude.{◌≡◌, ◌≤◌, ◌<◌, ◌^◌, ◌+◌, ◌==◌, ℕ, Some, IfSome, MatchBool, length, take, slice_range, unsigned_abs};
 ghost use Rattle.std.specs.Fmt.{decimal, signed_decimal};
 ghost use Rattle.std.specs.Str.Parse.{AllDigits};
-ghost use Rattle.wkt_num.specs.Kept.{KeepsText, FindsShort};
+ghost use Rattle.wkt_num.specs.Number.{KeepsText, FindsShort};
 ghost use Rattle.wkt_num.specs.DigitParts.{IsWholeText, IsPrinted};
 ghost use Rattle.wkt_num.specs.Whole.{read_signed, read_unsigned};
 

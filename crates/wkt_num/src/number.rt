@@ -1,8 +1,7 @@
 //! The numbers that coordinates are made of.
 ghost use Rattle.std.specs.Prelude.{◌≡◌, ◌≤◌, ◌<◌, ℕ, true, List, Option, Some, IfSome, length, ◌↔◌};
 ghost use Rattle.wkt_num.specs.Sink.{Puts};
-ghost use Rattle.wkt_num.specs.Number.{IsNumberText, ReadsTexts};
-ghost use Rattle.wkt_num.specs.Kept.{KeepsText, BeginsNumber};
+ghost use Rattle.wkt_num.specs.Number.{IsNumberText, ReadsTexts, KeepsText, BeginsNumber};
 
 use crate::sink::TextSink;
 use std::fmt;

@@ -5,8 +5,7 @@ ghost use Rattle.std.specs.Prelude.{◌≡◌, ◌≢◌, ℕ, List, length, ◌
 ghost use Rattle.std.specs.List.{prefix_len};
 ghost use Rattle.wkt_num.specs.Sink.{Puts};
 ghost use Rattle.wkt_num.specs.DigitParts.{lowest};
-ghost use Rattle.wkt_num.specs.Printing.{zeros, EndsInDigit, padded};
-ghost use Rattle.wkt_num.specs.Decimal.{magnitude_text, fraction_text, fraction_digits};
+ghost use Rattle.wkt_num.specs.Decimal.{zeros, EndsInDigit, padded, magnitude_text, fraction_text, fraction_digits};
 
 use crate::digits::{put_small_whole, put_whole};
 use crate::powers::{SHORT_PLACES, five_to, ten_to};

@@ -2,7 +2,7 @@
 ghost use Rattle.std.specs.Prelude.{◌≡◌, ◌≤◌, ◌<◌, ◌^◌, IfSome, length, unsigned_abs};
 ghost use Rattle.std.specs.Fmt.{signed_decimal};
 ghost use Rattle.std.proofs.Common.{lit≤};
-ghost use Rattle.wkt_num.specs.Kept.{KeepsText, FindsShort};
+ghost use Rattle.wkt_num.specs.Number.{KeepsText, FindsShort};
 ghost use Rattle.wkt_num.specs.Whole.{read_signed, IsSigned};
 ghost use Rattle.wkt_num.specs.WholeLaws.{signed_reads_back, signed_reads_values, signed_text, signed_same};
 

@@ -2,7 +2,7 @@
 ghost use Rattle.std.specs.Prelude.{◌≡◌, ◌≤◌, ◌<◌, ◌^◌, IfSome, length};
 ghost use Rattle.std.specs.Fmt.{decimal};
 ghost use Rattle.std.proofs.Common.{lit≤};
-ghost use Rattle.wkt_num.specs.Kept.{KeepsText, FindsShort};
+ghost use Rattle.wkt_num.specs.Number.{KeepsText, FindsShort};
 ghost use Rattle.wkt_num.specs.Whole.{read_unsigned};
 ghost use Rattle.wkt_num.specs.WholeLaws.{unsigned_reads_back, unsigned_reads_values, unsigned_text, unsigned_same};
 

@@ -7,7 +7,7 @@ use Rattle.wkt_types.specs.Values.{IsWktOf}
 use Rattle.wkt_read.specs.Lexemes.{IsSplit}
 use Rattle.wkt_read.specs.Grammar.{StandFor}
 use Rattle.wkt_read.specs.Front.{Front}
-use Rattle.wkt_read.specs.Bad.{HasBad}
+use Rattle.wkt_read.specs.Items.{HasBad}
 use Rattle.wkt_read.specs.declared.error.ReadError.{ReadError}
 use Rattle.wkt_read.specs.declared.error.ReadError.TheVariants.{Text, Memory}
 

@@ -7,8 +7,7 @@ use Rattle.wkt_access.specs.Values.{Value}
 use Rattle.wkt_read.specs.Lexemes.{SpellsLexeme, Takes, IsEnd}
 use Rattle.wkt_read.specs.Front.{Front, HasNoFront}
 use Rattle.wkt_read.specs.Grammar.{KindWord, kind_word, dim_word, IsEmptyWord}
-use Rattle.wkt_read.specs.Begun.{BegunGeometry, NoneBegins, IsDead}
-use Rattle.wkt_read.specs.Early.{IsJustDead}
+use Rattle.wkt_read.specs.Begun.{BegunGeometry, NoneBegins, IsDead, IsJustDead}
 use Rattle.wkt_read.specs.declared.expected.Expected.{Expected}
 use Rattle.wkt_read.specs.declared.expected.Expected.TheVariants as expected
 

@@ -1,10 +1,43 @@
--- The kind and the dimension that the header of a text names. It speaks of places in the text and of no lexeme. Where the header ends is this project's own choice.
-use Rattle.std.specs.Prelude.{ℕ, List, [], ◌∷◌, length, drop, Option, Some, None, Bool, true, false, not, ◌&&◌, ◌||◌, ◌==◌, nat_eq, codes, is_none, if◌then◌else◌}
+-- The kind and the dimension of a value; those that the header of a text names, also in steps; and what `infer_type` and
+-- `infer_header` answer.
+use Rattle.std.specs.Prelude.{ℕ, List, [], ◌∷◌, length, drop, Option, Some, None, Bool, true, false, not, ◌&&◌, ◌||◌, ◌==◌, nat_eq, codes, is_none, if◌then◌else◌, ◌≡◌, ◌<◌, take, get_or, Result, Ok, Err}
 use Rattle.std.specs.Str.{str_to_ascii_uppercase, trim_start}
+use Rattle.std.specs.Borrow.{Bor}
+use Rattle.std.specs.String.{string_bytes}
 use Rattle.wkt_access.specs.declared.dimensions.Dimension.{Dimension}
-use Rattle.wkt_access.specs.declared.dimensions.Dimension.TheVariants.{XY, XYZ, XYM, XYZM}
+use Rattle.wkt_access.specs.Values.{Value}
 use Rattle.wkt_types.specs.declared.geometry_type.GeometryType.{GeometryType}
+use Rattle.wkt_types.specs.declared.geometry_type.GeometryType.TheVariants as kind
+use Rattle.wkt_access.specs.declared.dimensions.Dimension.TheVariants.{XY, XYZ, XYM, XYZM}
 use Rattle.wkt_read.specs.Grammar.{KindWord, kind_words}
+use Rattle.wkt_read.specs.declared.infer.InferError.{InferError}
+use Rattle.wkt_read.specs.declared.infer.HeaderError.{HeaderError}
+use Rattle.wkt_read.specs.declared.infer.InferError.TheVariants as error
+use Rattle.wkt_read.specs.declared.infer.HeaderError.TheVariants as lent
+
+-- The kind and the dimension of a value.
+
+-- The kind of a value.
+abbrev pub kind_of : {N : Type 0} → Value N → GeometryType
+kind_of (Value.point d c) = kind.Point
+kind_of (Value.line_string d cs) = kind.LineString
+kind_of (Value.polygon d rs) = kind.Polygon
+kind_of (Value.multi_point d ms) = kind.MultiPoint
+kind_of (Value.multi_line_string d ls) = kind.MultiLineString
+kind_of (Value.multi_polygon d ps) = kind.MultiPolygon
+kind_of (Value.collection d vs) = kind.GeometryCollection
+
+-- The dimension of a value's header.
+abbrev pub dim_of : {N : Type 0} → Value N → Dimension
+dim_of (Value.point d c) = d
+dim_of (Value.line_string d cs) = d
+dim_of (Value.polygon d rs) = d
+dim_of (Value.multi_point d ms) = d
+dim_of (Value.multi_line_string d ls) = d
+dim_of (Value.multi_polygon d ps) = d
+dim_of (Value.collection d vs) = d
+
+-- The kind and the dimension that the header of a text names. It speaks of places in the text and of no lexeme. Where the header ends is this project's own choice.
 
 -- What the header of a text says: a kind and a dimension, or which of the three rules it breaks.
 pub data HeaderAnswer : Type 0 where
@@ -71,3 +104,59 @@ cut_answer (Some c) =
 -- The header rule: white space of Unicode at the start is dropped, and the header of the rest gives the answer.
 unfoldable pub header_rule : List ℕ → HeaderAnswer
 header_rule text = cut_answer (header_cut (trim_start text))
+
+-- The header of a text in steps. Only private contracts cite these.
+
+-- The header has this length, and EMPTY is after it or not; an ASCII byte is after it.
+abbrev pub EndsHeader : Option (ℕ × Bool) → List ℕ → Type 0
+EndsHeader None text = header_cut text ≡ None
+EndsHeader (Some e) text = (header_cut text ≡ Some (record { header = take e.0 text; by_empty = e.1 })) × (e.0 < length text) × (get_or text e.0 0 < 128)
+
+-- The text begins with the word, and this follows it, or it doesn't.
+abbrev pub Strips : Option (Bor (List ℕ)) → List ℕ → List ℕ → Type 0
+Strips None word text = begins word text ≡ false
+Strips (Some rest) word text = (begins word text ≡ true) × (drop (length word) text ≡ str_to_ascii_uppercase rest.now)
+
+-- The header begins with the word of this kind, and this follows it.
+abbrev pub BeginsKind : Option (GeometryType × Bor (List ℕ)) → List ℕ → Type 0
+BeginsKind None header = named_in kind_words header ≡ None
+BeginsKind (Some k) header = named_in kind_words header ≡ Some (k.0, str_to_ascii_uppercase k.1.now)
+
+-- What a header says.
+abbrev pub header_answer : List ℕ → Bool → HeaderAnswer
+header_answer header by_empty = cut_answer (Some (record { header = header; by_empty = by_empty }))
+
+-- What `infer_type` and `infer_header` answer.
+
+-- The header begins with no kind word.
+abbrev pub IsUnsupported : HeaderAnswer → Type 0
+IsUnsupported (Named k d) = ⊥
+IsUnsupported (Unsupported prefix) = Unit {0}
+IsUnsupported NoSpace = ⊥
+IsUnsupported NoParen = ⊥
+
+-- The answer is that of the header rule; memory is short only where an unknown prefix was to be kept.
+abbrev pub Infers : Result (GeometryType × Dimension) InferError → HeaderAnswer → Type 0
+Infers (Ok p) rule = rule ≡ Named p.0 p.1
+Infers (Err (error.UnsupportedPrefix prefix)) rule = rule ≡ Unsupported (string_bytes prefix)
+Infers (Err error.NoSpaceBeforeEmpty) rule = rule ≡ NoSpace
+Infers (Err error.NoOpenParen) rule = rule ≡ NoParen
+Infers (Err (error.Memory e)) rule = IsUnsupported rule
+
+-- The answer is that of the header rule; the prefix that is lent is in the text's own case.
+abbrev pub SaysOf : Result (GeometryType × Dimension) HeaderError → HeaderAnswer → Type 0
+SaysOf (Ok p) rule = rule ≡ Named p.0 p.1
+SaysOf (Err (lent.UnsupportedPrefix prefix)) rule = rule ≡ Unsupported (str_to_ascii_uppercase prefix.now)
+SaysOf (Err lent.NoSpaceBeforeEmpty) rule = rule ≡ NoSpace
+SaysOf (Err lent.NoOpenParen) rule = rule ≡ NoParen
+
+-- If a prefix is lent, it is this header as it stands in the text.
+abbrev pub LendsPrefix : HeaderError → List ℕ → Type 0
+LendsPrefix (lent.UnsupportedPrefix prefix) header = prefix.now ≡ header
+LendsPrefix lent.NoSpaceBeforeEmpty header = Unit {0}
+LendsPrefix lent.NoOpenParen header = Unit {0}
+
+-- If a prefix is lent, it is the header of a text as it stands there, if the text has one.
+abbrev pub LendsPrefixOf : HeaderError → Option Cut → Type 0
+LendsPrefixOf e None = e ≡ lent.NoOpenParen
+LendsPrefixOf e (Some c) = LendsPrefix e c.header

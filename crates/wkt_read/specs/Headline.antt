@@ -4,7 +4,7 @@ use Rattle.wkt_num.specs.Bytes.{Close}
 use Rattle.wkt_access.specs.Values.{Value}
 use Rattle.wkt_access.specs.Shapes.{Shape, canon, shape_of}
 use Rattle.wkt_access.specs.Faults.{fault}
-use Rattle.wkt_access.specs.Lawful.{IsLawful}
+use Rattle.wkt_access.specs.WellFormed.{IsLawful}
 use Rattle.wkt_access.specs.Texts.{shape_text}
 use Rattle.wkt_read.specs.Lexemes.{IsBoundary}
 use Rattle.wkt_read.specs.Front.{Front, EndsIn}

@@ -1,10 +1,12 @@
--- What an item of a stream says of a lexeme.
-use Rattle.std.specs.Prelude.{◌≡◌, ℕ, List, codes, Option, Some, None, Result, Ok, Err}
+-- What an item of a stream says of a lexeme, and numbers that the number type doesn't read.
+use Rattle.std.specs.Prelude.{◌≡◌, ℕ, List, codes, Option, Some, None, Result, Ok, Err, ◌++◌, ◌∷◌}
 use Rattle.std.specs.Borrow.{Bor}
+use Rattle.wkt_num.specs.Bytes.{Lexeme, Num}
 use Rattle.wkt_num.specs.Bytes as lex
-use Rattle.wkt_num.specs.Bytes.{Lexeme}
 use Rattle.wkt_read.specs.declared.tokenizer.tokens.Token.{Token}
 use Rattle.wkt_read.specs.declared.tokenizer.tokens.Token.TheVariants.{Comma, Number, ParenClose, ParenOpen, Word}
+
+-- What an item of a stream says of a lexeme.
 
 -- the message of a number run that the number type doesn't read
 abbrev pub bad_number : List ℕ
@@ -25,3 +27,13 @@ IsItem read None None = Unit {0}
 IsItem read None (Some x) = ⊥
 IsItem read (Some l) None = ⊥
 IsItem read (Some l) (Some x) = Says read x l
+
+-- Numbers that the number type doesn't read.
+
+-- One of the lexemes is a number run that the number type doesn't read.
+pub record HasBad {N : Type 0} (read : List ℕ → Option N) (ls : List Lexeme) : Type 0 where
+  pub before : List Lexeme
+  pub run : List ℕ
+  pub after : List Lexeme
+  pub split : ls ≡ before ++ (Num run ∷ after)
+  pub unread : read run ≡ None

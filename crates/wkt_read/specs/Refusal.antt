@@ -1,9 +1,8 @@
 -- With which message lexemes or a text are refused, by the table.
 use Rattle.std.specs.Prelude.{◌≡◌, ℕ, ◌+◌, List, [], ◌∷◌, ◌++◌, Option, Result, Ok, Err}
 use Rattle.wkt_num.specs.Bytes.{Lexeme}
-use Rattle.wkt_read.specs.Begun.{BegunGeometry, NoneBegins}
+use Rattle.wkt_read.specs.Begun.{BegunGeometry, NoneBegins, opens, closes, IsJustDead}
 use Rattle.wkt_read.specs.Context.{context, IsTurn}
-use Rattle.wkt_read.specs.Early.{opens, closes, IsJustDead}
 use Rattle.wkt_read.specs.Explained.{IsExpectedAfter}
 use Rattle.wkt_read.specs.Lexemes.{IsSplit}
 use Rattle.wkt_read.specs.Messages.{message_text}

@@ -1,7 +1,9 @@
--- The lexemes of a text, each with its end, as a function of its bytes.
-use Rattle.std.specs.Prelude.{◌≡◌, ℕ, suc, ◌+◌, List, [], ◌∷◌, ◌++◌, length}
+-- The lexemes of a text, each with its end, as a function of its bytes, and what a contract sees of a stream of them.
+use Rattle.std.specs.Prelude.{◌≡◌, ℕ, suc, ◌+◌, List, [], ◌∷◌, ◌++◌, length, ◌≤◌, Option, Some, None}
 use Rattle.wkt_num.specs.Bytes.{Lexeme, Class, Nul, White, Mark, Run, class_of}
 use Rattle.wkt_read.specs.Lexemes.{lexeme_of, Takes}
+
+-- The lexemes of a text, each with its end, as a function of its bytes.
 
 -- A lexeme, and how many bytes of the text there are up to and with it.
 pub record Spanned : Type 0 where
@@ -55,3 +57,17 @@ spanned_from at bytes = after_run at (front at bytes).0 (front at bytes).1
 -- the lexemes of a text
 abbrev pub spanned : List ℕ → List Spanned
 spanned text = spanned_from 0 text
+
+-- What a contract sees of a stream of lexemes.
+
+-- Where a stream stands: the lexemes that are left, where the last one that it gave ends, and how many bytes were taken.
+pub record Standing : Type 0 where
+  pub remaining : List Spanned
+  pub end : ℕ
+  pub taken : ℕ
+
+-- One step of a stream: the first of the lexemes, after which at most one byte was taken; or none, where none is left.
+abbrev pub StepsFrom : Standing → Option Lexeme → Standing → Type 0
+StepsFrom s None t = (s.remaining ≡ []) × (t.remaining ≡ []) × (t.end ≡ s.end) × (s.taken ≤ t.taken)
+StepsFrom s (Some l) t =
+    (s.remaining ≡ record { lexeme = l; end = t.end } ∷ t.remaining) × (t.end ≤ t.taken) × (t.taken ≤ t.end + 1) × (s.taken ≤ t.taken)

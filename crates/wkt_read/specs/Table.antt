@@ -3,7 +3,7 @@ use Rattle.std.specs.Prelude.{◌≡◌, ◌+◌, ℕ, zero, suc, List, [], ◌�
 use Rattle.std.proofs.Common.{inl, inr}
 use Rattle.wkt_num.specs.Bytes as lex
 use Rattle.wkt_num.specs.Bytes.{Lexeme}
-use Rattle.wkt_read.specs.Early.{opens, closes}
+use Rattle.wkt_read.specs.Begun.{opens, closes}
 use Rattle.wkt_read.specs.Lexemes.{IsSplit}
 use Rattle.wkt_read.specs.Grammar.{is_ascii_word}
 use Rattle.wkt_read.specs.declared.messages.Message.{Message}

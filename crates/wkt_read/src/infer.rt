@@ -2,10 +2,8 @@
 ghost use Rattle.std.specs.Prelude.{◌≡◌, IfErr};
 ghost use Rattle.std.specs.Str.{str_to_ascii_uppercase, trim_start};
 ghost use Rattle.std.specs.List.{AllByRecursion};
-ghost use Rattle.wkt_read.specs.Keywords.{IsCapital};
-ghost use Rattle.wkt_read.specs.Header.{holds, has_space, dim_said, header_cut, header_rule};
-ghost use Rattle.wkt_read.specs.HeaderSteps.{EndsHeader, header_answer};
-ghost use Rattle.wkt_read.specs.Infer.{Infers, SaysOf, LendsPrefix, LendsPrefixOf};
+ghost use Rattle.wkt_read.specs.Stream.{IsCapital};
+ghost use Rattle.wkt_read.specs.Header.{holds, has_space, dim_said, header_cut, header_rule, EndsHeader, header_answer, Infers, SaysOf, LendsPrefix, LendsPrefixOf};
 
 use crate::keywords::{begins, kind};
 use std::alloc::{AllocError, Global};
@@ -53,7 +51,7 @@ impl From<AllocError> for InferError {
 }
 
 // Whether the word, which is in capitals, stands in the text.
-#[tactic(auto, using(crate::proofs::LawLemmas::HeaderPlaces::holds_next))]
+#[tactic(auto, using(crate::proofs::HeaderPlaces::holds_next))]
 fn holds(word: &[u8], text: &[u8]) -> bool
     requires capitals { AllByRecursion IsCapital word.now }
     ensures { result ≡ holds word.now (str_to_ascii_uppercase text.now) }

@@ -3,16 +3,15 @@ ghost use Rattle.std.specs.Prelude.{◌≡◌, ◌++◌, codes};
 ghost use Rattle.std.specs.Str.{str_to_ascii_uppercase};
 ghost use Rattle.wkt_read.specs.Grammar.{kind_word, dim_word, is_empty_word};
 ghost use Rattle.std.specs.List.{AllByRecursion};
-ghost use Rattle.wkt_read.specs.Header.{begins};
-ghost use Rattle.wkt_read.specs.HeaderSteps.{Strips, BeginsKind};
-ghost use Rattle.wkt_read.specs.Keywords.{Names, IsCapital};
+ghost use Rattle.wkt_read.specs.Header.{begins, Strips, BeginsKind};
+ghost use Rattle.wkt_read.specs.Stream.{Names, IsCapital};
 
 use wkt_access::Dimension;
 use wkt_types::GeometryType;
 
 // Whether the text begins with the word, which is in capitals, whatever the text's case.
 #[inline(always)]
-#[tactic(auto, using(crate::proofs::LawLemmas::HeaderPlaces::upper_short))]
+#[tactic(auto, using(crate::proofs::HeaderPlaces::upper_short))]
 pub(crate) fn begins(word: &[u8], text: &[u8]) -> bool
     requires capitals { AllByRecursion IsCapital word.now }
     ensures { result ≡ begins word.now (str_to_ascii_uppercase text.now) }
@@ -33,7 +32,7 @@ pub(crate) fn begins(word: &[u8], text: &[u8]) -> bool
 
 // What follows the word, which is in capitals, at the start of the text, whatever the text's case.
 #[inline(always)]
-#[tactic(auto, using(crate::proofs::LawLemmas::HeaderPlaces::upper_long, crate::proofs::LawLemmas::HeaderPlaces::upper_rest))]
+#[tactic(auto, using(crate::proofs::HeaderPlaces::upper_long, crate::proofs::HeaderPlaces::upper_rest))]
 fn strip<'a>(word: &[u8], text: &'a [u8]) -> Option<&'a [u8]>
     requires capitals { AllByRecursion IsCapital word.now }
     ensures { Strips result word.now (str_to_ascii_uppercase text.now) }
@@ -165,7 +164,7 @@ pub fn is_empty(word: &str) -> bool
 }
 
 /// Whether these bytes are the word EMPTY.
-#[tactic(auto, using(crate::proofs::LawLemmas::HeaderPlaces::empty_word))]
+#[tactic(auto, using(crate::proofs::HeaderPlaces::empty_word))]
 pub fn is_empty_in(word: &[u8]) -> bool
     ensures { result ≡ is_empty_word word.now }
 {

@@ -32,7 +32,7 @@ pub fn at_other(expected: Expected) -> Message
     }
 }
 
-#[tactic(auto, using(crate::proofs::ParserLemmas::Answering::all_ascii, crate::proofs::ParserLemmas::Answering::not_ascii))]
+#[tactic(auto, using(crate::proofs::Answering::all_ascii, crate::proofs::Answering::not_ascii))]
 fn at_first_word(word: &[u8]) -> Message
     ensures { result ≡ at_word Expected.Kind word.now }
 {

@@ -9,10 +9,9 @@ use Rattle.wkt_access.specs.Values.{Value, Values, size}
 use Rattle.wkt_access.specs.Shapes.{canon, canons, shapes_of, rings_of, polygon_of, header_of, dimension}
 use Rattle.wkt_access.specs.WellFormed.{CoordFits, LineStringFits, PolygonFits, PointFits, IsWellFormed, AreWellFormed}
 use Rattle.wkt_access.proofs.Canonical.{header_back}
-use Rattle.wkt_write.specs.Known.{KnownCoord, KnownCoords, KnownPoint, KnownPolygon, Known, AllKnown}
+use Rattle.wkt_write.specs.Pieces.{KnownCoord, KnownCoords, KnownPoint, KnownPolygon, Known, AllKnown}
 use Rattle.wkt_write.proofs.Writable.{known_well_formed}
-use Rattle.wkt_types.specs.Held.{Held, HeldPoint}
-use Rattle.wkt_types.specs.Coords.{numbers_of, coord_dim}
+use Rattle.wkt_types.specs.Held.{Held, HeldPoint, numbers_of, coord_dim}
 use Rattle.wkt_types.specs.Tree.{Tree, Trees, point, line_string, polygon, multi_point, multi_line_string, multi_polygon, collection, no_trees, more_trees}
 use Rattle.wkt_types.specs.Values.{value_of, values_of, point_numbers, line_string_numbers, polygon_numbers, tree_shape, HasDim, HasDimIfAny, IsPointIn, IsLineStringIn, IsPolygonIn, IsUniform, AreUniform, IsWktOf}
 use Rattle.wkt_types.specs.Canonical.{coord_under, point_under, line_under, rings_written, polygon_under, canonical, canonicals}

@@ -5,9 +5,9 @@ use Rattle.std.proofs.Math.Dec.{eqb-suc-zero}
 use Rattle.std.specs.Iterator.Runs.{Run, WholeRun}
 use Rattle.wkt_access.specs.declared.dimensions.Dimension.{Dimension}
 use Rattle.wkt_flat.proofs.TreeLemmas.{IsItemwise, get_map, got}
-use Rattle.wkt_types.specs.Trees.{tree_eq, trees_eq}
-use Rattle.wkt_types.specs.Tree.{collected, tree_dim, multi_line_string, collection, Tree, tree, members, collection_tree, wkt_step, collection_step, trees_of, more_trees}
-use Rattle.wkt_types.specs.Held.{Held, HeldPoint, held, first_dim, IsMadeOf}
+use Rattle.wkt_types.specs.Equal.{tree_eq, trees_eq}
+use Rattle.wkt_types.specs.Tree.{collected, tree_dim, multi_line_string, collection, Tree, tree, members, collection_tree, wkt_step, collection_step, trees_of, more_trees, tree_weight, tree_inside, inside, weight, weights, trees_weight}
+use Rattle.wkt_types.specs.Held.{Held, HeldPoint, held, first_dim, IsMadeOf, numbers_of}
 use Rattle.wkt_types.specs.declared.coord.Coord.{Coord}
 use Rattle.wkt_types.specs.declared.geometry.GeometryCollection.{GeometryCollection}
 use Rattle.wkt_types.specs.declared.geometry.Wkt.{Wkt}
@@ -19,9 +19,7 @@ use Rattle.wkt_access.specs.Shapes.{Shape, Shapes, header_of, shapes_of, polygon
 use Rattle.wkt_access.specs.Parts.{collection_of, gathered, members_of}
 use Rattle.wkt_access.proofs.Collections.{whole}
 use Rattle.wkt_types.specs.Values.{values_of, tree_shape, point_numbers, line_string_numbers, polygon_numbers}
-use Rattle.wkt_types.specs.Coords.{numbers_of}
-use Rattle.wkt_flat.specs.Weight.{total}
-use Rattle.wkt_types.specs.Weight.{tree_weight, tree_inside, inside, weight, weights, trees_weight}
+use Rattle.wkt_flat.specs.Tree.{total}
 use Rattle.wkt_types.specs.Canonical.{canonical, canonicals, rings_if, rings_written}
 
 -- The tree of a `Wkt`, kind by kind.

@@ -3,8 +3,7 @@ use Rattle.std.specs.Prelude.{◌≡◌, ◌↔◌, List, [], ◌∷◌, map, Op
 use Rattle.wkt_access.specs.declared.dimensions.Dimension.{Dimension}
 use Rattle.wkt_access.specs.declared.dimensions.Dimension.TheVariants.{XY, XYZ, XYM, XYZM}
 use Rattle.wkt_access.specs.Shapes.{canon}
-use Rattle.wkt_types.specs.Coords.{numbers_of}
-use Rattle.wkt_types.specs.Held.{Held, HeldPoint}
+use Rattle.wkt_types.specs.Held.{numbers_of, Held, HeldPoint}
 use Rattle.wkt_types.specs.Tree.{Tree, Trees, point, line_string, polygon, multi_point, multi_line_string, multi_polygon, collection, no_trees, more_trees}
 use Rattle.wkt_types.specs.Values.{tree_shape}
 use Rattle.wkt_types.specs.declared.coord.Coord.{Coord}

@@ -1,12 +1,7 @@
 pub mod Held
-pub mod Coords
-pub mod Exact
 pub mod Equal
-pub mod Tree
-pub mod Trees
 pub mod Values
 pub mod Canonical
 pub mod Shown
 pub mod Outcome
-pub mod Flattened
-pub mod Weight
+pub mod Tree

@@ -1,11 +1,13 @@
--- What a `Wkt` holds: its kind, its dimension and its parts.
-use Rattle.std.specs.Prelude.{List, [], ◌∷◌, map, Option, Some, None}
+-- What a `Wkt` holds: its kind, its dimension and its parts; and how many geometries there are to drop.
+use Rattle.std.specs.Prelude.{List, [], ◌∷◌, map, Option, Some, None, ℕ, ◌+◌}
 use Rattle.wkt_access.specs.declared.dimensions.Dimension.{Dimension}
 use Rattle.wkt_types.specs.Held.{Held, HeldPoint}
 use Rattle.wkt_types.specs.declared.coord.Coord.{Coord}
 use Rattle.wkt_types.specs.declared.geometry.GeometryCollection.{GeometryCollection, fold-GeometryCollection}
 use Rattle.wkt_types.specs.declared.geometry.Wkt.{Wkt, fold-Wkt}
 use Rattle.wkt_types.specs.declared.geometry.Wkt.TheOpen.{Wkt-F, GeometryCollection-F}
+
+-- What a `Wkt` holds: its kind, its dimension and its parts.
 
 -- A geometry of one of the seven kinds.
 mutual
@@ -67,3 +69,31 @@ tree_dim (collection ts d) = d
 abbrev pub collected : {T : Type 0} → List (Tree T) → Option (Tree T)
 collected [] = None
 collected (t ∷ ts) = Some (collection (trees_of (t ∷ ts)) (tree_dim t))
+
+-- How many geometries there are to drop. Only private contracts cite these words.
+
+-- How many geometries are in a geometry: in a collection its members, with what is in them.
+abbrev mutual
+  pub tree_inside : {T : Type 0} → Tree T → ℕ
+  tree_inside (collection ts d) = trees_weight ts
+  tree_inside _ = 0
+
+  -- The members of a collection together.
+  pub trees_weight : {T : Type 0} → Trees T → ℕ
+  trees_weight no_trees = 0
+  trees_weight (more_trees t ts) = 1 + tree_inside t + trees_weight ts
+
+-- The geometry, with those in it.
+abbrev pub tree_weight : {T : Type 0} → Tree T → ℕ
+tree_weight t = 1 + tree_inside t
+
+abbrev pub inside : {T : Type 0} → Wkt T → ℕ
+inside w = tree_inside (tree w)
+
+-- How many geometries a `Wkt` is, with those in it.
+abbrev pub weight : {T : Type 0} → Wkt T → ℕ
+weight w = tree_weight (tree w)
+
+-- How many those of a list are.
+abbrev pub weights : {T : Type 0} → List (Wkt T) → ℕ
+weights ws = trees_weight (members ws)

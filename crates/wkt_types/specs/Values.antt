@@ -4,8 +4,7 @@ use Rattle.std.specs.List.{AllByRecursion}
 use Rattle.wkt_access.specs.declared.dimensions.Dimension.{Dimension}
 use Rattle.wkt_access.specs.Values.{Value, Values}
 use Rattle.wkt_access.specs.Shapes.{Shape, shape_of}
-use Rattle.wkt_types.specs.Held.{Held, HeldPoint}
-use Rattle.wkt_types.specs.Coords.{numbers_of, coord_dim}
+use Rattle.wkt_types.specs.Held.{Held, HeldPoint, numbers_of, coord_dim}
 use Rattle.wkt_types.specs.Tree.{Tree, Trees, point, line_string, polygon, multi_point, multi_line_string, multi_polygon, collection, no_trees, more_trees}
 use Rattle.wkt_types.specs.declared.coord.Coord.{Coord}
 

@@ -2,7 +2,7 @@
 ghost use Rattle.std.specs.Prelude.{map};
 ghost use Rattle.wkt_access.specs.Parts.{members_of};
 ghost use Rattle.wkt_access.specs.Shapes.{header_of, polygon_of};
-ghost use Rattle.wkt_types.specs.Coords.{coord_dim, numbers_of};
+ghost use Rattle.wkt_types.specs.Held.{coord_dim, numbers_of};
 ghost use Rattle.wkt_types.specs.Tree.{collection_tree, tree_dim};
 ghost use Rattle.wkt_types.specs.Values.{point_numbers, line_string_numbers, polygon_numbers, tree_shape};
 

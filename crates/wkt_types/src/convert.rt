@@ -1,7 +1,6 @@
 //! Conversions of coordinates and points to flat ones, and why a conversion is refused.
 ghost use Rattle.std.specs.Prelude.{◌≡◌};
-ghost use Rattle.wkt_types.specs.Outcome.{Answers};
-ghost use Rattle.wkt_types.specs.Flattened.{xy, point_or_fault};
+ghost use Rattle.wkt_types.specs.Outcome.{Answers, xy, point_or_fault};
 
 use crate::coord::Coord;
 use crate::point::Point;

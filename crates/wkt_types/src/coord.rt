@@ -20,7 +20,7 @@ pub struct Coord<T> {
 }
 
 impl<T> Coord<T> {
-    ghost use Rattle.wkt_types.specs.Coords.{coord_dim};
+    ghost use Rattle.wkt_types.specs.Held.{coord_dim};
 
     /// The dimension by which of z and m are there.
     pub fn dimension(&self) -> Dimension

@@ -1,6 +1,6 @@
 //! Dimensions compared.
 ghost use Rattle.std.specs.Prelude.{◌≡◌, ◌&&◌};
-ghost use Rattle.wkt_types.specs.Exact.{dim_eq};
+ghost use Rattle.wkt_types.specs.Equal.{dim_eq};
 
 use wkt_access::Dimension;
 

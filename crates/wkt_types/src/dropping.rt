@@ -5,8 +5,8 @@ use wkt_flat::dropping::Nested;
 
 impl<T: Drop> Nested for Wkt<T> {
     ghost use Rattle.std.specs.Prelude.{◌≡◌};
-    ghost use Rattle.wkt_flat.specs.Weight.{total};
-    ghost use Rattle.wkt_types.specs.Weight.{inside};
+    ghost use Rattle.wkt_flat.specs.Tree.{total};
+    ghost use Rattle.wkt_types.specs.Tree.{inside};
 
     ghost inside = { inside };
 

@@ -1,11 +1,9 @@
 //! When two values are equal: exactly if they hold the same.
 ghost use Rattle.std.specs.Prelude.{◌≡◌, IsTrue, ◌↔◌};
 ghost use Rattle.std.specs.Cmp.{on_per};
-ghost use Rattle.wkt_flat.specs.Exact.{exact_by, exact_per};
-ghost use Rattle.wkt_types.specs.Equal.{wkt_coord_eq, wkt_coord_exact, wkt_point_eq, wkt_point_exact, wkt_line_string_eq, wkt_line_string_exact, polygon_eq, polygon_exact};
-ghost use Rattle.wkt_types.specs.Exact.{held_eq, held_exact, held_point_eq, held_point_exact};
+ghost use Rattle.wkt_flat.specs.Equal.{exact_by, exact_per};
+ghost use Rattle.wkt_types.specs.Equal.{wkt_coord_eq, wkt_coord_exact, wkt_point_eq, wkt_point_exact, wkt_line_string_eq, wkt_line_string_exact, polygon_eq, polygon_exact, held_eq, held_exact, held_point_eq, held_point_exact, tree_eq, trees_eq, tree_exact};
 ghost use Rattle.wkt_types.specs.Tree.{tree, collection_tree, members};
-ghost use Rattle.wkt_types.specs.Trees.{tree_eq, trees_eq, tree_exact};
 
 use crate::coord::Coord;
 use crate::dimension::and_same;

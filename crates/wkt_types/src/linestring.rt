@@ -27,7 +27,7 @@ impl<T> Model for LineString<T> {
 }
 
 impl<T> LineString<T> {
-    ghost use Rattle.wkt_types.specs.Coords.{coord_dim};
+    ghost use Rattle.wkt_types.specs.Held.{coord_dim};
     ghost use Rattle.wkt_types.specs.Held.{IsMadeOf};
 
     /// A line string of those coordinates. Their dimensions aren't compared with its own.

@@ -27,7 +27,7 @@ impl<T> Model for Point<T> {
 }
 
 impl<T> Point<T> {
-    ghost use Rattle.wkt_types.specs.Coords.{coord_dim};
+    ghost use Rattle.wkt_types.specs.Held.{coord_dim};
 
     /// A point of that coordinate, or of none. The dimension isn't compared with the coordinate's.
     pub fn new(coord: Option<Coord<T>>, dim: Dimension) -> Self

@@ -1,10 +1,13 @@
--- The least rectangle that holds some coordinates.
-use Rattle.std.specs.Prelude.{◌≡◌, List, ◌∷◌, ◌++◌, map, false}
+-- The least rectangle that holds some coordinates, and an extent that takes in one coordinate more.
+use Rattle.std.specs.Prelude.{◌≡◌, List, ◌∷◌, ◌++◌, map, false, Option, Some, None}
 use Rattle.std.specs.List.{AllByRecursion}
-use Rattle.std.specs.Ordering.{is_gt}
+use Rattle.std.specs.Ordering.{is_gt, ord_min, ord_max}
 use Rattle.std.specs.declared.cmp.Ordering.{Ordering}
-use Rattle.wkt_flat.specs.Corners.{Corners}
+use Rattle.wkt_flat.specs.Rings.{Corners}
 use Rattle.wkt_flat.specs.declared.coord.Coord.{Coord}
+use Rattle.wkt_visit.specs.declared.bounds.Extent.{Extent}
+
+-- The least rectangle that holds some coordinates.
 
 -- The list has x.
 abbrev pub Has : {N : Type 0} → List N → N → Type 0
@@ -28,3 +31,15 @@ pub record IsBounds {N : Type 0} (cmp : N → N → Ordering) (cs : List (Coord 
   pub least_y : IsLeast cmp r.min.y (map (λ c. c.y) cs)
   pub greatest_x : IsGreatest cmp r.max.x (map (λ c. c.x) cs)
   pub greatest_y : IsGreatest cmp r.max.y (map (λ c. c.y) cs)
+
+-- An extent that takes in one coordinate more. Only private contracts cite it.
+
+-- The corners of the least and of the greatest numbers, with those of one coordinate more.
+abbrev pub grown : {N : Type 0} → (N → N → Ordering) → Option (Extent N) → Coord N → Option (Extent N)
+grown cmp None c = Some (record { least = c; greatest = c })
+grown cmp (Some e) c =
+    Some
+    (record {
+      least = record { x = ord_min cmp e.least.x c.x; y = ord_min cmp e.least.y c.y };
+      greatest = record { x = ord_max cmp e.greatest.x c.x; y = ord_max cmp e.greatest.y c.y };
+    })

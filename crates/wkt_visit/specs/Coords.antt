@@ -1,9 +1,10 @@
--- The coordinates of a flat geometry, in order.
-use Rattle.std.specs.Prelude.{List, [], ◌∷◌, ◌++◌, map, flat_map}
-use Rattle.wkt_flat.specs.Corners.{Corners}
-use Rattle.wkt_flat.specs.Rings.{Rings}
+-- The coordinates of a flat geometry, in order, and what they make of a visitor, one after the other.
+use Rattle.std.specs.Prelude.{List, [], ◌∷◌, ◌++◌, map, flat_map, ◌≡◌}
+use Rattle.wkt_flat.specs.Rings.{Corners, Rings}
 use Rattle.wkt_flat.specs.Tree.{Flat, Flats}
 use Rattle.wkt_flat.specs.declared.coord.Coord.{Coord}
+
+-- The coordinates of a flat geometry, in order.
 
 -- Those of a polygon: of its exterior, and then of each interior.
 abbrev pub polygon_coords : {C : Type 0} → Rings C → List C
@@ -32,3 +33,10 @@ abbrev mutual
   pub each_coords : {T : Type 0} → Flats T → List (Coord T)
   each_coords Flats.no_flats = []
   each_coords (Flats.more_flats t ts) = all_coords t ++ each_coords ts
+
+-- What coordinates, one after the other, make of a visitor.
+
+-- The visitor took each of these coordinates in turn.
+abbrev pub Visits : {S C : Type 0} → (S → C → S → Type 0) → S → List C → S → Type 0
+Visits step s [] t = t ≡ s
+Visits {S} step s (c ∷ cs) t = (between : S) × step s c between × Visits step between cs t

@@ -1,8 +1,7 @@
 -- A flat geometry with each of its coordinates mapped.
 use Rattle.std.specs.Prelude.{map, Option}
 use Rattle.std.specs.declared.cmp.Ordering.{Ordering}
-use Rattle.wkt_flat.specs.Corners.{Corners, corners_of}
-use Rattle.wkt_flat.specs.Rings.{Rings}
+use Rattle.wkt_flat.specs.Rings.{Corners, corners_of, Rings}
 use Rattle.wkt_flat.specs.Tree.{Flat, Flats}
 use Rattle.wkt_flat.specs.declared.coord.Coord.{Coord}
 use Rattle.wkt_flat.specs.declared.line.Line.{Line}

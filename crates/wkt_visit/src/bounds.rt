@@ -1,6 +1,6 @@
 //! The least rectangle that holds a geometry.
 ghost use Rattle.std.specs.Prelude.{◌≡◌, [], IfNone, IfSome, option_map};
-ghost use Rattle.wkt_flat.specs.Corners.{corners_of};
+ghost use Rattle.wkt_flat.specs.Rings.{corners_of};
 ghost use Rattle.wkt_flat.specs.Tree.{flat_tree};
 ghost use Rattle.wkt_visit.specs.Coords.{all_coords};
 ghost use Rattle.wkt_visit.specs.Bounds.{IsBounds};
@@ -25,7 +25,7 @@ struct Bounds<T> {
 
 impl<T: WktNum + Ord> Visitor<T> for Bounds<T> {
     ghost use Rattle.std.specs.Prelude.{◌≡◌};
-    ghost use Rattle.wkt_visit.specs.Grown.{grown};
+    ghost use Rattle.wkt_visit.specs.Bounds.{grown};
 
     ghost visits = { λ old c new. new.extent ≡ grown T.cmp old.extent c };
 

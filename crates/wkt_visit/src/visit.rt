@@ -1,8 +1,7 @@
 //! Each coordinate of a geometry, in order.
 ghost use Rattle.std.specs.Prelude.{◌≡◌, [], ◌∷◌, map, flat_map};
 ghost use Rattle.wkt_flat.specs.Tree.{flat_tree, flat_trees};
-ghost use Rattle.wkt_visit.specs.Coords.{all_coords, each_coords, polygon_coords, rect_coords};
-ghost use Rattle.wkt_visit.specs.Visits.{Visits};
+ghost use Rattle.wkt_visit.specs.Coords.{all_coords, each_coords, polygon_coords, rect_coords, Visits};
 
 use wkt_flat::{Coord, Geometry, GeometryCollection, LineString, Point, Polygon, Rect};
 

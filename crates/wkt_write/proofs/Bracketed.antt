@@ -15,7 +15,7 @@ use Rattle.wkt_access.specs.declared.error.Error.{Error}
 use Rattle.wkt_access.specs.Faults.{under}
 use Rattle.wkt_access.specs.Parts.{each, gathered, collection_of, members_of, dimension_of, IsCollectionOf}
 use Rattle.wkt_access.specs.Values.{size}
-use Rattle.wkt_access.proofs.Members.{each_gathered}
+use Rattle.wkt_access.proofs.Collections.{each_gathered}
 use Rattle.wkt_write.proofs.Members.{of_collection, members_counted}
 
 -- Lists in parentheses.

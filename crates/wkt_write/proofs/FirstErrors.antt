@@ -5,12 +5,11 @@ use Rattle.std.proofs.lemmas.List.{length-take-le, append-nil, take_all}
 use Rattle.std.proofs.Math.Dec.{eqb-suc-zero}
 use Rattle.std.specs.List.{AllByRecursion}
 use Rattle.std.specs.Option.{option_or}
-use Rattle.wkt_write.specs.Pieces.{has_none, before, each_after}
+use Rattle.wkt_write.specs.Pieces.{has_none, before, each_after, Clear, Checks}
 use Rattle.wkt_num.specs.Sink.{Sink, Breaks, Adds}
 use Rattle.wkt_num.proofs.SinkCalls.{breaks_first, adds_none, adds_then, breaks_then}
 use Rattle.wkt_access.specs.declared.error.Error.{Error}
 use Rattle.wkt_access.specs.Faults.{first_fault}
-use Rattle.wkt_write.specs.Known.{Clear, Checks}
 use Rattle.wkt_access.specs.Texts.{separated}
 
 -- Beginnings of lists, and lists that are empty.

@@ -13,9 +13,8 @@ use Rattle.wkt_access.specs.declared.error.Error.TheVariants.{TooFewNumbers, Fmt
 use Rattle.wkt_access.specs.Values.{size, Value, Values}
 use Rattle.wkt_access.specs.Shapes.{Shape, Shapes, printed, dimension, rings_of, rect_corner, cut, canon, canons, header_of, polygon_of, shape_of, shapes_of, PolygonShape}
 use Rattle.wkt_access.specs.Faults.{fault, faults, first_fault, coordinate_fault, coordinates_fault, point_fault, polygon_fault, under, rect_fault}
-use Rattle.wkt_write.specs.Known.{Clear, KnownCoord, KnownCoords, KnownLineStrings, KnownPoint, KnownPolygon, KnownRectCorner, Known, AllKnown}
-use Rattle.wkt_access.specs.Lawful.{IsLawful}
-use Rattle.wkt_access.specs.WellFormed.{CoordFits, LineStringFits, PolygonFits, PointFits, IsWellFormed, AreWellFormed}
+use Rattle.wkt_write.specs.Pieces.{Clear, KnownCoord, KnownCoords, KnownLineStrings, KnownPoint, KnownPolygon, KnownRectCorner, Known, AllKnown}
+use Rattle.wkt_access.specs.WellFormed.{IsLawful, CoordFits, LineStringFits, PolygonFits, PointFits, IsWellFormed, AreWellFormed}
 use Rattle.wkt_write.proofs.FirstErrors.{none_of_or}
 use Rattle.wkt_write.proofs.Bracketed.{under_clean}
 use Rattle.wkt_write.proofs.Members.{inside_clean}

@@ -7,7 +7,7 @@ use Rattle.wkt_access.specs.Shapes.{Shape}
 use Rattle.wkt_access.specs.Texts.{shape_text}
 use Rattle.wkt_access.specs.Faults.{fault}
 use Rattle.wkt_access.specs.Faults as faults
-use Rattle.wkt_access.specs.Lawful.{IsLawful}
+use Rattle.wkt_access.specs.WellFormed.{IsLawful}
 
 -- The shape has no error, its printed numbers are values of the number type, and exactly its text was added.
 pub record Written {S N : Type 0} (sink : Sink S) (is_value : N → Type 0) (num : N → List ℕ) (s : S) (shape : Shape N) (t : S) : Type 0 where

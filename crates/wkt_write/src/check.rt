@@ -3,7 +3,7 @@
 
 ghost use Rattle.std.specs.Prelude.{◌≡◌, ℕ, Some, None, Option, IfOk, IfErr};
 ghost use Rattle.wkt_access.specs.Faults.{coordinate_fault, coordinates_fault, point_fault, polygon_fault, fault, under};
-ghost use Rattle.wkt_write.specs.Known.{Checks, ChecksShape, KnownCoord, KnownCoords, KnownPoint, KnownPolygon};
+ghost use Rattle.wkt_write.specs.Pieces.{Checks, ChecksShape, KnownCoord, KnownCoords, KnownPoint, KnownPolygon};
 ghost use Rattle.wkt_access.specs.Parts.{IsCollectionOf};
 ghost use Rattle.wkt_access.specs.Shapes.{printed, dimension};
 ghost use Rattle.wkt_access.specs.Values.{size};

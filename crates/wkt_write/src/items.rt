@@ -12,8 +12,7 @@ ghost use Rattle.wkt_access.specs.Shapes.{PolygonShape, Shape, printed, dimensio
 ghost use Rattle.wkt_access.specs.Texts.{separated, listed, headed, shape_text};
 ghost use Rattle.wkt_access.specs.Values.{size};
 ghost use Rattle.wkt_num.specs.Sink.{Puts};
-ghost use Rattle.wkt_write.specs.Known.{Checks, KnownCoord, KnownCoords, KnownPoint, KnownPolygon, Known};
-ghost use Rattle.wkt_write.specs.Pieces.{each_after, cut_coordinate, cut_coordinates, cut_point, cut_polygon};
+ghost use Rattle.wkt_write.specs.Pieces.{Checks, KnownCoord, KnownCoords, KnownPoint, KnownPolygon, Known, each_after, cut_coordinate, cut_coordinates, cut_point, cut_polygon};
 
 use crate::check::{
     check_coord, check_coords, check_geometry, check_header, check_point_coord, check_rings,

@@ -9,7 +9,7 @@ ghost use Rattle.wkt_access.specs.Parts.{collection_of};
 ghost use Rattle.wkt_access.specs.Shapes.{Shape};
 ghost use Rattle.wkt_access.specs.Texts.{shape_text};
 ghost use Rattle.wkt_num.specs.Sink.{Puts};
-ghost use Rattle.wkt_write.specs.Known.{ChecksShape, KnownRectCorner};
+ghost use Rattle.wkt_write.specs.Pieces.{ChecksShape, KnownRectCorner};
 
 use crate::check::{
     check_coord, check_geometry, check_header, check_point_coord, check_rings, dimension_in,

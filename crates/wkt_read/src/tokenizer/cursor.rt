@@ -12,9 +12,9 @@ pub(crate) struct Cursor<'a> {
     ghost is_end: { remaining.now ≡ drop (length text.now - length remaining.now) text.now },
 }
 
-#[tactic(auto, unfolding(crate::specs::Tokenizer::Cursors::taken_in))]
+#[tactic(auto, unfolding(crate::specs::Streams::taken_in))]
 impl<'a> Cursor<'a> {
-    ghost use Rattle.wkt_read.specs.Tokenizer.Cursors.{taken_in};
+    ghost use Rattle.wkt_read.specs.Streams.{taken_in};
 
     pub(crate) fn new(text: &'a str) -> Self
         ensures text { result.text.now ≡ text.now }

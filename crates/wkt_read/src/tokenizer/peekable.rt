@@ -2,7 +2,7 @@
 ghost use Rattle.std.specs.Prelude.{◌≡◌, ◌+◌, ◌≤◌, ℕ, length, [], ◌∷◌, Some, None, OnSome, IfNone, MatchOption};
 ghost use Rattle.std.specs.Bool.{MatchBool, OnFalse};
 ghost use Rattle.wkt_num.specs.Bytes.{Lexeme, Close, Comma, Open};
-ghost use Rattle.wkt_read.specs.Tokenizer.Unread.{found};
+ghost use Rattle.wkt_read.specs.Peeks.{found};
 
 use crate::keywords::kind_of;
 use crate::tokenizer::tokens::{Lexeme, Token, Tokens, slow_item};
@@ -35,25 +35,25 @@ fn none_outlined<T>() -> Option<T>
 }
 
 impl<'a, T> Model for PeekableTokens<'a, T> {
-    ghost use Rattle.wkt_read.specs.Standing.{Standing};
+    ghost use Rattle.wkt_read.specs.Spanned.{Standing};
 
     ghost Value = { Standing };
 
-    ghost use Rattle.wkt_read.specs.Tokenizer.Peeks.{stands_ahead, IsAhead};
+    ghost use Rattle.wkt_read.specs.Peeks.{stands_ahead, IsAhead};
 
     ghost view = { stands_ahead };
 
     ghost invariant = { IsAhead };
 }
 
-#[tactic(auto, unfolding(crate::specs::Ahead::rest))]
+#[tactic(auto, unfolding(crate::specs::Stream::rest))]
 impl<'a, T: WktNum> PeekableTokens<'a, T> {
     ghost use Rattle.wkt_read.specs.Stream.{coming, bytes_taken, end_of_last};
     ghost use Rattle.wkt_read.specs.Items.{IsItem};
-    ghost use Rattle.wkt_read.specs.Ahead.{remaining, taken_of, end_of, rest, first_of, Moves};
-    ghost use Rattle.wkt_read.specs.Parser.Walks.{TakesNext, IsFirst, StreamGoesOn};
-    ghost use Rattle.wkt_read.specs.Ahead.{IsNear};
-    ghost use Rattle.wkt_read.specs.Taking.{Looks, StaysUnread, TakesNumber, TakesKind};
+    ghost use Rattle.wkt_read.specs.Stream.{remaining, taken_of, end_of, rest, first_of, Moves};
+    ghost use Rattle.wkt_read.specs.Stream.{TakesNext, IsFirst, StreamGoesOn};
+    ghost use Rattle.wkt_read.specs.Stream.{IsNear};
+    ghost use Rattle.wkt_read.specs.Stream.{Looks, StaysUnread, TakesNumber, TakesKind};
 
     /// The lexemes that the stream has still to give; none is looked at yet.
     pub fn new(tokens: Tokens<'a, T>) -> Self
@@ -112,7 +112,7 @@ impl<'a, T: WktNum> PeekableTokens<'a, T> {
 
     /// The next lexeme, which is taken.
     #[inline(always)]
-    #[tactic(auto, using(crate::proofs::TokenizerLemmas::Placings::goes_moves))]
+    #[tactic(auto, using(crate::proofs::Placings::goes_moves))]
     pub fn take(&mut self) -> Lexeme<'a>
         ensures goes_on { StreamGoesOn self.old self.new }
         ensures near { OnSome (found result) (IsNear self.new) }
@@ -124,7 +124,7 @@ impl<'a, T: WktNum> PeekableTokens<'a, T> {
 
     /// The same, where the lexeme was mostly looked at: only for that is the code in place, which is short.
     #[inline(always)]
-    #[tactic(auto, using(crate::proofs::TokenizerLemmas::Placings::goes_moves))]
+    #[tactic(auto, using(crate::proofs::Placings::goes_moves))]
     pub fn take_looked(&mut self) -> Lexeme<'a>
         ensures goes_on { StreamGoesOn self.old self.new }
         ensures near { OnSome (found result) (IsNear self.new) }
@@ -291,7 +291,7 @@ impl<'a, T: WktNum> PeekableTokens<'a, T> {
 }
 
 impl<'a, T: WktNum> Iterator for PeekableTokens<'a, T> {
-    ghost use Rattle.wkt_read.specs.Ahead.{GivesAhead, count_ahead};
+    ghost use Rattle.wkt_read.specs.Stream.{GivesAhead, count_ahead};
 
     type Item = Result<Token<'a, T>, &'static str>;
 

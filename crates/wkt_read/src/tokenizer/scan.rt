@@ -3,8 +3,7 @@ ghost use Rattle.std.specs.Prelude.{◌≡◌, ◌≢◌, ◌↔◌, ◌≤◌, 
 ghost use Rattle.std.specs.Str.{IsCharBoundary};
 ghost use Rattle.wkt_num.specs.Bytes.{class_of, White, AllWhite};
 ghost use Rattle.wkt_read.specs.Lexemes.{starts_number};
-ghost use Rattle.wkt_read.specs.Tokenizer.Cursors.{taken_in};
-ghost use Rattle.wkt_read.specs.Tokenizer.Scan.{meant, coming_at, FoundClass, IsRunSoFar, EndsRun, RunGoesOn, RunEnds};
+ghost use Rattle.wkt_read.specs.Streams.{taken_in, meant, coming_at, FoundClass, IsRunSoFar, EndsRun, RunGoesOn, RunEnds};
 
 use crate::tokenizer::cursor::Cursor;
 
@@ -43,7 +42,7 @@ pub fn is_white(byte: u8) -> bool
 }
 
 /// Whether there is nothing but white space.
-#[tactic(auto, using(crate::proofs::TokenizerLemmas::Placings::white_on, crate::proofs::TokenizerLemmas::Placings::white_here, crate::proofs::TokenizerLemmas::Placings::none_left))]
+#[tactic(auto, using(crate::proofs::Placings::white_on, crate::proofs::Placings::white_here, crate::proofs::Placings::none_left))]
 pub fn is_blank(bytes: &[u8]) -> bool
     ensures { IsTrue result ↔ AllWhite bytes.now }
 {
@@ -116,7 +115,7 @@ fn run_ends(bytes: &mut Cursor<'_>) -> Option<(usize, ByteClass)>
 /// The end of the run that begins at `from`, and the class of the byte after it, which is taken. The cursor
 /// is held by value, and asked once for eight bytes how many are left, so that it stays in registers.
 #[inline(always)]
-#[tactic(auto, using(crate::proofs::TokenizerLemmas::Placings::taken_within))]
+#[tactic(auto, using(crate::proofs::Placings::taken_within))]
 pub(crate) fn end_of_run<'a>(bytes: Cursor<'a>, from: usize) -> (Cursor<'a>, usize, ByteClass)
     requires { IsRunSoFar bytes.text.now from (taken_in bytes) }
     ensures text { result.0.text ≡ bytes.entry.text }

@@ -5,7 +5,7 @@ ghost use Rattle.std.specs.Str.{IsCharBoundary};
 ghost use Rattle.wkt_num.specs.Bytes.{Close, Comma, Open};
 ghost use Rattle.wkt_read.specs.Lexemes.{lexeme_of};
 ghost use Rattle.wkt_read.specs.Items.{IsItem};
-ghost use Rattle.wkt_read.specs.Tokenizer.Unread.{found, IsNumberIn};
+ghost use Rattle.wkt_read.specs.Peeks.{found, IsNumberIn};
 
 use crate::messages::Message;
 use crate::tokenizer::cursor::Cursor;
@@ -104,11 +104,11 @@ pub struct Tokens<'a, T> {
 }
 
 impl<'a, T> Model for Tokens<'a, T> {
-    ghost use Rattle.wkt_read.specs.Standing.{Standing};
+    ghost use Rattle.wkt_read.specs.Spanned.{Standing};
 
     ghost Value = { Standing };
 
-    ghost use Rattle.wkt_read.specs.Tokenizer.Streams.{stands, IsBetweenRuns};
+    ghost use Rattle.wkt_read.specs.Streams.{stands, IsBetweenRuns};
 
     ghost view = { stands };
 

@@ -3,8 +3,8 @@ use Rattle.std.proofs.Common.{length}
 use Rattle.wkt_access.specs.Shapes.{canon}
 use Rattle.wkt_access.specs.Texts.{shape_text}
 use Rattle.wkt_flat.specs.Shape.{flat_shape}
-use Rattle.wkt_read.proofs.LawLemmas.Spelled.{front_of_text}
-use Rattle.wkt.proofs.ValuesOfFlat.{back_is_wkt}
+use Rattle.wkt_read.proofs.Spelled.{front_of_text}
+use Rattle.wkt.proofs.Texts.{back_is_wkt}
 use Rattle.wkt.proofs.flat_laws.back_is_read.Goals as goal
 
 pub returns : goal.returns

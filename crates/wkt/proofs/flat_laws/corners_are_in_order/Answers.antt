@@ -1,5 +1,5 @@
 -- The corners of a rectangle are in order on both axes.
-use Rattle.wkt.proofs.ValuesOfFlat.{in_order}
+use Rattle.wkt.proofs.Texts.{in_order}
 use Rattle.wkt.proofs.flat_laws.corners_are_in_order.Goals as goal
 
 pub returns : goal.returns

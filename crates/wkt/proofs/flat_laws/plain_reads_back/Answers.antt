@@ -4,15 +4,14 @@ use Rattle.wkt_access.specs.Shapes.{canon}
 use Rattle.wkt_access.specs.Texts.{shape_text}
 use Rattle.wkt_access.specs.Values.{Value}
 use Rattle.wkt_types.specs.Values.{IsWktOf}
-use Rattle.wkt_flat.specs.Equal.{coord_eq}
-use Rattle.wkt_flat.specs.Exact.{exact_by}
+use Rattle.wkt_flat.specs.Equal.{coord_eq, exact_by}
 use Rattle.wkt_flat.specs.Shape.{flat_shape}
-use Rattle.wkt_read.proofs.LawLemmas.OneWkt.{wkt-one}
-use Rattle.wkt_read.proofs.LawLemmas.OneForm.{front_one}
-use Rattle.wkt_read.proofs.LawLemmas.Spelled.{front_of_text}
+use Rattle.wkt_read.proofs.OneWkt.{wkt-one}
+use Rattle.wkt_read.proofs.OneForm.{front_one}
+use Rattle.wkt_read.proofs.Spelled.{front_of_text}
 use Rattle.wkt_convert.specs.Back.{back}
 use Rattle.wkt_convert.specs.Flatten.{flat}
-use Rattle.wkt.proofs.ValuesOfFlat.{back_is_wkt}
+use Rattle.wkt.proofs.Texts.{back_is_wkt}
 use Rattle.wkt_convert.proofs.PlainComesBack.{again}
 use Rattle.wkt.proofs.flat_laws.plain_reads_back.Goals as goal
 

@@ -3,7 +3,7 @@ use Rattle.std.proofs.Common.{rules, ap, ◌≡◌, ◌∙◌, sym, arith, suc, 
 use Rattle.wkt_types.specs.Tree.{tree, members}
 use Rattle.wkt_types.proofs.TreeLemmas.{tree-collection}
 use Rattle.wkt.proofs.Written.{depth, deepest, below_deepest, parts_differ, parts_agree, parts_end, members_alike}
-use Rattle.wkt.specs.WrittenAlike.{tree_alike}
+use Rattle.wkt.specs.Same.{tree_alike}
 use Rattle.wkt.proofs.same.+alike.Goals as goal
 
 pub is_written_alike-are_written_alike-requires : goal.is_written_alike-are_written_alike-requires

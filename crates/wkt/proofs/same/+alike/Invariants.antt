@@ -1,7 +1,7 @@
 use Rattle.std.proofs.Common.{◌≡◌, ◌≤◌, ◌+◌, ◌*◌, length}
 use Rattle.wkt_types.specs.Tree.{tree, members}
 use Rattle.wkt.proofs.Written.{depth, deepest, left}
-use Rattle.wkt.specs.WrittenAlike.{tree_alike, trees_alike}
+use Rattle.wkt.specs.Same.{tree_alike, trees_alike}
 use Rattle.wkt.proofs.same.+alike.Given as goal
 
 abbrev pub decreases-are_written_alike : goal.decreases-are_written_alike

@@ -1,5 +1,5 @@
 -- Geometries that are written alike have one canonical value, and so one text.
-use Rattle.wkt_flat.specs.Exact.{exact_by}
+use Rattle.wkt_flat.specs.Equal.{exact_by}
 use Rattle.wkt.proofs.Written.{reported_alike}
 use Rattle.wkt.proofs.same.same_geometry.Goals as goal
 

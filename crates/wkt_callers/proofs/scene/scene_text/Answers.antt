@@ -3,7 +3,7 @@ use Rattle.std.proofs.Common.{string_bytes}
 use Rattle.wkt.specs.Shapes.{canon}
 use Rattle.wkt.specs.Whole.{read_signed}
 use Rattle.wkt_callers.specs.Scene.{layer_shape}
-use Rattle.wkt_examples.proofs.Shows.{front_of_text}
+use Rattle.wkt_examples.proofs.Ordering.{front_of_text}
 use Rattle.wkt_callers.proofs.scene.scene_text.Goals as goal
 
 pub returns-clause-reads_back : goal.returns-clause-reads_back

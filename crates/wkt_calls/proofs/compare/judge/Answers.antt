@@ -4,7 +4,7 @@ use Rattle.wkt_num.specs.Decimal.{IsUnits}
 use Rattle.wkt_access.specs.Shapes.{shape_of}
 use Rattle.wkt_read.specs.Laws.{FrontIsWritable, OneText}
 use Rattle.wkt_calls.specs.Answer.{read_at, print_at}
-use Rattle.wkt_calls.proofs.CopiedOut.{same_lists, iff-more}
+use Rattle.wkt_calls.proofs.Pieces.{same_lists, iff-more}
 use Rattle.wkt_calls.proofs.compare.judge.Goals as goal
 
 pub returns : goal.returns

@@ -1,7 +1,7 @@
 -- The arrays of what was filled, or why there are none.
 use Rattle.std.proofs.Common.{◌≡◌, true, false, refl, inr}
 use Rattle.wkt_calls.specs.Answer.{read_at}
-use Rattle.wkt_calls.proofs.CopiedOut.{arrays-of, no-arrays, not-text}
+use Rattle.wkt_calls.proofs.Pieces.{arrays-of, no-arrays, not-text}
 use Rattle.wkt_calls.proofs.flat.make_flat.Goals as goal
 
 pub returns-then-not-is_text_from : goal.returns-then-not-is_text_from

@@ -1,6 +1,6 @@
 -- The arrays of the point that the text begins with.
 use Rattle.std.proofs.Common.{refl}
-use Rattle.wkt_calls.proofs.CopiedOut.{point-arrays}
+use Rattle.wkt_calls.proofs.Pieces.{point-arrays}
 use Rattle.wkt_calls.proofs.flat.make_point.Goals as goal
 
 pub returns : goal.returns

@@ -2,8 +2,7 @@
 use Rattle.std.proofs.Common.{◌∙◌, ap}
 use Rattle.wkt_machine.proofs.TableMessages.{stops_message, stops_no_front}
 use Rattle.wkt_calls.specs.Answer.{read_at}
-use Rattle.wkt_calls.proofs.FirstWord.{stops_first}
-use Rattle.wkt_calls.proofs.Padded.{refused-with}
+use Rattle.wkt_calls.proofs.Padded.{stops_first, refused-with}
 use Rattle.wkt_calls.proofs.refusal.refused_at_start.Goals as goal
 
 pub returns-in_default : goal.returns-in_default

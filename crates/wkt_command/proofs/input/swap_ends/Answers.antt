@@ -1,7 +1,7 @@
 -- The bytes so far are swapped, and the others are as they were.
 use Rattle.std.proofs.Common.{◌≡◌, ◌<◌, ap, ◌∙◌, arith, length}
 use Rattle.wkt_command.specs.Place.{other_end}
-use Rattle.wkt_command.proofs.Bytes.{replaced_next, length_same}
+use Rattle.wkt_command.proofs.Canonizing.{replaced_next, length_same}
 use Rattle.wkt_command.proofs.input.swap_ends.Goals as goal
 
 pub loop-byte-preserved : goal.loop-byte-preserved

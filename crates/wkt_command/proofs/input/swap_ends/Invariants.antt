@@ -1,6 +1,6 @@
 use Rattle.std.proofs.Common.{◌≡◌}
 use Rattle.wkt_command.specs.Place.{other_end}
-use Rattle.wkt_command.proofs.Bytes.{replaced}
+use Rattle.wkt_command.proofs.Canonizing.{replaced}
 use Rattle.wkt_command.proofs.input.swap_ends.Given as goal
 
 abbrev pub invariant-loop-byte : goal.invariant-loop-byte

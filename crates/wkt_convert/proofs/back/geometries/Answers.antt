@@ -4,10 +4,9 @@ use Rattle.wkt_types.specs.Tree as trees
 use Rattle.wkt_types.specs.Tree.{tree, trees_of}
 use Rattle.wkt_types.specs.declared.geometry.Wkt.TheVariants as variants
 use Rattle.wkt_types.proofs.TreeLemmas.{tree-collection}
-use Rattle.wkt_flat.specs.Weight.{flat_weight, weight, weights}
-use Rattle.wkt_flat.specs.Tree.{flat_tree}
+use Rattle.wkt_flat.specs.Tree.{flat_weight, weight, weights, flat_tree}
 use Rattle.wkt_flat.proofs.TreeLemmas.{flat-point}
-use Rattle.wkt_convert.proofs.KindTrees.{tree-point}
+use Rattle.wkt_convert.proofs.FlatKinds.{tree-point}
 use Rattle.wkt_convert.specs.Back.{back}
 use Rattle.wkt_convert.proofs.Opened.{all_back_members, first-of, falls-opened, falls-closed}
 use Rattle.wkt_convert.proofs.OpenedBack.{going, finish, goes-on, opens, closes, ends, left-falls}

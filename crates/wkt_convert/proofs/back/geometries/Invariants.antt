@@ -1,7 +1,6 @@
 use Rattle.std.proofs.Common.{◌≡◌, ◌+◌, ◌*◌, map}
 use Rattle.wkt_types.specs.Tree.{tree}
-use Rattle.wkt_flat.specs.Tree.{flat_tree}
-use Rattle.wkt_flat.specs.Weight.{weights}
+use Rattle.wkt_flat.specs.Tree.{flat_tree, weights}
 use Rattle.wkt_convert.specs.Back.{back}
 use Rattle.wkt_convert.proofs.Opened.{pending}
 use Rattle.wkt_convert.proofs.OpenedBack.{finish, going}

@@ -3,7 +3,7 @@ use Rattle.std.proofs.Common.{ap, sym, ◌∙◌}
 use Rattle.wkt_types.specs.Tree as trees
 use Rattle.wkt_flat.specs.Tree.{flat_tree}
 use Rattle.wkt_flat.proofs.TreeLemmas.{flat-point}
-use Rattle.wkt_convert.proofs.KindTrees.{tree-point}
+use Rattle.wkt_convert.proofs.FlatKinds.{tree-point}
 use Rattle.wkt_convert.specs.Back.{back}
 use Rattle.wkt_convert.proofs.back.geometry.Goals as goal
 

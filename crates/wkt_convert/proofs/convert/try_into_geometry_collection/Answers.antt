@@ -4,8 +4,7 @@ use Rattle.wkt_types.specs.Outcome.{value}
 use Rattle.wkt_flat.specs.Equal.{coord_eq}
 use Rattle.wkt_flat.specs.Tree.{Flat}
 use Rattle.wkt_flat.proofs.TreeLemmas.{flat-collection}
-use Rattle.wkt_convert.specs.Flatten.{flat_all, trees_in}
-use Rattle.wkt_convert.specs.Outcomes.{outcome_map}
+use Rattle.wkt_convert.specs.Flatten.{flat_all, trees_in, outcome_map}
 use Rattle.wkt_convert.proofs.convert.try_into_geometry_collection.Goals as goal
 
 pub returns : goal.returns

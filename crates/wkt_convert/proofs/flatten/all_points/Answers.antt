@@ -1,7 +1,6 @@
 -- The points so far are flat, or an empty one is the first error.
 use Rattle.std.proofs.Common.{ap}
-use Rattle.wkt_types.specs.Flattened.{point_or_fault}
-use Rattle.wkt_types.specs.Outcome.{empty_point}
+use Rattle.wkt_types.specs.Outcome.{point_or_fault, empty_point}
 use Rattle.wkt_convert.proofs.Opened.{more, stop}
 use Rattle.wkt_convert.proofs.flatten.all_points.Goals as goal
 

@@ -1,15 +1,13 @@
 -- What is done and what still waits make the outcome of the whole at each step, and the loop ends.
 use Rattle.std.proofs.Common.{◌≡◌, refl, ap, sym, ◌∙◌, length, map, arith}
 use Rattle.std.proofs.lemmas.Result.{err_from_is_err_and}
-use Rattle.wkt_types.specs.Tree.{tree}
-use Rattle.wkt_types.specs.Weight.{tree_weight, weight, weights}
+use Rattle.wkt_types.specs.Tree.{tree, tree_weight, weight, weights}
 use Rattle.wkt_types.specs.Outcome.{value}
 use Rattle.wkt_flat.specs.Equal.{coord_eq}
 use Rattle.wkt_flat.specs.Tree.{Flat, flats_of, flat_tree, flat_trees}
 use Rattle.wkt_flat.proofs.TreeLemmas.{flat-collection}
-use Rattle.wkt_convert.specs.Flatten.{flat}
-use Rattle.wkt_convert.specs.Outcomes.{outcome_map, outcomes}
-use Rattle.wkt_convert.proofs.KindTrees.{tree-point}
+use Rattle.wkt_convert.specs.Flatten.{flat, outcome_map, outcomes}
+use Rattle.wkt_convert.proofs.FlatKinds.{tree-point}
 use Rattle.wkt_convert.proofs.Opened.{flatten_members, passes_on, first-of, falls-opened, falls-closed}
 use Rattle.wkt_convert.proofs.OpenedFlat.{going, going-start, finish, goes-on, opens, closes, ends, refuses, left-falls}
 use Rattle.wkt_convert.proofs.flatten.collection.Goals as goal

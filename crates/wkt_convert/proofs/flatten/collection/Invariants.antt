@@ -1,10 +1,8 @@
 use Rattle.std.proofs.Common.{◌≡◌, ◌+◌, ◌*◌, map}
-use Rattle.wkt_types.specs.Tree.{tree}
-use Rattle.wkt_types.specs.Weight.{weights}
+use Rattle.wkt_types.specs.Tree.{tree, weights}
 use Rattle.wkt_flat.specs.Equal.{coord_eq}
 use Rattle.wkt_flat.specs.Tree.{flat_tree}
-use Rattle.wkt_convert.specs.Flatten.{flat}
-use Rattle.wkt_convert.specs.Outcomes.{outcomes}
+use Rattle.wkt_convert.specs.Flatten.{flat, outcomes}
 use Rattle.wkt_convert.proofs.Opened.{pending}
 use Rattle.wkt_convert.proofs.OpenedFlat.{finish, going}
 use Rattle.wkt_convert.proofs.flatten.collection.Given as goal

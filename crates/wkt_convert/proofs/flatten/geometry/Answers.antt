@@ -4,8 +4,7 @@ use Rattle.wkt_types.specs.Outcome.{value}
 use Rattle.wkt_flat.specs.Equal.{coord_eq}
 use Rattle.wkt_flat.specs.Tree.{Flat}
 use Rattle.wkt_flat.proofs.TreeLemmas.{flat-collection}
-use Rattle.wkt_convert.specs.Flatten.{flat}
-use Rattle.wkt_convert.specs.Outcomes.{outcome_map}
+use Rattle.wkt_convert.specs.Flatten.{flat, outcome_map}
 use Rattle.wkt_convert.proofs.flatten.geometry.Goals as goal
 
 pub returns-in_ok-collection-in-Members : goal.returns-in_ok-collection-in-Members

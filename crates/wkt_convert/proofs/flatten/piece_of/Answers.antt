@@ -6,10 +6,9 @@ use Rattle.wkt_types.specs.Outcome.{value}
 use Rattle.wkt_types.proofs.TreeLemmas.{tree-collection}
 use Rattle.wkt_flat.specs.Equal.{coord_eq}
 use Rattle.wkt_flat.specs.Tree.{Flat, flat_tree}
-use Rattle.wkt_convert.specs.Flatten.{flat, points}
-use Rattle.wkt_convert.specs.Outcomes.{outcome_map}
+use Rattle.wkt_convert.specs.Flatten.{flat, points, outcome_map}
 use Rattle.wkt_flat.proofs.TreeLemmas.{flat-multi_point}
-use Rattle.wkt_convert.proofs.KindTrees.{tree-multi_point}
+use Rattle.wkt_convert.proofs.FlatKinds.{tree-multi_point}
 use Rattle.wkt_convert.proofs.Opened.{passes_on, map_refused}
 use Rattle.wkt_convert.proofs.flatten.piece_of.Goals as goal
 

@@ -1,5 +1,5 @@
 -- A plain flat value with closed rings comes back from its text.
-use Rattle.wkt_flat.specs.Exact.{exact_by}
+use Rattle.wkt_flat.specs.Equal.{exact_by}
 use Rattle.wkt_convert.proofs.PlainComesBack.{again}
 use Rattle.wkt_convert.proofs.laws.plain_comes_back.Goals as goal
 

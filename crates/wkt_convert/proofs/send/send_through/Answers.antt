@@ -1,6 +1,6 @@
 -- All text went out, or the sink's error came, early or with the last bytes.
 use Rattle.std.proofs.Common.{◌∙◌, ap}
-use Rattle.wkt_bytes.proofs.Gathering.{all_sent, some_sent, some_sent_late}
+use Rattle.wkt_bytes.proofs.SinkSteps.{all_sent, some_sent, some_sent_late}
 use Rattle.wkt_num.specs.Sink.{next_count}
 use Rattle.wkt_convert.proofs.send.send_through.Goals as goal
 

@@ -1,7 +1,7 @@
 -- A number that keeps its text ends where its run does.
 use Rattle.std.proofs.Common.{refl, subst}
 use Rattle.std.proofs.lemmas.List.{take_rest}
-use Rattle.wkt_num.specs.Kept.{KeepsText}
+use Rattle.wkt_num.specs.Number.{KeepsText}
 use Rattle.wkt_events.proofs.Runs.{kept-there}
 use Rattle.wkt_events.proofs.reading.number_end.Goals as goal
 

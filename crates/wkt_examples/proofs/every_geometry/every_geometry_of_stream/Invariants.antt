@@ -1,6 +1,6 @@
 use Rattle.std.proofs.Common.{map, length}
 use Rattle.wkt.specs.Tree.{tree}
-use Rattle.wkt.specs.Ahead.{rest}
+use Rattle.wkt.specs.Stream.{rest}
 use Rattle.wkt_examples.specs.Ordered.{StreamBeginsWith}
 use Rattle.wkt_examples.proofs.every_geometry.every_geometry_of_stream.Given as goal
 

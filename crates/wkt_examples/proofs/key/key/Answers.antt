@@ -1,7 +1,7 @@
 -- The key is read as the canonical value of the geometry.
 use Rattle.std.proofs.Common.{string_bytes}
 use Rattle.wkt.specs.Shapes.{canon}
-use Rattle.wkt_examples.proofs.Shows.{front_of_text}
+use Rattle.wkt_examples.proofs.Ordering.{front_of_text}
 use Rattle.wkt_examples.proofs.key.key.Goals as goal
 
 pub returns-clause-reads_back : goal.returns-clause-reads_back

@@ -1,8 +1,8 @@
 -- The machine goes as far as the front does, or stops.
 use Rattle.std.proofs.Common.{ap, ◌∙◌, arith, length, false, refl}
-use Rattle.wkt_read.proofs.LawLemmas.OnePlacing.{spanned-few}
-use Rattle.wkt_read.proofs.LawLemmas.HeaderPlaces.{front-within}
-use Rattle.wkt_machine.specs.BytesView.{bytes_view}
+use Rattle.wkt_read.proofs.OnePlacing.{spanned-few}
+use Rattle.wkt_read.proofs.HeaderPlaces.{front-within}
+use Rattle.wkt_machine.specs.View.{bytes_view}
 use Rattle.wkt_machine.specs.Makers.{nothing_maker}
 use Rattle.wkt_machine.proofs.ByteViews.{whole_left}
 use Rattle.wkt_machine.proofs.FrontValues.{front_made, refused}

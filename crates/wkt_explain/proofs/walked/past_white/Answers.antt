@@ -1,5 +1,5 @@
 -- The bytes so far are white space.
-use Rattle.wkt_explain.proofs.CharBoundaries.{one_more, stops_at}
+use Rattle.wkt_explain.proofs.StopsAreRefusals.{one_more, stops_at}
 use Rattle.wkt_explain.proofs.walked.past_white.Goals as goal
 
 pub white-preserved : goal.white-preserved

@@ -1,5 +1,5 @@
 use Rattle.std.proofs.Common.{◌-◌, length}
-use Rattle.wkt_explain.proofs.CharBoundaries.{IsWhiteTo}
+use Rattle.wkt_explain.proofs.StopsAreRefusals.{IsWhiteTo}
 use Rattle.wkt_explain.proofs.walked.past_white.Given as goal
 
 abbrev pub invariant-white : goal.invariant-white

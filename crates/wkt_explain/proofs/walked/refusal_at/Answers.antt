@@ -1,7 +1,7 @@
 -- The lexeme that comes next begins behind white space, and ends where it is said to.
 use Rattle.std.proofs.Common.{◌≤◌, subst, length, false}
-use Rattle.wkt_machine.specs.BytesView.{IsBetween, IsDark}
-use Rattle.wkt_explain.specs.Told.{EndsLexeme}
+use Rattle.wkt_machine.specs.View.{IsBetween, IsDark}
+use Rattle.wkt_explain.specs.Problems.{EndsLexeme}
 use Rattle.wkt_explain.proofs.walked.refusal_at.Goals as goal
 
 pub returns : goal.returns

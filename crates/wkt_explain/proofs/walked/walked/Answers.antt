@@ -1,6 +1,5 @@
 -- Where the machine stops, the text is refused.
-use Rattle.wkt_explain.proofs.CharBoundaries.{part}
-use Rattle.wkt_explain.proofs.StopsAreRefusals.{told_none, told_place, told_message, told_table}
+use Rattle.wkt_explain.proofs.StopsAreRefusals.{part, told_none, told_place, told_message, told_table}
 use Rattle.wkt_explain.proofs.walked.walked.Goals as goal
 
 pub refusal_at-requires : goal.refusal_at-requires

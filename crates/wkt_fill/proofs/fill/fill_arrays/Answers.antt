@@ -1,8 +1,8 @@
 -- The arrays that were filled are those of the front, or the text has no front or no arrays.
 use Rattle.std.proofs.Common.{ap, sym, subst, arith, length, false, refl, IsUtf8}
 use Rattle.wkt_num.specs.Decimal.{read_decimal}
-use Rattle.wkt_read.proofs.LawLemmas.OnePlacing.{spanned-few}
-use Rattle.wkt_machine.specs.BytesView.{bytes_view}
+use Rattle.wkt_read.proofs.OnePlacing.{spanned-few}
+use Rattle.wkt_machine.specs.View.{bytes_view}
 use Rattle.wkt_machine.proofs.ByteViews.{whole_left}
 use Rattle.wkt_machine.proofs.FrontValues.{front_made, no_front_there}
 use Rattle.wkt_machine.proofs.RoomForRest.{free_room}

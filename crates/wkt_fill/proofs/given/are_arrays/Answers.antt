@@ -7,8 +7,7 @@ use Rattle.wkt_num.specs.Whole.{IsSigned}
 use Rattle.wkt_access.specs.Values.{Value, size}
 use Rattle.wkt_access.specs.declared.dimensions.Dimension.{Dimension}
 use Rattle.wkt_access.specs.declared.dimensions.Dimension.TheVariants.{XY, XYZ, XYM, XYZM}
-use Rattle.wkt_fill.specs.Arrays.{IsGiven}
-use Rattle.wkt_fill.specs.Parts.{AreOffsetsTo, AreWhole}
+use Rattle.wkt_fill.specs.Arrays.{IsGiven, AreOffsetsTo, AreWhole}
 use Rattle.wkt_fill.specs.declared.given.Given.{Given}
 use Rattle.wkt_fill.proofs.Between.{whole-of, has-parts}
 use Rattle.wkt_fill.proofs.Whole.{made}

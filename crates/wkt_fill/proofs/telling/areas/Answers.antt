@@ -2,7 +2,7 @@
 use Rattle.std.proofs.Common.{◌-◌, length, arith}
 use Rattle.wkt_machine.specs.Events.{numbers, listed}
 use Rattle.wkt_machine.specs.declared.part.Part.TheVariants as part
-use Rattle.wkt_fill.specs.Parts.{polygon_at}
+use Rattle.wkt_fill.specs.Arrays.{polygon_at}
 use Rattle.wkt_fill.proofs.Owing.{first-fits, first-told, comma-fits, next-fits, next-told}
 use Rattle.wkt_fill.proofs.telling.areas.Goals as goal
 

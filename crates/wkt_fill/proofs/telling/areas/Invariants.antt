@@ -2,7 +2,7 @@
 use Rattle.std.proofs.Common.{◌-◌, length}
 use Rattle.wkt_machine.specs.Events.{numbers, further, listed}
 use Rattle.wkt_machine.specs.declared.part.Part.TheVariants as part
-use Rattle.wkt_fill.specs.Parts.{polygon_at, polygons_in, up_to}
+use Rattle.wkt_fill.specs.Arrays.{polygon_at, polygons_in, up_to}
 use Rattle.wkt_fill.proofs.Owing.{Owes}
 use Rattle.wkt_fill.proofs.telling.areas.Given as goal
 

@@ -1,7 +1,7 @@
 -- Each coordinate is told behind those before it.
 use Rattle.std.proofs.Common.{arith}
 use Rattle.wkt_machine.specs.Events.{numbers}
-use Rattle.wkt_fill.specs.Parts.{coordinate_at}
+use Rattle.wkt_fill.specs.Arrays.{coordinate_at}
 use Rattle.wkt_fill.proofs.Owing.{first-fits, first-told, comma-fits, next-fits, next-told}
 use Rattle.wkt_fill.proofs.telling.line.Goals as goal
 

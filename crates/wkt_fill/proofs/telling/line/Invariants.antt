@@ -1,6 +1,6 @@
 -- The coordinates so far were told, and the others are left.
 use Rattle.wkt_machine.specs.Events.{numbers, further, listed}
-use Rattle.wkt_fill.specs.Parts.{coordinate_at, up_to}
+use Rattle.wkt_fill.specs.Arrays.{coordinate_at, up_to}
 use Rattle.wkt_fill.proofs.Owing.{Owes}
 use Rattle.wkt_fill.proofs.telling.line.Given as goal
 

@@ -2,7 +2,7 @@
 use Rattle.std.proofs.Common.{◌+◌, arith}
 use Rattle.std.specs.List.{slice_index}
 use Rattle.wkt_machine.specs.Events.{numbers, listed}
-use Rattle.wkt_fill.specs.Parts.{ring_at}
+use Rattle.wkt_fill.specs.Arrays.{ring_at}
 use Rattle.wkt_fill.proofs.Between.{polygon-within}
 use Rattle.wkt_fill.proofs.Owing.{first-fits, first-told, comma-fits, next-fits, next-told}
 use Rattle.wkt_fill.proofs.telling.lines.Goals as goal

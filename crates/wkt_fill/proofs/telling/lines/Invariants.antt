@@ -2,7 +2,7 @@
 use Rattle.std.proofs.Common.{◌+◌}
 use Rattle.std.specs.List.{slice_index}
 use Rattle.wkt_machine.specs.Events.{numbers, further, listed}
-use Rattle.wkt_fill.specs.Parts.{ring_at, polygon_at, up_to}
+use Rattle.wkt_fill.specs.Arrays.{ring_at, polygon_at, up_to}
 use Rattle.wkt_fill.proofs.Owing.{Owes}
 use Rattle.wkt_fill.proofs.telling.lines.Given as goal
 

@@ -3,7 +3,7 @@ use Rattle.std.proofs.Common.{arith}
 use Rattle.wkt_types.specs.declared.geometry_type.GeometryType.TheVariants as kind
 use Rattle.wkt_machine.specs.Events.{numbers, listed}
 use Rattle.wkt_machine.specs.declared.part.Part.TheVariants as part
-use Rattle.wkt_fill.specs.Parts.{ring_at, polygon_at, polygons_in}
+use Rattle.wkt_fill.specs.Arrays.{ring_at, polygon_at, polygons_in}
 use Rattle.wkt_fill.proofs.Between.{point-events, line_string-events, polygon-events, multi_point-events, multi_line_string-events, multi_polygon-events}
 use Rattle.wkt_fill.proofs.Owing.{are-whole, parts-of-kind, header-fits, rest-fits, whole-told}
 use Rattle.wkt_fill.proofs.telling.tell.Goals as goal

@@ -1,7 +1,6 @@
 -- The rings of the first members are closed.
 use Rattle.std.proofs.Common.{sym}
-use Rattle.wkt_flat.specs.Closed.{HasClosedRings}
-use Rattle.wkt_flat.specs.Tree.{flat_tree}
+use Rattle.wkt_flat.specs.Tree.{HasClosedRings, flat_tree}
 use Rattle.wkt_flat.specs.declared.geometry.Geometry.{Geometry}
 use Rattle.wkt_flat.proofs.TreeLemmas.{all-next, closed-as, collection-closed, flat-collection, flat-polygon}
 use Rattle.wkt_flat.proofs.closed.+closed.Goals as goal

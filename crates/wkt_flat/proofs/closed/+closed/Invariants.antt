@@ -1,7 +1,6 @@
 use Rattle.std.proofs.Common.{take}
 use Rattle.std.specs.List.{AllByRecursion}
-use Rattle.wkt_flat.specs.Closed.{HasClosedRings}
-use Rattle.wkt_flat.specs.Tree.{flat_tree}
+use Rattle.wkt_flat.specs.Tree.{HasClosedRings, flat_tree}
 use Rattle.wkt_flat.proofs.closed.+closed.Given as goal
 
 abbrev pub invariant-members_are_closed-loop-member : goal.invariant-members_are_closed-loop-member

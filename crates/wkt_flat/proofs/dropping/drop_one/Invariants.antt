@@ -1,6 +1,6 @@
 -- The invariant and the measure of its loop.
 use Rattle.std.proofs.Common.{◌+◌, ◌≡◌}
-use Rattle.wkt_flat.specs.Weight.{total}
+use Rattle.wkt_flat.specs.Tree.{total}
 use Rattle.wkt_flat.proofs.dropping.drop_one.Given as goal
 
 abbrev pub invariant-loop-members : goal.invariant-loop-members

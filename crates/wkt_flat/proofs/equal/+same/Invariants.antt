@@ -1,6 +1,6 @@
 use Rattle.wkt_flat.proofs.TreeLemmas.{AreAlikeTo}
 use Rattle.wkt_flat.specs.Tree.{flat_members}
-use Rattle.wkt_flat.specs.Trees.{flats_eq}
+use Rattle.wkt_flat.specs.Equal.{flats_eq}
 use Rattle.wkt_flat.proofs.equal.+same.Given as goal
 
 abbrev pub invariant-same_members-loop-i : goal.invariant-same_members-loop-i

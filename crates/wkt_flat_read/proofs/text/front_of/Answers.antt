@@ -4,9 +4,9 @@ use Rattle.wkt_flat.specs.Equal.{coord_eq}
 use Rattle.wkt_flat.specs.declared.geometry.Geometry.TheVariants as geometry
 use Rattle.wkt_convert.specs.declared.flattened.Flattened.TheVariants.{Other}
 use Rattle.wkt_convert.specs.declared.flattened.Found.TheVariants as found
-use Rattle.wkt_read.proofs.LawLemmas.OnePlacing.{spanned-few}
+use Rattle.wkt_read.proofs.OnePlacing.{spanned-few}
 use Rattle.wkt_read.proofs.Refusals.{said_bad}
-use Rattle.wkt_machine.specs.BytesView.{bytes_view}
+use Rattle.wkt_machine.specs.View.{bytes_view}
 use Rattle.wkt_machine.specs.Growing.{rest}
 use Rattle.wkt_machine.proofs.ByteViews.{whole_left}
 use Rattle.wkt_machine.proofs.RoomForRest.{free_room}

@@ -1,6 +1,6 @@
 -- An input has at most one output.
 use Rattle.wkt_lines.specs.Lines.{input_lines}
-use Rattle.wkt_lines.proofs.OutputOfParts.{same_answers}
+use Rattle.wkt_lines.proofs.Outcomes.{same_answers}
 use Rattle.wkt_lines.proofs.laws.one_output.Goals as goal
 
 pub returns : goal.returns

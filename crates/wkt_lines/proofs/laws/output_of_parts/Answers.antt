@@ -1,5 +1,5 @@
 -- The outputs of whole lines, joined, are the output of all, and the other way round.
-use Rattle.wkt_lines.proofs.OutputOfParts.{parts_make, parts_of}
+use Rattle.wkt_lines.proofs.Outcomes.{parts_make, parts_of}
 use Rattle.wkt_lines.proofs.laws.output_of_parts.Goals as goal
 
 pub returns-clause-joined : goal.returns-clause-joined

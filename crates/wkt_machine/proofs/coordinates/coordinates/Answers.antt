@@ -2,9 +2,8 @@
 use Rattle.std.proofs.Common.{◌≤◌, length, IfOk, IfErr, sym, refl, ◌∙◌, subst, arith, ap}
 use Rattle.std.proofs.lemmas.Bool.{OnTrue_at, OnFalse_at}
 use Rattle.std.specs.Prelude.{not, ◌==◌}
-use Rattle.wkt_machine.specs.BytesView.{bytes_view}
-use Rattle.wkt_machine.specs.Goes.{Goes, Refuses}
-use Rattle.wkt_machine.specs.Leads.{reached}
+use Rattle.wkt_machine.specs.View.{bytes_view}
+use Rattle.wkt_machine.specs.Goes.{Goes, Refuses, reached}
 use Rattle.wkt_machine.specs.declared.machine.State.TheVariants as next
 use Rattle.wkt_machine.proofs.ByteSteps.{turn_goes, last_goes, goes_less}
 use Rattle.wkt_machine.proofs.WaysJoin.{leads_none, goes_leads, leads_goes, leads_refuses}

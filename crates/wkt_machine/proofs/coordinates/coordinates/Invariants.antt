@@ -2,8 +2,8 @@
 use Rattle.std.proofs.Common.{◌≤◌, length}
 use Rattle.std.specs.Prelude.{not, ◌==◌}
 use Rattle.wkt_events.specs.Remaining.{remaining_spanned}
-use Rattle.wkt_machine.specs.BytesView.{bytes_view}
-use Rattle.wkt_machine.specs.Leads.{Leads}
+use Rattle.wkt_machine.specs.View.{bytes_view}
+use Rattle.wkt_machine.specs.Goes.{Leads}
 use Rattle.wkt_machine.specs.Room.{HasRoom}
 use Rattle.wkt_machine.proofs.coordinates.coordinates.Given as goal
 

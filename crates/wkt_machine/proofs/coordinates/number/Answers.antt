@@ -1,13 +1,13 @@
 -- A number is taken, or isn't read.
 use Rattle.std.proofs.Common.{sym, refl, subst}
 use Rattle.std.specs.Prelude.{IfSome, IfNone}
-use Rattle.wkt_events.specs.Numbers.{NoNumber}
-use Rattle.wkt_machine.specs.Leads.{standing}
+use Rattle.wkt_events.specs.Remaining.{NoNumber}
+use Rattle.wkt_machine.specs.Goes.{standing}
 use Rattle.wkt_machine.specs.Machines.{state_for, next_after}
 use Rattle.wkt_machine.specs.Makers.{MakesNumber}
 use Rattle.wkt_machine.proofs.ByteViews.{numbers_after}
 use Rattle.wkt_machine.proofs.ByteSteps.{number_goes, number_stays_at}
-use Rattle.wkt_machine.specs.BytesView.{bytes_view}
+use Rattle.wkt_machine.specs.View.{bytes_view}
 use Rattle.wkt_machine.specs.Room.{LeavesBehind}
 use Rattle.wkt_machine.proofs.RoomForRest.{number_room, bare_after}
 use Rattle.wkt_machine.proofs.SourceRooms.{fits_number, leaves_number}

@@ -2,7 +2,7 @@
 use Rattle.std.proofs.Common.{ap, arith, rules, IfErr}
 use Rattle.wkt_machine.specs.Goes.{Refuses}
 use Rattle.wkt_machine.specs.declared.machine.Machine.{Machine}
-use Rattle.wkt_machine.specs.Place.{State}
+use Rattle.wkt_machine.specs.Machine.{State}
 use Rattle.wkt_machine.proofs.WaysJoin.{from_start, refused_if}
 use Rattle.wkt_machine.proofs.WholeRuns.{goes_room}
 use Rattle.wkt_machine.proofs.drive.drive.Goals as goal

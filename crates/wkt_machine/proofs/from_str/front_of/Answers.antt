@@ -4,16 +4,15 @@ use Rattle.std.specs.Prelude.{IfOk}
 use Rattle.std.specs.Result.{IsOk}
 use Rattle.wkt_types.specs.Tree.{tree}
 use Rattle.wkt_types.specs.declared.geometry.Wkt.{Wkt}
-use Rattle.wkt_read.specs.Ahead.{rest}
+use Rattle.wkt_read.specs.Stream.{rest}
 use Rattle.wkt_read.specs.Begun.{NoneBegins}
-use Rattle.wkt_read.specs.Bad.{HasBad}
+use Rattle.wkt_read.specs.Items.{HasBad, bad_number}
 use Rattle.wkt_read.specs.Front.{Front, HasNoFront}
 use Rattle.wkt_read.specs.Answered.{HasBadNumber, IsReadOff, OnText, OnMessage}
-use Rattle.wkt_read.specs.Items.{bad_number}
 use Rattle.wkt_read.specs.Spanned.{AreEnds}
-use Rattle.wkt_read.proofs.LawLemmas.HeaderPlaces.{front-some, front-within, front-boundary}
-use Rattle.wkt_read.proofs.LawLemmas.OnePlacing.{spanned-only}
-use Rattle.wkt_read.proofs.ParserLemmas.Answering.{to-front, from-front, no-front, split-of, text-map, message-map}
+use Rattle.wkt_read.proofs.HeaderPlaces.{front-some, front-within, front-boundary}
+use Rattle.wkt_read.proofs.OnePlacing.{spanned-only}
+use Rattle.wkt_read.proofs.Answering.{to-front, from-front, no-front, split-of, text-map, message-map}
 use Rattle.wkt_read.specs.Refusal.{IsRefused, IsTextRefused, IfText}
 use Rattle.wkt_machine.proofs.Reading.{if-text-err}
 use Rattle.wkt_machine.proofs.from_str.front_of.Goals as goal

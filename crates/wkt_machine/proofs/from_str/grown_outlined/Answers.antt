@@ -1,14 +1,13 @@
 -- The front of a text is found, or it has none and the message is that of its lexemes.
 use Rattle.std.proofs.Common.{◌≤◌, subst, [], None, ◌∙◌, sym, ap, refl, arith, length}
 use Rattle.std.specs.Borrow.{MutBor}
-use Rattle.wkt_read.specs.Ahead.{remaining, taken_of}
-use Rattle.wkt_read.specs.Standing.{Standing}
+use Rattle.wkt_read.specs.Stream.{remaining, taken_of}
+use Rattle.wkt_read.specs.Spanned.{Standing, AreEnds}
 use Rattle.wkt_machine.specs.Trees.{tree_maker, tree_of}
 use Rattle.wkt_machine.specs.Goes.{IsStuck}
-use Rattle.wkt_machine.specs.TokensView.{tokens_view}
+use Rattle.wkt_machine.specs.View.{tokens_view}
 use Rattle.wkt_machine.proofs.RoomForRest.{free_room}
-use Rattle.wkt_read.specs.Spanned.{AreEnds}
-use Rattle.wkt_read.proofs.LawLemmas.OnePlacing.{spanned-only}
+use Rattle.wkt_read.proofs.OnePlacing.{spanned-only}
 use Rattle.wkt_machine.specs.Growing.{rest as nothing}
 use Rattle.wkt_types.specs.declared.geometry.Wkt.TheVariants as geometry
 use Rattle.wkt_machine.proofs.FrontValues.{lent, answer_found, answer_free, answer_text, answer_message, answer_refusal, ended_found, pair_made, stuck_no_front, stuck_bad_number, stuck_refused}

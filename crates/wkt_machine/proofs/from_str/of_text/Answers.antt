@@ -1,10 +1,9 @@
 -- The point that is alone is found, or the text has no front and the message is that of its lexemes.
 use Rattle.std.proofs.Common.{◌≤◌, subst, ◌∙◌, sym, ap, arith}
 use Rattle.std.specs.Borrow.{MutBor}
-use Rattle.wkt_read.specs.Ahead.{remaining, taken_of}
-use Rattle.wkt_read.specs.Spanned.{AreEnds}
-use Rattle.wkt_read.specs.Standing.{Standing}
-use Rattle.wkt_read.proofs.LawLemmas.OnePlacing.{spanned-only}
+use Rattle.wkt_read.specs.Stream.{remaining, taken_of}
+use Rattle.wkt_read.specs.Spanned.{AreEnds, Standing}
+use Rattle.wkt_read.proofs.OnePlacing.{spanned-only}
 use Rattle.wkt_machine.specs.Goes.{IsStuck}
 use Rattle.wkt_machine.proofs.Lones.{lone_found, lone_no_front, lone_bad_number, lone_refused}
 use Rattle.wkt_machine.proofs.from_str.of_text.Goals as goal

@@ -1,6 +1,6 @@
 -- The machine's answer, and the tokens behind what it took.
 use Rattle.std.proofs.Common.{ap, arith, length}
-use Rattle.wkt_read.specs.Ahead.{remaining}
+use Rattle.wkt_read.specs.Stream.{remaining}
 use Rattle.wkt_machine.proofs.Reading.{ok_found, ok_taken, ok_advances, memory_free, memory_advances, stuck_next, stuck_advances, stuck_none, stuck_early, stuck_bad, stuck_refusal}
 use Rattle.wkt_machine.proofs.from_str.read_off.Goals as goal
 

@@ -1,8 +1,8 @@
 -- A drive over the bytes that keeps nothing ends where the front does.
 use Rattle.std.proofs.Common.{ap, sym, ◌∙◌, subst, arith, length, false, IsUtf8, refl}
-use Rattle.wkt_read.proofs.LawLemmas.OnePlacing.{spanned-few}
-use Rattle.wkt_read.proofs.LawLemmas.HeaderPlaces.{front-some, front-within, front-boundary}
-use Rattle.wkt_machine.specs.BytesView.{bytes_view}
+use Rattle.wkt_read.proofs.OnePlacing.{spanned-few}
+use Rattle.wkt_read.proofs.HeaderPlaces.{front-some, front-within, front-boundary}
+use Rattle.wkt_machine.specs.View.{bytes_view}
 use Rattle.wkt_machine.specs.Makers.{nothing_maker}
 use Rattle.wkt_machine.proofs.ByteViews.{whole_left}
 use Rattle.wkt_machine.proofs.FrontValues.{front_made, no_front_there}

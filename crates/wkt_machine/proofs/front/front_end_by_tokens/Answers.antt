@@ -1,11 +1,11 @@
 -- A drive that keeps nothing ends where the front does.
 use Rattle.std.proofs.Common.{ap, sym, ◌∙◌, subst, arith, refl}
-use Rattle.wkt_read.specs.Ahead as ahead
+use Rattle.wkt_read.specs.Stream as ahead
 use Rattle.wkt_read.specs.Front.{Front}
-use Rattle.wkt_read.proofs.LawLemmas.HeaderPlaces.{front-some, front-within, front-boundary}
-use Rattle.wkt_read.proofs.LawLemmas.OnePlacing.{spanned-only}
+use Rattle.wkt_read.proofs.HeaderPlaces.{front-some, front-within, front-boundary}
+use Rattle.wkt_read.proofs.OnePlacing.{spanned-only}
 use Rattle.wkt_machine.specs.Makers.{nothing_maker}
-use Rattle.wkt_machine.specs.TokensView.{tokens_view}
+use Rattle.wkt_machine.specs.View.{tokens_view}
 use Rattle.wkt_machine.proofs.FrontValues.{front_made, no_front_there}
 use Rattle.wkt_machine.proofs.RoomForRest.{free_room}
 use Rattle.wkt_machine.proofs.front.front_end_by_tokens.Goals as goal

@@ -1,5 +1,5 @@
 -- A header is two lexemes; a point goes on with its coordinate.
-use Rattle.wkt_machine.specs.BytesView.{bytes_view}
+use Rattle.wkt_machine.specs.View.{bytes_view}
 use Rattle.wkt_machine.proofs.WaysJoin.{goes_if, refuses_if}
 use Rattle.wkt_machine.proofs.heads.header.Goals as goal
 

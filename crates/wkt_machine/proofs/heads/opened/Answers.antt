@@ -5,7 +5,7 @@ use Rattle.wkt_machine.specs.LexemesAhead.{StandsHead}
 use Rattle.wkt_machine.proofs.ByteSteps.{head_goes}
 use Rattle.wkt_machine.proofs.SourceRooms.{head_fits, head_after}
 use Rattle.wkt_machine.specs.Room.{header_cost, owed, HasRoom}
-use Rattle.wkt_machine.specs.BytesView.{bytes_view}
+use Rattle.wkt_machine.specs.View.{bytes_view}
 use Rattle.wkt_machine.proofs.RoomForRest.{inside_owes}
 use Rattle.wkt_machine.proofs.heads.opened.Goals as goal
 

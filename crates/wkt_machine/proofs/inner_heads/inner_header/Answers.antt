@@ -1,14 +1,12 @@
 -- Each header goes on from the one before.
 use Rattle.std.proofs.Common.{◌≡◌, ℕ, List, Option, Some, ap, sym, subst, ◌∙◌, arith}
 use Rattle.std.proofs.Math.Nat.{le_refl}
-use Rattle.wkt_machine.specs.BytesView.{bytes_view}
-use Rattle.wkt_machine.specs.Leads.{Leads}
-use Rattle.wkt_machine.specs.Machine.{at}
+use Rattle.wkt_machine.specs.View.{bytes_view, View}
+use Rattle.wkt_machine.specs.Goes.{Leads}
+use Rattle.wkt_machine.specs.Machine.{at, State}
 use Rattle.wkt_machine.specs.Machines.{state_of, place_of}
 use Rattle.wkt_machine.specs.Makers.{Maker}
-use Rattle.wkt_machine.specs.Place.{State}
-use Rattle.wkt_machine.specs.Place as place
-use Rattle.wkt_machine.specs.View.{View}
+use Rattle.wkt_machine.specs.Machine as place
 use Rattle.wkt_machine.specs.declared.machine.Machine.{Machine}
 use Rattle.wkt_machine.proofs.WaysJoin.{leads_none, leads_goes, leads_ok, leads_refused, goes_leads}
 use Rattle.wkt_machine.proofs.WholeRuns.{goes_room}

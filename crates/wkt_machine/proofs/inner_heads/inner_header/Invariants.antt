@@ -3,8 +3,8 @@ use Rattle.std.proofs.Common.{◌≤◌, ◌+◌, length}
 use Rattle.std.specs.Prelude.{not, ◌==◌}
 use Rattle.wkt_access.specs.declared.dimensions.Dimension.TheVariants.{XY}
 use Rattle.wkt_events.specs.Remaining.{remaining_spanned}
-use Rattle.wkt_machine.specs.BytesView.{bytes_view}
-use Rattle.wkt_machine.specs.Leads.{Leads}
+use Rattle.wkt_machine.specs.View.{bytes_view}
+use Rattle.wkt_machine.specs.Goes.{Leads}
 use Rattle.wkt_machine.specs.Room.{HasRoom}
 use Rattle.wkt_machine.specs.declared.machine.State.TheVariants as next
 use Rattle.wkt_machine.specs.declared.part.Part.TheVariants as part

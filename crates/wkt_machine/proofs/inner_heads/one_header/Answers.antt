@@ -1,6 +1,6 @@
 -- A header is two lexemes; a point goes on with its coordinate.
 use Rattle.std.proofs.Common.{arith, refl}
-use Rattle.wkt_machine.specs.BytesView.{bytes_view}
+use Rattle.wkt_machine.specs.View.{bytes_view}
 use Rattle.wkt_machine.proofs.ByteSteps.{line_string_name}
 use Rattle.wkt_machine.proofs.WaysJoin.{goes_if, refuses_if}
 use Rattle.wkt_machine.proofs.inner_heads.one_header.Goals as goal

@@ -1,7 +1,7 @@
 -- Behind the header, and the lexeme after a coordinate.
 use Rattle.std.proofs.Common.{ap, arith}
 use Rattle.wkt_machine.specs.Lones.{lone_maker}
-use Rattle.wkt_machine.specs.Place.{State}
+use Rattle.wkt_machine.specs.Machine.{State}
 use Rattle.wkt_machine.proofs.WaysJoin.{refused_if, started_if}
 use Rattle.wkt_machine.proofs.WholeRuns.{goes_room}
 use Rattle.wkt_machine.proofs.lone.first_point.Goals as goal

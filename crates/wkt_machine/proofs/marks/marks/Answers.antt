@@ -2,8 +2,7 @@
 use Rattle.std.proofs.Common.{◌+◌, ◌++◌, ◌∙◌, ℕ, List, Option, ap, sym, arith, rules, IfErr}
 use Rattle.std.proofs.Math.Nat.{le_refl}
 use Rattle.std.proofs.lemmas.Bool.{OnTrue_at}
-use Rattle.wkt_machine.specs.Goes.{Refuses, Stays}
-use Rattle.wkt_machine.specs.Leads.{Leads}
+use Rattle.wkt_machine.specs.Goes.{Refuses, Stays, Leads}
 use Rattle.wkt_machine.specs.Makers.{Maker}
 use Rattle.wkt_machine.specs.View.{View}
 use Rattle.wkt_machine.specs.declared.machine.Machine.{Machine}

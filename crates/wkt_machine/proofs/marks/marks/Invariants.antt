@@ -1,7 +1,7 @@
 -- What was taken was gone over, and what it says was made.
 use Rattle.std.proofs.Common.{◌≡◌, ◌≤◌, ◌+◌, length, false}
-use Rattle.wkt_machine.specs.Drives.{is_over}
-use Rattle.wkt_machine.specs.Leads.{Leads}
+use Rattle.wkt_machine.specs.Machine.{is_over}
+use Rattle.wkt_machine.specs.Goes.{Leads}
 use Rattle.wkt_machine.specs.Machines.{state_of, IsSound}
 use Rattle.wkt_machine.specs.Room.{owed, HasRoom}
 use Rattle.wkt_machine.proofs.marks.marks.Given as goal

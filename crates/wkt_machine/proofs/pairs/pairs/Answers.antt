@@ -1,6 +1,6 @@
 -- A coordinate goes on from the one before.
 use Rattle.std.proofs.Common.{sym, ◌∙◌, arith, ap}
-use Rattle.wkt_machine.specs.TokensView.{tokens_view}
+use Rattle.wkt_machine.specs.View.{tokens_view}
 use Rattle.wkt_machine.proofs.WaysJoin.{leads_none, leads_ok, leads_refused}
 use Rattle.wkt_machine.proofs.TokenSteps.{there_in, no_y, item_goes, last_goes, turn_leads}
 use Rattle.wkt_num.specs.Bytes.{Close, Comma}

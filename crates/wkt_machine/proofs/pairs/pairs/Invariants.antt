@@ -1,9 +1,9 @@
 -- What was taken was gone over, and what it says was made.
 use Rattle.std.proofs.Common.{length}
-use Rattle.wkt_read.specs.Ahead.{remaining}
-use Rattle.wkt_machine.specs.Leads.{Leads}
+use Rattle.wkt_read.specs.Stream.{remaining}
+use Rattle.wkt_machine.specs.Goes.{Leads}
 use Rattle.wkt_machine.specs.Room.{HasRoom}
-use Rattle.wkt_machine.specs.TokensView.{tokens_view}
+use Rattle.wkt_machine.specs.View.{tokens_view}
 use Rattle.wkt_machine.proofs.pairs.pairs.Given as goal
 
 abbrev pub invariant-coordinates : goal.invariant-coordinates

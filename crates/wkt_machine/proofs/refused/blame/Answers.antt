@@ -1,9 +1,8 @@
 -- A number that isn't read is blamed where one may stand; any other token stays, or is taken.
 use Rattle.std.proofs.Common.{◌≡◌, sym, ◌∙◌, ap, subst}
-use Rattle.wkt_read.specs.Ahead.{remaining, rest, Advances}
-use Rattle.wkt_read.specs.Parser.Walks.{TakesNext}
-use Rattle.wkt_read.specs.Standing.{Standing}
-use Rattle.wkt_read.specs.Tokenizer.Unread.{found}
+use Rattle.wkt_read.specs.Stream.{remaining, rest, Advances, TakesNext}
+use Rattle.wkt_read.specs.Spanned.{Standing}
+use Rattle.wkt_read.specs.Peeks.{found}
 use Rattle.wkt_machine.specs.Refusing.{expected_at, blamed}
 use Rattle.wkt_machine.specs.Machines.{state_of}
 use Rattle.wkt_machine.proofs.NextLexeme.{blames_first}

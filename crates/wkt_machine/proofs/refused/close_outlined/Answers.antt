@@ -1,7 +1,7 @@
 -- One parenthesis after the other has to close, and each takes a token.
 use Rattle.std.proofs.Common.{◌-◌, ◌∙◌, arith}
-use Rattle.wkt_read.specs.Ahead.{rest}
-use Rattle.wkt_read.specs.Tokenizer.Unread.{found}
+use Rattle.wkt_read.specs.Stream.{rest}
+use Rattle.wkt_read.specs.Peeks.{found}
 use Rattle.wkt_machine.proofs.Reading.{advances_then, advances_one, closes_one, first_taken}
 use Rattle.wkt_machine.proofs.refused.close_outlined.Goals as goal
 

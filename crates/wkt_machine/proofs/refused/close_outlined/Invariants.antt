@@ -1,6 +1,6 @@
 use Rattle.std.proofs.Common.{◌≡◌}
 use Rattle.wkt_read.specs.Table.{closings}
-use Rattle.wkt_read.specs.Ahead.{Advances, rest}
+use Rattle.wkt_read.specs.Stream.{Advances, rest}
 use Rattle.wkt_machine.proofs.refused.close_outlined.Given as goal
 
 abbrev pub invariant-parens : goal.invariant-parens

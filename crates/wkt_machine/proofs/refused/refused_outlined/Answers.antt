@@ -2,7 +2,7 @@
 use Rattle.std.proofs.Common.{ℕ, sym, ap, ◌∙◌}
 use Rattle.wkt_num.specs.Bytes.{Lexeme}
 use Rattle.std.specs.Prelude.{List}
-use Rattle.wkt_read.specs.Ahead.{rest}
+use Rattle.wkt_read.specs.Stream.{rest}
 use Rattle.wkt_read.specs.declared.messages.Message.{Message}
 use Rattle.wkt_read.specs.Table.{closings}
 use Rattle.wkt_machine.specs.Refusing.{expected_at, blamed, own}

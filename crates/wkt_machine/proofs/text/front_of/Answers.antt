@@ -1,16 +1,15 @@
 -- What has grown over the bytes of a text is its front; where it is refused, it has none.
 use Rattle.std.proofs.Common.{[], None, refl, ap, ◌∙◌, subst, arith, length, false}
-use Rattle.wkt_read.proofs.LawLemmas.OnePlacing.{spanned-few}
-use Rattle.wkt_read.proofs.LawLemmas.HeaderPlaces.{front-some, front-within, front-boundary}
+use Rattle.wkt_read.proofs.OnePlacing.{spanned-few}
+use Rattle.wkt_read.proofs.HeaderPlaces.{front-some, front-within, front-boundary}
 use Rattle.wkt_read.proofs.Refusals.{said_bad}
 use Rattle.wkt_types.specs.declared.geometry.Wkt.TheVariants as geometry
-use Rattle.wkt_machine.specs.BytesView.{bytes_view}
+use Rattle.wkt_machine.specs.View.{bytes_view}
 use Rattle.wkt_machine.specs.Trees.{tree_maker, tree_of}
 use Rattle.wkt_machine.specs.Growing.{rest}
 use Rattle.wkt_machine.specs.Values.{AnswersReader}
 use Rattle.wkt_machine.proofs.ByteViews.{whole_left}
-use Rattle.wkt_machine.proofs.FrontValues.{pair_made, lent, refused}
-use Rattle.wkt_machine.proofs.DrivenBytes.{ended_found_to, answer_found_to, answer_lost_free}
+use Rattle.wkt_machine.proofs.FrontValues.{pair_made, lent, refused, ended_found_to, answer_found_to, answer_lost_free}
 use Rattle.wkt_machine.proofs.RoomForRest.{free_room}
 use Rattle.wkt_machine.proofs.TableMessages.{stops_there, stops_message, stops_no_front}
 use Rattle.wkt_machine.proofs.text.front_of.Goals as goal

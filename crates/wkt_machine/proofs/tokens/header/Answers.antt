@@ -4,7 +4,7 @@ use Rattle.wkt_access.specs.declared.dimensions.Dimension.TheVariants.{XY}
 use Rattle.wkt_machine.specs.Goes.{Refuses}
 use Rattle.wkt_machine.specs.Machine.{inside}
 use Rattle.wkt_machine.specs.Machines.{state_of, IsSound}
-use Rattle.wkt_machine.specs.TokensView.{tokens_view}
+use Rattle.wkt_machine.specs.View.{tokens_view}
 use Rattle.wkt_machine.proofs.WaysJoin.{goes_if, refuses_if}
 use Rattle.wkt_machine.proofs.TokenSteps.{there_in, stays_ok, joined_goes, open_goes, opened_goes, behind_ok, behind_err, ok_err}
 use Rattle.wkt_num.specs.Bytes.{Open}

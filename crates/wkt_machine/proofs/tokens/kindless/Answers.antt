@@ -1,10 +1,9 @@
 -- A kind word is taken as elsewhere; anything else is refused.
 use Rattle.std.proofs.Common.{ap, sym, ◌∙◌, refl, subst}
 use Rattle.std.specs.Bool.{OnFalse}
-use Rattle.wkt_read.specs.Ahead.{remaining, first_of}
+use Rattle.wkt_read.specs.Stream.{remaining, first_of}
 use Rattle.wkt_machine.specs.Room.{RoomAt}
-use Rattle.wkt_machine.specs.View.{sight}
-use Rattle.wkt_machine.specs.TokensView.{NoKind, seen_found, tokens_view}
+use Rattle.wkt_machine.specs.View.{sight, NoKind, seen_found, tokens_view}
 use Rattle.wkt_machine.specs.declared.machine.State.TheVariants as next
 use Rattle.wkt_machine.proofs.RoomForRest.{kind_room, no_room}
 use Rattle.wkt_machine.proofs.SourceRooms.{looks_room}

@@ -1,5 +1,5 @@
 use Rattle.std.proofs.Common.{◌≡◌, ◌-◌, ◌<◌, ◌≤◌, slice_range}
-use Rattle.wkt_num.specs.Printing.{zeros}
+use Rattle.wkt_num.specs.Decimal.{zeros}
 use Rattle.wkt_num.proofs.kept.before_zeros.Given as goal
 
 abbrev pub invariant-loop-kept : goal.invariant-loop-kept

@@ -1,6 +1,6 @@
 -- Two eights of digits are the number padded to sixteen.
 use Rattle.std.proofs.Common.{◌∙◌, ◌++◌, ◌/◌, ◌%◌, sym, refl, ap₂, arith, append_assoc}
-use Rattle.wkt_num.specs.Printing.{padded}
+use Rattle.wkt_num.specs.Decimal.{padded}
 use Rattle.wkt_num.proofs.EighteenPlaces.{padded-two}
 use Rattle.wkt_num.proofs.printing.sixteen.Goals as goal
 

@@ -1,5 +1,5 @@
 -- A reading of an earlier form is one of today's form without an empty member of a multipoint.
-use Rattle.wkt_read.proofs.LawLemmas.OneWkt.{value_new, value_old}
+use Rattle.wkt_read.proofs.OneWkt.{value_new, value_old}
 use Rattle.wkt_read.proofs.earlier.old_forms.Goals as goal
 
 pub returns : goal.returns

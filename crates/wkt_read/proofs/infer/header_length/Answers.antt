@@ -1,7 +1,7 @@
 -- A byte more isn't where the header ends; it ends at `(`, or before EMPTY.
 use Rattle.std.proofs.Common.{◌∙◌, sym, arith, ap, codes}
 use Rattle.wkt_read.specs.Header.{begins}
-use Rattle.wkt_read.proofs.LawLemmas.HeaderPlaces.{header_step, header_paren, header_empty, header_none, empty_ascii, is_test, not_test, rest_text}
+use Rattle.wkt_read.proofs.HeaderPlaces.{header_step, header_paren, header_empty, header_none, empty_ascii, is_test, not_test, rest_text}
 use Rattle.wkt_read.proofs.infer.header_length.Goals as goal
 
 pub returns-then-text-i-eq40 : goal.returns-then-text-i-eq40

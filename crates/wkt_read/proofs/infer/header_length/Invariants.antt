@@ -1,6 +1,6 @@
 use Rattle.std.proofs.Common.{◌≡◌, ◌≤◌, ◌-◌, length, take, drop}
 use Rattle.wkt_read.specs.Header.{header_cut}
-use Rattle.wkt_read.proofs.LawLemmas.Headers.{with_bytes}
+use Rattle.wkt_read.proofs.Headers.{with_bytes}
 use Rattle.wkt_read.proofs.infer.header_length.Given as goal
 
 abbrev pub invariant-place : goal.invariant-place

@@ -1,10 +1,9 @@
 -- The header ends where the definition cuts it, or there is none.
 use Rattle.std.proofs.Common.{◌∙◌, sym, ap, subst, take, refl, ℕ, List, Option, Bool}
 use Rattle.std.specs.Prelude.{Some, IfErr}
-use Rattle.wkt_read.specs.Header.{header_rule, header_cut, cut_answer, Cut}
-use Rattle.wkt_read.specs.Infer.{SaysOf, LendsPrefixOf}
+use Rattle.wkt_read.specs.Header.{header_rule, header_cut, cut_answer, Cut, SaysOf, LendsPrefixOf}
 use Rattle.wkt_read.specs.declared.infer.HeaderError.TheVariants as lent
-use Rattle.wkt_read.proofs.LawLemmas.HeaderPlaces.{range_take}
+use Rattle.wkt_read.proofs.HeaderPlaces.{range_take}
 use Rattle.wkt_read.proofs.infer.infer_header.Goals as goal
 
 abbrev cut_at : List ℕ → Bool → Option Cut

@@ -2,8 +2,8 @@
 use Rattle.std.proofs.Common.{◌∙◌, true, false, sym, ap, subst}
 use Rattle.std.specs.Str.{str_to_ascii_uppercase}
 use Rattle.wkt_read.specs.Grammar.{kind_word, dim_word}
-use Rattle.wkt_read.specs.Keywords.{Names}
-use Rattle.wkt_read.proofs.LawLemmas.KindWords.{joined, none-named, alone, after, no-letters, some-letters}
+use Rattle.wkt_read.specs.Stream.{Names}
+use Rattle.wkt_read.proofs.KindWords.{joined, none-named, alone, after, no-letters, some-letters}
 use Rattle.wkt_read.proofs.keywords.kind_in.Goals as goal
 
 pub returns-in_err-kind : goal.returns-in_err-kind

@@ -1,5 +1,5 @@
 -- A text is read as at most one `Wkt`.
-use Rattle.wkt_read.proofs.LawLemmas.OneWkt.{reading-one}
+use Rattle.wkt_read.proofs.OneWkt.{reading-one}
 use Rattle.wkt_read.proofs.laws.one_reading.Goals as goal
 
 pub returns : goal.returns

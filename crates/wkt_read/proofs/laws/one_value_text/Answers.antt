@@ -1,7 +1,7 @@
 -- Two well-formed values have one text exactly if they are one.
 use Rattle.std.proofs.Common.{ap}
 use Rattle.wkt_access.specs.Texts.{text}
-use Rattle.wkt_read.proofs.LawLemmas.Spelled.{text_one}
+use Rattle.wkt_read.proofs.Spelled.{text_one}
 use Rattle.wkt_read.proofs.laws.one_value_text.Goals as goal
 
 pub returns : goal.returns

@@ -2,10 +2,10 @@
 use Rattle.std.proofs.Common.{◌≡◌, sym, ap, subst}
 use Rattle.wkt_access.specs.Shapes.{shape_of}
 use Rattle.wkt_access.specs.Faults.{fault}
-use Rattle.wkt_access.specs.Lawful.{IsLawful}
+use Rattle.wkt_access.specs.WellFormed.{IsLawful}
 use Rattle.std.specs.Prelude.{None}
 use Rattle.wkt_write.proofs.Writable.{writable}
-use Rattle.wkt_read.proofs.LawLemmas.OneForm.{geometry_fits}
+use Rattle.wkt_read.proofs.OneForm.{geometry_fits}
 use Rattle.wkt_read.proofs.laws.read_values_are_writable.Goals as goal
 
 pub returns : goal.returns

@@ -1,5 +1,5 @@
 -- The text of a well-formed value is read as this value.
-use Rattle.wkt_read.proofs.LawLemmas.Spelled.{front_of_text}
+use Rattle.wkt_read.proofs.Spelled.{front_of_text}
 use Rattle.wkt_read.proofs.laws.value_reads_back.Goals as goal
 
 pub returns : goal.returns

@@ -2,8 +2,7 @@
 use Rattle.std.proofs.Common.{◌≡◌, ◌<◌, ◌+◌, ◌*◌, rules, ap, sym, ◌∙◌, arith, length, map}
 use Rattle.std.proofs.lemmas.List.{length-map}
 use Rattle.wkt_types.specs.Canonical.{canonical, parts_under, line_under}
-use Rattle.wkt_types.specs.Tree.{tree, collection, multi_line_string, trees_of}
-use Rattle.wkt_types.specs.Weight.{weight, weights}
+use Rattle.wkt_types.specs.Tree.{tree, collection, multi_line_string, trees_of, weight, weights}
 use Rattle.wkt_types.proofs.TreeLemmas.{tree-collection, tree-multi_line_string, opened, replaced_next, all_replaced, put_back, tree_at, waiting_within, members_canonical}
 use Rattle.wkt_types.proofs.canonical.+canonical.Goals as goal
 

@@ -1,7 +1,6 @@
 use Rattle.std.proofs.Common.{◌≡◌, ◌+◌, ◌*◌, map}
 use Rattle.wkt_types.specs.Canonical.{canonical}
-use Rattle.wkt_types.specs.Tree.{tree}
-use Rattle.wkt_types.specs.Weight.{weight, weights}
+use Rattle.wkt_types.specs.Tree.{tree, weight, weights}
 use Rattle.wkt_types.proofs.TreeLemmas.{replaced}
 use Rattle.wkt_types.proofs.canonical.+canonical.Given as goal
 

@@ -1,6 +1,6 @@
 use Rattle.wkt_flat.proofs.TreeLemmas.{AreAlikeTo}
 use Rattle.wkt_types.specs.Tree.{members}
-use Rattle.wkt_types.specs.Trees.{trees_eq}
+use Rattle.wkt_types.specs.Equal.{trees_eq}
 use Rattle.wkt_types.proofs.equal.+same.Given as goal
 
 abbrev pub invariant-same_members-loop-i : goal.invariant-same_members-loop-i

@@ -1,6 +1,6 @@
 -- There is no rectangle without coordinates; any other is the least that covers them all.
 use Rattle.std.proofs.Common.{refl, ◌∙◌}
-use Rattle.wkt_visit.proofs.Bounding.{covered, none_covered, some_covered}
+use Rattle.wkt_visit.proofs.Visiting.{covered, none_covered, some_covered}
 use Rattle.wkt_visit.proofs.bounds.bounding_rect.Goals as goal
 
 pub returns-clause-none : goal.returns-clause-none

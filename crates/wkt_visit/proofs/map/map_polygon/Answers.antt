@@ -1,8 +1,7 @@
 -- The exterior and the interiors are mapped, and rings stay closed.
 use Rattle.std.proofs.Common.{ap, ◌∙◌, subst, map}
 use Rattle.std.specs.List.{AllByRecursion}
-use Rattle.wkt_flat.specs.Equal.{coord_eq, coord_exact}
-use Rattle.wkt_flat.specs.Exact.{exact_by}
+use Rattle.wkt_flat.specs.Equal.{coord_eq, coord_exact, exact_by}
 use Rattle.wkt_flat.specs.Rings.{IsClosed}
 use Rattle.wkt_visit.proofs.Visiting.{polygon_mapped, if_ok}
 use Rattle.wkt_visit.proofs.map.map_polygon.Goals as goal

@@ -2,8 +2,7 @@
 use Rattle.std.proofs.Common.{ap, sym, ◌∙◌, subst}
 use Rattle.wkt_flat.specs.Tree.{flat_tree, flat_members}
 use Rattle.wkt_flat.proofs.TreeLemmas.{flat-members}
-use Rattle.wkt_visit.specs.Coords.{all_coords, each_coords}
-use Rattle.wkt_visit.specs.Visits.{Visits}
+use Rattle.wkt_visit.specs.Coords.{all_coords, each_coords, Visits}
 use Rattle.wkt_visit.proofs.Visiting.{visits_next, each_of_members}
 use Rattle.wkt_visit.proofs.visit.+walk.Goals as goal
 

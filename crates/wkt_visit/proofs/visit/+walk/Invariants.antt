@@ -1,7 +1,6 @@
 use Rattle.std.proofs.Common.{take, flat_map}
-use Rattle.wkt_visit.specs.Visits.{Visits}
+use Rattle.wkt_visit.specs.Coords.{Visits, all_coords}
 use Rattle.wkt_flat.specs.Tree.{flat_tree}
-use Rattle.wkt_visit.specs.Coords.{all_coords}
 use Rattle.wkt_visit.proofs.visit.+walk.Given as goal
 
 abbrev pub invariant-visit_members-loop-member : goal.invariant-visit_members-loop-member

@@ -1,5 +1,5 @@
 use Rattle.std.proofs.Common.{take}
-use Rattle.wkt_visit.specs.Visits.{Visits}
+use Rattle.wkt_visit.specs.Coords.{Visits}
 use Rattle.wkt_visit.proofs.visit.visit_each.Given as goal
 
 abbrev pub invariant-loop-coord : goal.invariant-loop-coord

@@ -1,5 +1,5 @@
 use Rattle.std.proofs.Common.{take, flat_map}
-use Rattle.wkt_visit.specs.Visits.{Visits}
+use Rattle.wkt_visit.specs.Coords.{Visits}
 use Rattle.wkt_visit.proofs.visit.visit_line_strings.Given as goal
 
 abbrev pub invariant-loop-line_string : goal.invariant-loop-line_string

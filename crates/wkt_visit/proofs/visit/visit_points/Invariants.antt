@@ -1,5 +1,5 @@
 use Rattle.std.proofs.Common.{take, map}
-use Rattle.wkt_visit.specs.Visits.{Visits}
+use Rattle.wkt_visit.specs.Coords.{Visits}
 use Rattle.wkt_visit.proofs.visit.visit_points.Given as goal
 
 abbrev pub invariant-loop-point : goal.invariant-loop-point

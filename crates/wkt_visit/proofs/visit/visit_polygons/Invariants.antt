@@ -1,6 +1,5 @@
 use Rattle.std.proofs.Common.{take, flat_map}
-use Rattle.wkt_visit.specs.Visits.{Visits}
-use Rattle.wkt_visit.specs.Coords.{polygon_coords}
+use Rattle.wkt_visit.specs.Coords.{Visits, polygon_coords}
 use Rattle.wkt_visit.proofs.visit.visit_polygons.Given as goal
 
 abbrev pub invariant-loop-polygon : goal.invariant-loop-polygon

@@ -1,7 +1,7 @@
 -- Bytes that aren't UTF-8 are no text.
 use Rattle.std.proofs.Common.{inr, refl}
 use Rattle.wkt_calls.specs.Answer.{read_at, places_in}
-use Rattle.wkt_calls.proofs.CopiedOut.{no-text}
+use Rattle.wkt_calls.proofs.Pieces.{no-text}
 use Rattle.wkt_web.proofs.exports.wkt_same.Goals as goal
 
 pub returns-in_default-from_utf8-clause-others : goal.returns-in_default-from_utf8-clause-others

@@ -2,7 +2,7 @@ use Rattle.std.proofs.Common.{◌*◌, ◌+◌}
 use Rattle.wkt_write.proofs.FirstErrors.{Clean}
 use Rattle.wkt_write.proofs.Writable.{depth}
 use Rattle.wkt_access.specs.Faults.{fault}
-use Rattle.wkt_write.specs.Known.{Known}
+use Rattle.wkt_write.specs.Pieces.{Known}
 use Rattle.wkt_access.specs.Parts.{members_of}
 use Rattle.wkt_write.proofs.check.+geometries.Given as goal
 

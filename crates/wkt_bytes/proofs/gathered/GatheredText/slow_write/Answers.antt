@@ -1,5 +1,5 @@
 -- What was held goes out first.
-use Rattle.wkt_bytes.proofs.Gathering.{puts_behind}
+use Rattle.wkt_bytes.proofs.SinkSteps.{puts_behind}
 use Rattle.wkt_bytes.proofs.gathered.GatheredText.slow_write.Goals as goal
 
 pub returns-then-piece-self : goal.returns-then-piece-self

@@ -2,8 +2,7 @@
 use Rattle.std.proofs.Common.{◌+◌, ◌∙◌, drop, arith}
 use Rattle.std.proofs.lemmas.List.{append-nil}
 use Rattle.wkt_bytes.specs.Wrapper.{gives_more, leaves_after, leaves_longer}
-use Rattle.wkt_bytes.proofs.Gathering.{kept_gives}
-use Rattle.wkt_bytes.proofs.SinkSteps.{any_err, take_step, with_rest}
+use Rattle.wkt_bytes.proofs.SinkSteps.{kept_gives, any_err, take_step, with_rest}
 use Rattle.wkt_bytes.proofs.wrapper.WriterWrapper.accept_long.Goals as goal
 
 pub loop-at-preserved : goal.loop-at-preserved

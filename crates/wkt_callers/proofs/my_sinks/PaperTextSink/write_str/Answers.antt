@@ -1,6 +1,6 @@
 -- A piece is added whole, or nothing of it is.
 use Rattle.std.proofs.Common.{refl}
-use Rattle.wkt.proofs.FailedCalls.{none_grew}
+use Rattle.wkt.proofs.SinkCalls.{none_grew}
 use Rattle.wkt_callers.proofs.my_sinks.PaperTextSink.write_str.Goals as goal
 
 pub returns-then-self-eq0 : goal.returns-then-self-eq0

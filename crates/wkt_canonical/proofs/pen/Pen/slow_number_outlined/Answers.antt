@@ -2,7 +2,7 @@
 use Rattle.std.proofs.Common.{rules, arith, length, ◌-◌, take, drop, subst, ◌≡◌, ◌≢◌, ◌≤◌, ℕ, List, Option, get_or, sym, ◌∙◌}
 use Rattle.wkt_num.specs.Bytes.{Run, class_of}
 use Rattle.wkt_num.specs.Number.{ReadsTexts}
-use Rattle.wkt_events.specs.Numbers.{NoNumber}
+use Rattle.wkt_events.specs.Remaining.{NoNumber}
 use Rattle.wkt_events.proofs.Runs.{range-run}
 use Rattle.wkt_canonical.proofs.PenOutput.{num_utf8, kept-numbered, padded-keeps}
 use Rattle.wkt_machine.proofs.ByteViews.{zero-at}

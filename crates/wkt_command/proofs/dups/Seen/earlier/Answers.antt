@@ -1,8 +1,8 @@
 -- The key is found where it was put first, and all keys are kept.
 use Rattle.std.proofs.Common.{◌≡◌, ℕ, List, Some, ap, sym, ◌∙◌, subst, if◌then◌else◌, unwrap_or}
 use Rattle.std.specs.Str.{bytes_eq}
-use Rattle.wkt_command.specs.Seen.{first_of}
-use Rattle.wkt_command.proofs.Bytes.{found_after}
+use Rattle.wkt_command.specs.Canon.{first_of}
+use Rattle.wkt_command.proofs.Canonizing.{found_after}
 use Rattle.wkt_command.proofs.dups.Seen.earlier.Goals as goal
 
 pub returns-clause-kept : goal.returns-clause-kept

@@ -2,8 +2,7 @@
 use Rattle.std.proofs.Common.{ap, sym, ◌∙◌}
 use Rattle.wkt_types.specs.Outcome.{value}
 use Rattle.wkt_flat.specs.Tree.{Flat}
-use Rattle.wkt_convert.specs.Flatten.{points}
-use Rattle.wkt_convert.specs.Outcomes.{outcome_map}
+use Rattle.wkt_convert.specs.Flatten.{points, outcome_map}
 use Rattle.wkt_flat.proofs.TreeLemmas.{flat-multi_point}
 use Rattle.wkt_convert.proofs.convert.GeometryConvertFromRefTypesMultiPoint.convert_from.Goals as goal
 

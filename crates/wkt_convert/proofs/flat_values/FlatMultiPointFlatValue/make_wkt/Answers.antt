@@ -4,7 +4,7 @@ use Rattle.wkt_access.specs.declared.dimensions.Dimension.TheVariants.{XY}
 use Rattle.wkt_types.specs.Held.{held}
 use Rattle.wkt_types.specs.Tree as trees
 use Rattle.wkt_convert.specs.Back.{point_back}
-use Rattle.wkt_convert.proofs.KindTrees.{tree-multi_point}
+use Rattle.wkt_convert.proofs.FlatKinds.{tree-multi_point}
 use Rattle.wkt_convert.proofs.flat_values.FlatMultiPointFlatValue.make_wkt.Goals as goal
 
 pub returns : goal.returns

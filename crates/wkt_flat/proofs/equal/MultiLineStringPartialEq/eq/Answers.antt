@@ -1,7 +1,6 @@
 -- Equal items make equal lists.
 use Rattle.std.proofs.Common.{rules}
-use Rattle.wkt_flat.specs.Exact.{exact_by, pointwise_exact}
-use Rattle.wkt_flat.specs.Equal.{sequence_exact}
+use Rattle.wkt_flat.specs.Equal.{exact_by, pointwise_exact, sequence_exact}
 use Rattle.wkt_flat.proofs.TreeLemmas.{reported}
 use Rattle.wkt_flat.proofs.equal.MultiLineStringPartialEq.eq.Goals as goal
 

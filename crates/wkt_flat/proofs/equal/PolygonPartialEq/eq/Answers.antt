@@ -1,7 +1,6 @@
 -- Equal parts make equal polygons.
 use Rattle.std.proofs.Common.{rules}
-use Rattle.wkt_flat.specs.Exact.{exact_by}
-use Rattle.wkt_flat.specs.Equal.{rings_exact, coord_exact}
+use Rattle.wkt_flat.specs.Equal.{exact_by, rings_exact, coord_exact}
 use Rattle.wkt_flat.proofs.TreeLemmas.{reported}
 use Rattle.wkt_flat.proofs.equal.PolygonPartialEq.eq.Goals as goal
 

@@ -1,7 +1,7 @@
 -- A piece stands behind the output buffer's text, or the output buffer is as it was.
 use Rattle.std.proofs.Common.{◌∙◌, ◌++◌, ap}
 use Rattle.wkt_num.specs.Sink.{next_count}
-use Rattle.wkt_num.proofs.FailedCalls.{none_grew}
+use Rattle.wkt_num.proofs.SinkCalls.{none_grew}
 use Rattle.wkt_lines.specs.Buffers.{output_text}
 use Rattle.wkt_lines.proofs.output_buffer.OutputBufferTextSink.write_str.Goals as goal
 

@@ -1,7 +1,7 @@
 -- A number is taken, or isn't read.
 use Rattle.std.proofs.Common.{refl, subst, sym}
 use Rattle.std.specs.Prelude.{IfSome, IfNone}
-use Rattle.wkt_events.specs.Numbers.{NoNumber}
+use Rattle.wkt_events.specs.Remaining.{NoNumber}
 use Rattle.wkt_machine.specs.Makers.{MakesNumber}
 use Rattle.wkt_machine.proofs.ByteViews.{numbers_after, none_unread}
 use Rattle.wkt_machine.specs.Room.{LeavesBehind}

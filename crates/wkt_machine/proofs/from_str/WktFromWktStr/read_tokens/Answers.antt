@@ -1,8 +1,8 @@
 -- What needs no memory is read.
 use Rattle.std.proofs.Common.{sym, subst}
-use Rattle.wkt_read.specs.Ahead.{rest}
+use Rattle.wkt_read.specs.Stream.{rest}
 use Rattle.wkt_read.specs.Answered.{Begins}
-use Rattle.wkt_read.specs.Standing.{Standing}
+use Rattle.wkt_read.specs.Spanned.{Standing}
 use Rattle.wkt_machine.proofs.from_str.WktFromWktStr.read_tokens.Goals as goal
 
 pub returns-clause-free : goal.returns-clause-free

@@ -3,7 +3,7 @@ use Rattle.std.proofs.Common.{refl, sym, ap, ◌∙◌, subst, None, Some, [], �
 use Rattle.wkt_machine.specs.Events.{Event}
 use Rattle.wkt_machine.specs.Machine.{at}
 use Rattle.wkt_machine.specs.Machines.{state_of, IsSound}
-use Rattle.wkt_machine.specs.Place as place
+use Rattle.wkt_machine.specs.Machine as place
 use Rattle.wkt_machine.specs.declared.machine.Seen.TheVariants as sees
 use Rattle.wkt_machine.specs.declared.machine.State.TheVariants as next
 use Rattle.wkt_machine.proofs.Stepping.{taken}

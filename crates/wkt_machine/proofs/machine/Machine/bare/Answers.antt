@@ -1,6 +1,6 @@
 -- A number is taken, or stays.
 use Rattle.std.proofs.Common.{ap, arith}
-use Rattle.wkt_machine.specs.Drives.{over_at}
+use Rattle.wkt_machine.specs.Machine.{over_at}
 use Rattle.wkt_machine.specs.Machines.{place_of, state_of}
 use Rattle.wkt_machine.proofs.NextLexeme.{bare_number, unread}
 use Rattle.wkt_machine.specs.Room.{owed}

@@ -1,7 +1,7 @@
 -- So few digits are as they are held.
 use Rattle.std.proofs.Common.{sym, ap, subst, ◌∙◌, arith, to_z, of_z}
 use Rattle.std.specs.Int.{w128}
-use Rattle.wkt_num.specs.Kept.{BeginsNumber}
+use Rattle.wkt_num.specs.Number.{BeginsNumber}
 use Rattle.wkt_num.specs.Whole.{read_signed}
 use Rattle.wkt_num.proofs.NumberInWindow.{held-127, held-63}
 use Rattle.wkt_num.proofs.signed_whole.I128WktNum.read_in_window.Goals as goal

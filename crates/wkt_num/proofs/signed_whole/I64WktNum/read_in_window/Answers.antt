@@ -1,6 +1,6 @@
 -- So few digits are as they are held.
 use Rattle.std.proofs.Common.{sym, subst, arith}
-use Rattle.wkt_num.specs.Kept.{BeginsNumber}
+use Rattle.wkt_num.specs.Number.{BeginsNumber}
 use Rattle.wkt_num.specs.Whole.{read_signed}
 use Rattle.wkt_num.proofs.NumberInWindow.{held-63}
 use Rattle.wkt_num.proofs.signed_whole.I64WktNum.read_in_window.Goals as goal

@@ -1,6 +1,6 @@
 -- The number is the same in more bits.
 use Rattle.std.proofs.Common.{sym, subst, arith}
-use Rattle.wkt_num.specs.Kept.{BeginsNumber}
+use Rattle.wkt_num.specs.Number.{BeginsNumber}
 use Rattle.wkt_num.specs.Whole.{read_unsigned}
 use Rattle.wkt_num.proofs.unsigned_whole.U128WktNum.read_in_window.Goals as goal
 

@@ -1,6 +1,5 @@
 use Rattle.std.proofs.Common.{◌≡◌, ◌≤◌, ◌+◌, ◌-◌, ℕ, length}
-use Rattle.wkt_read.specs.Tokenizer.Cursors.{taken_in}
-use Rattle.wkt_read.specs.Tokenizer.Scan.{IsRunSoFar}
+use Rattle.wkt_read.specs.Streams.{taken_in, IsRunSoFar}
 use Rattle.wkt_read.specs.declared.tokenizer.cursor.Cursor.{Cursor}
 use Rattle.wkt_read.proofs.tokenizer.scan.end_of_run.Given as goal
 

@@ -1,6 +1,6 @@
 -- White space is skipped, and the class is that of the first other byte.
 use Rattle.std.proofs.Common.{ap, sym, ◌∙◌, arith}
-use Rattle.wkt_read.proofs.TokenizerLemmas.Steps.{first-step, first-end, late-run}
+use Rattle.wkt_read.proofs.Placings.{first-step, first-end, late-run}
 use Rattle.wkt_read.specs.declared.tokenizer.scan.ByteClass.TheVariants as class
 use Rattle.wkt_read.proofs.tokenizer.scan.first_class.Goals as goal
 

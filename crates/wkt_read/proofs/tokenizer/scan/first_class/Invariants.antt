@@ -1,6 +1,5 @@
 use Rattle.std.proofs.Common.{◌≡◌, ◌≤◌, ◌-◌, length}
-use Rattle.wkt_read.specs.Tokenizer.Scan.{meant, coming_at, FoundClass}
-use Rattle.wkt_read.specs.Tokenizer.Cursors.{taken_in}
+use Rattle.wkt_read.specs.Streams.{meant, coming_at, FoundClass, taken_in}
 use Rattle.wkt_read.proofs.tokenizer.scan.first_class.Given as goal
 
 abbrev pub invariant-white : goal.invariant-white

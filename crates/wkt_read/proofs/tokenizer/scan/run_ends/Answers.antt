@@ -1,9 +1,8 @@
 -- A run goes on by each byte of it, and ends at any other.
 use Rattle.std.proofs.Common.{ap, sym, refl, subst, length, ◌<◌, arith}
-use Rattle.wkt_read.proofs.TokenizerLemmas.Steps.{run-step, run-end, run-end-text, late-run}
+use Rattle.wkt_read.proofs.Placings.{run-step, run-end, run-end-text, late-run}
 use Rattle.wkt_read.specs.declared.tokenizer.scan.ByteClass.TheVariants as class
-use Rattle.wkt_read.specs.Tokenizer.Cursors.{taken_in}
-use Rattle.wkt_read.specs.Tokenizer.Scan.{IsRunSoFar}
+use Rattle.wkt_read.specs.Streams.{taken_in, IsRunSoFar}
 use Rattle.wkt_read.proofs.tokenizer.scan.run_ends.Goals as goal
 
 pub returns-in-Run-clause-cases : goal.returns-in-Run-clause-cases

@@ -1,8 +1,7 @@
 -- `==` decides whether the polygons and the dimension are equal.
 use Rattle.std.proofs.Common.{rules}
-use Rattle.wkt_flat.specs.Exact.{exact_by}
-use Rattle.wkt_types.specs.Exact.{held_exact}
-use Rattle.wkt_types.specs.Equal.{polygon_exact}
+use Rattle.wkt_flat.specs.Equal.{exact_by}
+use Rattle.wkt_types.specs.Equal.{held_exact, polygon_exact}
 use Rattle.wkt_flat.proofs.TreeLemmas.{reported}
 use Rattle.wkt_types.proofs.equal.MultiPolygonPartialEq.eq.Goals as goal
 

@@ -1,6 +1,6 @@
 -- `==` decides whether the trees are equal.
-use Rattle.wkt_flat.specs.Exact.{exact_by}
-use Rattle.wkt_types.specs.Trees.{tree_exact}
+use Rattle.wkt_flat.specs.Equal.{exact_by}
+use Rattle.wkt_types.specs.Equal.{tree_exact}
 use Rattle.wkt_flat.proofs.TreeLemmas.{reported}
 use Rattle.wkt_types.proofs.equal.WktPartialEq.eq.Goals as goal
 

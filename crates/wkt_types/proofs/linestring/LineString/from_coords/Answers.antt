@@ -1,5 +1,5 @@
 -- The line string has the given coordinates, and the dimension of the first.
-use Rattle.wkt_types.specs.Coords.{coord_dim}
+use Rattle.wkt_types.specs.Held.{coord_dim}
 use Rattle.wkt_types.proofs.TreeLemmas.{made_none, made_some}
 use Rattle.wkt_types.proofs.linestring.LineString.from_coords.Goals as goal
 

@@ -2,7 +2,7 @@
 use Rattle.std.proofs.Common.{ap, sym, subst, length, arith}
 use Rattle.std.specs.Str.{IsCharBoundary}
 use Rattle.std.proofs.lemmas.Str.{IsCharBoundary-start}
-use Rattle.wkt_read.specs.Tokenizer.Cursors.{taken_in}
+use Rattle.wkt_read.specs.Streams.{taken_in}
 use Rattle.wkt_read.proofs.tokenizer.cursor.Cursor.new.Goals as goal
 
 pub returns-clause-taken : goal.returns-clause-taken

@@ -1,5 +1,5 @@
 -- A cursor behind one byte more is still in its text.
-use Rattle.wkt_read.proofs.TokenizerLemmas.Placings.{behind}
+use Rattle.wkt_read.proofs.Placings.{behind}
 use Rattle.wkt_read.proofs.tokenizer.cursor.Cursor.next_byte.Goals as goal
 
 pub invariant_of-self-clause-is_end : goal.invariant_of-self-clause-is_end

@@ -1,7 +1,7 @@
 -- The lexemes of the text are all to come, each with its end.
 use Rattle.std.proofs.Common.{refl}
-use Rattle.wkt_read.proofs.LawLemmas.OnePlacing.{spanned-few}
-use Rattle.wkt_read.proofs.TokenizerLemmas.Placings.{spanned-split, spanned-ends}
+use Rattle.wkt_read.proofs.OnePlacing.{spanned-few}
+use Rattle.wkt_read.proofs.Placings.{spanned-split, spanned-ends}
 use Rattle.wkt_read.proofs.tokenizer.tokens.Tokens.from_str.Goals as goal
 
 pub returns : goal.returns

@@ -1,7 +1,7 @@
 -- A lexeme has a byte at least.
 use Rattle.std.proofs.Common.{arith}
-use Rattle.wkt_read.specs.Tokenizer.Scan.{meant}
-use Rattle.wkt_read.proofs.TokenizerLemmas.Placings.{coming-few}
+use Rattle.wkt_read.specs.Streams.{meant}
+use Rattle.wkt_read.proofs.Placings.{coming-few}
 use Rattle.wkt_read.proofs.tokenizer.tokens.Tokens.most_left.Goals as goal
 
 pub returns : goal.returns

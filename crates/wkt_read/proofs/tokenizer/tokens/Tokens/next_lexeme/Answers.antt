@@ -2,8 +2,8 @@
 use Rattle.std.proofs.Common.{◌≡◌, ◌-◌, ◌<◌, ap, ◌∙◌, arith, refl, drop, slice_range, Some}
 use Rattle.wkt_read.specs.Lexemes.{lexeme_of}
 use Rattle.wkt_read.specs.Spanned.{spanned_from}
-use Rattle.wkt_read.specs.Tokenizer.Unread.{found}
-use Rattle.wkt_read.proofs.TokenizerLemmas.Steps.{run-found, gives-run, gives-open, gives-close, gives-comma, found-nul}
+use Rattle.wkt_read.specs.Peeks.{found}
+use Rattle.wkt_read.proofs.Placings.{run-found, gives-run, gives-open, gives-close, gives-comma, found-nul}
 use Rattle.wkt_read.proofs.tokenizer.tokens.Tokens.next_lexeme.Goals as goal
 use Rattle.wkt_read.proofs.tokenizer.tokens.Tokens.next_lexeme.Goals.{in-Open, in-Close, in-Comma}
 

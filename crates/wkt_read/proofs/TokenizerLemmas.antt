@@ -1,3 +1,0 @@
--- Lexemes as they are taken from a text.
-pub mod Steps
-pub mod Placings
