@@ -33,10 +33,7 @@ pub fn canonical_prefix_simd(places: u32, bytes: &[u8]) -> Option<(usize, usize)
         return None;
     };
     if bytes[point] != b'.' {
-        if !is_whole_part(bytes, first, point)
-            || is_minus_zero(bytes, first)
-            || is_of_run(bytes[point])
-        {
+        if !is_whole_number(bytes, first, point) || is_of_run(bytes[point]) {
             return None;
         }
         return Some((point, point));
@@ -142,6 +139,25 @@ pub(crate) fn after_minus(bytes: &[u8]) -> usize
         [b'-', ..] => 1,
         _ => 0,
     }
+}
+
+/// Whether these digits, behind a minus or none, are a whole number as it is printed, with which the units fit. A zero that
+/// stands first is the whole of it, so it ends behind one byte.
+#[inline(always)]
+fn is_whole_number(bytes: &[u8], first: usize, end: usize) -> bool
+    requires order { first ≤ end }
+    requires within { end ≤ length bytes.now }
+    requires minus { first ≤ 1 }
+    requires digits { AllDigits 10 (slice_range bytes.now first end) }
+    ensures whole { OnTrue result (IsWholePart bytes.now first end) }
+    ensures zero { OnTrue result (first ≡ 1 → slice_index bytes.now first ≢ 48) }
+    ensures other { OnFalse result (IsWholePart bytes.now first end → (first ≡ 1) × (slice_index bytes.now first ≡ 48)) }
+{
+    let count = end - first;
+    if count == 0 || count > MOST_WHOLE {
+        return false;
+    }
+    bytes[first] != b'0' || end == 1
 }
 
 /// Whether these digits are a whole part as it is printed, with which the units fit.

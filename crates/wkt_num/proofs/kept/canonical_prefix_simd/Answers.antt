@@ -5,11 +5,11 @@ use Rattle.wkt_num.specs.Bytes.{class_of, Run}
 use Rattle.wkt_num.proofs.DecimalParts.{keeps-whole, keeps-plain}
 use Rattle.wkt_num.proofs.FoundDecimal.{point-low, point-ends, met, passed, ended, end-ends, found-same}
 use Rattle.wkt_num.proofs.kept.canonical_prefix_simd.Goals as goal
-use Rattle.wkt_num.proofs.kept.canonical_prefix_simd.Goals.{then-not-is_whole_part-via-then-not-is_whole_part, then-not-is_whole_part-via-else-not-is_whole_part+then-is_minus_zero, then-not-is_whole_part-via-else-not-is_whole_part+else-is_minus_zero+then-is_of_run}
+use Rattle.wkt_num.proofs.kept.canonical_prefix_simd.Goals.{then-not-is_whole_number-via-then-not-is_whole_number, then-not-is_whole_number-via-else-not-is_whole_number+then-is_of_run}
 
 pub returns-then-bytes-point-ne46-clause-keeps : goal.returns-then-bytes-point-ne46-clause-keeps
 returns-then-bytes-point-ne46-clause-keeps c =
-    keeps-whole c.args.places c.args.bytes.now c.after_minus-first.result c.in-Some.point c.if-places-gt-SHORT_PLACES.false c.after_minus-first.ensures.sign c.if-not-is_whole_part.ensures c.if-is_minus_zero.ensures (λ _. c.if-is_of_run.ensures)
+    keeps-whole c.args.places c.args.bytes.now c.after_minus-first.result c.in-Some.point c.if-places-gt-SHORT_PLACES.false c.after_minus-first.ensures.sign c.if-not-is_whole_number.ensures.whole c.if-not-is_whole_number.ensures.zero (λ _. c.if-is_of_run.ensures)
 
 pub returns-then-is_plain-clause-keeps : goal.returns-then-is_plain-clause-keeps
 returns-then-is_plain-clause-keeps c =
@@ -25,16 +25,15 @@ returns-in_default-clause-finds c end t less =
     let a = c.after_minus-first in
     absurd (point-ends D bs end a.result t a.ensures.minus a.ensures.sign a.ensures.none 32 (omega (arith, less, point-low D bs end a.result t a.ensures.minus a.ensures.sign a.ensures.none)) c.requires c.in_default.ensures.none)
 
-pub returns-then-not-is_whole_part-clause-finds : goal.returns-then-not-is_whole_part-clause-finds
-returns-then-not-is_whole_part-clause-finds c end t less =
+pub returns-then-not-is_whole_number-clause-finds : goal.returns-then-not-is_whole_number-clause-finds
+returns-then-not-is_whole_number-clause-finds c end t less =
     let a = c.after_minus-first in
     let p = c.in-Some.ensures.some in
     let m = met c.args.places c.args.bytes.now end a.result t a.ensures.minus a.ensures.sign a.ensures.none c.in-Some.point p.order (omega (arith, p.within, c.requires)) p.digits (λ _. p.other) in
     let all = m.alone (λ _. c.if-bytes-point-ne46.true) in
-    elim c.then-not-is_whole_part.branch [
-      | then-not-is_whole_part-via-then-not-is_whole_part v ↦ absurd (v.if-not-is_whole_part.ensures m.whole)
-      | then-not-is_whole_part-via-else-not-is_whole_part+then-is_minus_zero v ↦ absurd (all.1 v.if-is_minus_zero.ensures.0 v.if-is_minus_zero.ensures.1)
-      | then-not-is_whole_part-via-else-not-is_whole_part+else-is_minus_zero+then-is_of_run v ↦ absurd (t.stops (omega (arith, less, c.requires)) (subst (λ (n : ℕ). class_of (get_or c.args.bytes.now n 0) ≡ Run) all.0 v.if-is_of_run.ensures))
+    elim c.then-not-is_whole_number.branch [
+      | then-not-is_whole_number-via-then-not-is_whole_number v ↦ let zero = v.if-not-is_whole_number.ensures.other m.whole in absurd (all.1 zero.0 zero.1)
+      | then-not-is_whole_number-via-else-not-is_whole_number+then-is_of_run v ↦ absurd (t.stops (omega (arith, less, c.requires)) (subst (λ (n : ℕ). class_of (get_or c.args.bytes.now n 0) ≡ Run) all.0 v.if-is_of_run.ensures))
     ]
 
 pub returns-then-bytes-point-ne46-clause-finds : goal.returns-then-bytes-point-ne46-clause-finds
@@ -71,12 +70,12 @@ returns-then-is_plain-clause-finds c end t less =
     let ends = ended c.args.places c.args.bytes.now end a.result t a.ensures.minus a.ensures.sign a.ensures.none c.in-Some.point c.in-Some-first_other.end m (omega (arith, p.within, c.requires)) c.if-bytes-point-ne46.false e.order (omega (arith, e.within, c.requires)) e.digits (λ _. e.other) in
     found-same c.in-Some-first_other.end end ends
 
-pub returns-then-not-is_whole_part-2-clause-finds : goal.returns-then-not-is_whole_part-2-clause-finds
-returns-then-not-is_whole_part-2-clause-finds c end t less =
+pub returns-then-not-is_whole_part-clause-finds : goal.returns-then-not-is_whole_part-clause-finds
+returns-then-not-is_whole_part-clause-finds c end t less =
     let a = c.after_minus-first in
     let p = c.in-Some.ensures.some in
     let m = met c.args.places c.args.bytes.now end a.result t a.ensures.minus a.ensures.sign a.ensures.none c.in-Some.point p.order (omega (arith, p.within, c.requires)) p.digits (λ _. p.other) in
-    absurd (c.if-not-is_whole_part-2.ensures m.whole)
+    absurd (c.if-not-is_whole_part.ensures m.whole)
 
 pub returns-clause-finds : goal.returns-clause-finds
 returns-clause-finds c end t less =
