@@ -1,7 +1,7 @@
 -- The parts of a decimal's text by their places in the bytes, and digits after others, which are read at once.
 use Rattle.std.proofs.Common.{◌≡◌, ℕ, zero, suc, ◌+◌, ◌-◌, ◌*◌, ◌^◌, ◌<◌, ◌≤◌, Bool, true, false, ◌==◌, if◌then◌else◌, List, [], ◌∷◌, ◌++◌, length, take, drop, get_or, slice_range, Some, inl, inr, refl, sym, ap, subst, ◌∙◌, arith, append_assoc, length-drop}
 use Rattle.std.specs.Fmt.{decimal, sign_text}
-use Rattle.std.specs.Char.{is_ascii_digit, digit_value}
+use Rattle.std.specs.Char.{digit_value}
 use Rattle.std.specs.Str.Parse.{IsNumeral, AllDigits, digits_value, digits_value_after}
 use Rattle.std.proofs.lemmas.Int.Digits.{digits_value-lt}
 use Rattle.std.proofs.lemmas.List.{append-nil, drop_more, take_more, get_or-drop, get_or-take, length-take-le, drop-drop}
@@ -16,7 +16,7 @@ use Rattle.wkt_num.specs.WholeLaws.{digits_are_run, point_run, minus_run}
 use Rattle.wkt_num.specs.Decimal.{read_magnitude, read_decimal, magnitude_text, decimal_text, fraction_digits, fraction_text, zeros}
 use Rattle.wkt_num.specs.DecimalLaws.{first_of, run_append, number_first, ten_pos, after_split}
 use Rattle.wkt_num.specs.DigitParts.{IsWholePart, IsPlainDecimal, HasZeros}
-use Rattle.wkt_num.proofs.TextInsideText.{digits-more, digits-suc, Shown, decimal-is, fraction-is, magnitude-is, reads-fraction, reads-whole, signed, value-less, value-some, value-low, digit-is, digits-zeros, fits-within}
+use Rattle.wkt_num.proofs.TextInsideText.{digits-suc, Shown, decimal-is, fraction-is, magnitude-is, reads-fraction, reads-whole, signed, value-less, value-some, value-low, digit-is, digits-zeros, fits-within}
 
 -- The parts of a decimal's text by their places in the bytes.
 

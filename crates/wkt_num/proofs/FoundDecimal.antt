@@ -5,19 +5,19 @@ use Rattle.std.specs.Fmt.{decimal, sign_text}
 use Rattle.std.specs.Char.{is_ascii_digit}
 use Rattle.std.specs.Str.Parse.{AllDigits}
 use Rattle.std.proofs.lemmas.List.{get_or-drop, get_or-take}
-use Rattle.std.proofs.lemmas.Bool.{cases_lt, cases_eq}
+use Rattle.std.proofs.lemmas.Bool.{cases_eq}
 use Rattle.std.proofs.lemmas.Nat.{pow-add, div-add-mod'}
 use Rattle.std.proofs.Math.Seq.{get_or-append_seam}
 use Rattle.std.proofs.Math.Nat.{mod-lt, div-lt_iff_lt-mul}
 use borrow.Author.Tests.{eqb-true, eqb-false}
 use Rattle.wkt_num.specs.Bytes.{class_of, Run}
-use Rattle.wkt_num.specs.Decimal.{read_decimal, fraction_digits, fraction_text, magnitude_text, decimal_text, IsShortDecimal, zeros, EndsInDigit}
+use Rattle.wkt_num.specs.Decimal.{fraction_digits, fraction_text, magnitude_text, decimal_text, IsShortDecimal, zeros, EndsInDigit}
 use Rattle.wkt_num.specs.DecimalLaws.{not_negative, fraction-bytes, ten_pos}
-use Rattle.wkt_num.specs.WholeLaws.{point_run, minus_run, digit_run}
-use Rattle.wkt_num.specs.Number.{StopsRun, KeepsText, StandsFirst}
+use Rattle.wkt_num.specs.WholeLaws.{point_run}
+use Rattle.wkt_num.specs.Number.{StandsFirst}
 use Rattle.wkt_num.specs.DigitParts.{IsWholePart, HasZeros, IsFraction, IsDecimalText}
 use Rattle.wkt_num.proofs.Printed.{length-padded, pads, last-digit}
-use Rattle.wkt_num.proofs.FirstTextFound.{end, end-is, within, stops, minus, sign-is, sign-minus, digits, is-some, is-few, starts, zero-alone, past, seam-range, digit-in, not-both, no-digit, one-end, one-first, test-range, first-of}
+use Rattle.wkt_num.proofs.FirstTextFound.{end, end-is, within, stops, minus, sign-is, sign-minus, digits, is-some, is-few, starts, zero-alone, past, seam-range, digit-in, not-both, no-digit, one-end, one-first}
 
 -- ---- the text has these parts
 

@@ -9,6 +9,7 @@ use Rattle.std.proofs.lemmas.Nat.{pow-add}
 use Rattle.std.proofs.lemmas.Int.{to_z-of_z}
 use Rattle.std.proofs.lemmas.Int.Digits.{digits_value-lt}
 use Rattle.std.proofs.Math.Nat.{mul-le-mul_right, pow-le-pow_right}
+use Rattle.std.proofs.Math.Seq.{take-length}
 use borrow.Author.Tests.{ne_eqb, lt-ltb}
 use Rattle.wkt_num.specs.Whole.{keep_if, IsSigned, read_signed, read_unsigned}
 use Rattle.wkt_num.specs.Bytes.{class_of, Run, AllRun}
@@ -18,7 +19,7 @@ use Rattle.wkt_num.specs.Decimal.{read_magnitude, read_decimal, with_sign, and_t
 use Rattle.wkt_num.specs.DecimalLaws.{first_of, run_append, number_first, digits_append, value_append, read-near, after_split, ten_pos}
 use Rattle.wkt_num.proofs.DecimalParts.{take-range, length-range, stops-at, digits-parts, range-split}
 use Rattle.wkt_num.proofs.TextInsideText.{reads-fraction, reads-whole}
-use Rattle.wkt_num.specs.DigitParts.{BeginsUnits, signed, ShowsWhole}
+use Rattle.wkt_num.specs.DigitParts.{BeginsUnits, signed, ShowsWhole, SpellsAll}
 
 -- Digits around a point, or without one, are read as their units.
 
@@ -324,11 +325,38 @@ module _ (most : ℕ) (bs : List ℕ) (first number end k : ℕ) (window : 32 �
       let r = first_digit shown shown-numeral in
       begins-read (read_unsigned k) number (ap (read_unsigned k) plain ∙ read_unsigned_some k number shown shown (without_leading_plus_none shown (λ e. omega (arith, r, e))) shown-numeral (sym shows.value) (omega (arith, shows.small, fits)))
 
+-- a text that is all of it the number
+module _ (most : ℕ) (bs : List ℕ) (first number k : ℕ) (sign : take first bs ≡ sign_text (first == 1)) (spells : SpellsAll most bs first number) (fits : 10 ^ most ≤ 2 ^ k) where
+  abbrev spelled : List ℕ
+  spelled = slice_range bs first (length bs)
+
+  spelled-numeral : IsNumeral 10 spelled
+  spelled-numeral = (omega (arith, length-range bs first (length bs) (omega (arith, spells.some)) (omega arith), spells.some), spells.digits)
+
+  spelled-text : bs ≡ sign_text (first == 1) ++ spelled
+  spelled-text = sym (take-length bs) ∙ take-range bs first (length bs) (omega (arith, spells.some)) ∙ ap (λ l. l ++ spelled) sign
+
+  pub spells-signed : (x : ℤ) → x ≡ signed (first == 1) number → read_signed k bs ≡ Some x
+  spells-signed x e =
+      ap (read_signed k) spelled-text ∙ read-signed k number (first == 1) spelled spelled-numeral (sym spells.value) (omega (arith, spells.small, fits)) ∙ ap (λ (z : ℤ). Some z) (sym e)
+
+  pub spells-unsigned : first ≡ 0 → read_unsigned k bs ≡ Some number
+  spells-unsigned none =
+      let plain : bs ≡ spelled = spelled-text ∙ ap (λ (n : ℕ). sign_text (n == 1) ++ spelled) none in
+      let r = first_digit spelled spelled-numeral in
+      ap (read_unsigned k) plain ∙ read_unsigned_some k number spelled spelled (without_leading_plus_none spelled (λ e. omega (arith, r, e))) spelled-numeral (sym spells.value) (omega (arith, spells.small, fits))
+
 -- a number of few digits
 pub few-digits : (number most : ℕ) → number < 10 ^ most → most ≤ 16 → number < 10 ^ 16
 few-digits number most less few = omega (arith, less, pow-le-pow_right {n = 10} (omega arith) {i = most} {j = 16} few)
 
+pub digits-below : (number most : ℕ) → number < 10 ^ most → most ≤ 18 → number < 2 ^ 63
+digits-below number most less few = omega (arith, less, pow-le-pow_right {n = 10} (omega arith) {i = most} {j = 18} few)
+
 -- as it is held
+pub below-held : (negative : Bool) (number : ℕ) (x : ℤ) → number < 2 ^ 63 → x ≡ signed negative number → to_z w64 (of_z w64 x) ≡ signed negative number
+below-held negative number x less e = ap (λ z. to_z w64 (of_z w64 z)) e ∙ held-is (signed negative number) (signed-small negative number 63 less)
+
 pub digits-held : (negative : Bool) (number : ℕ) (x : ℤ) → number < 10 ^ 16 → x ≡ signed negative number → to_z w64 (of_z w64 x) ≡ signed negative number
 digits-held negative number x less e = ap (λ z. to_z w64 (of_z w64 z)) e ∙ held-is (signed negative number) (signed-small negative number 63 (omega (arith, less)))
 

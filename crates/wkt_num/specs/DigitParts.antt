@@ -118,6 +118,13 @@ pub record ShowsWhole (most : ℕ) (bs : List ℕ) (first number end : ℕ) : Ty
   pub small : number < 10 ^ most
   pub stops : class_of (slice_index bs end) ≢ Run
 
+-- The bytes are at most so many, and those from `first` on are digits, which spell the number.
+pub record SpellsAll (most : ℕ) (bs : List ℕ) (first number : ℕ) : Type 0 where
+  pub some : first < length bs
+  pub digits : AllDigits 10 (slice_range bs first (length bs))
+  pub value : number ≡ digits_value 10 (slice_range bs first (length bs))
+  pub small : number < 10 ^ most
+
 -- No zero stands first or last, nor the point, and all is so short that the units fit.
 pub record IsPlainDecimal (D : ℕ) (bs : List ℕ) (first end : ℕ) : Type 0 where
   pub starts : 48 < slice_index bs first

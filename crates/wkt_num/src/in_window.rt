@@ -116,7 +116,7 @@ pub(crate) fn signed_in_window(most: usize, bytes: &[u8]) -> Option<(i64, usize)
 
 /// The number with its sign.
 #[inline(always)]
-fn digits_with_sign(negative: bool, digits: u64) -> i64
+pub(crate) fn digits_with_sign(negative: bool, digits: u64) -> i64
     requires { digits < 2 ^ 63 }
     ensures { result ≡ signed negative digits }
 {

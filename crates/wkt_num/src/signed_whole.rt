@@ -7,6 +7,7 @@ ghost use Rattle.wkt_num.specs.Whole.{read_signed, IsSigned};
 ghost use Rattle.wkt_num.specs.WholeLaws.{signed_reads_back, signed_reads_values, signed_text, signed_same};
 
 use crate::digits::write_whole;
+use crate::fast::fast_signed;
 use crate::in_window;
 use crate::kept_whole::signed_in_window;
 use crate::number::WktNum;
@@ -136,7 +137,10 @@ impl WktNum for i32 {
 
     #[tactic(auto, using(crate::proofs::ReadNumbers::parse_read_signed))]
     fn read_number(text: &str) -> Option<i32> {
-        text.parse::<i32>().ok()
+        match fast_signed(9, text.as_bytes()) {
+            Some(number) => Some(number as i32),
+            None => text.parse::<i32>().ok(),
+        }
     }
 
     fn write_number<W: TextSink>(&self, f: &mut W) -> fmt::Result {
@@ -189,7 +193,10 @@ impl WktNum for i64 {
 
     #[tactic(auto, using(crate::proofs::ReadNumbers::parse_read_signed))]
     fn read_number(text: &str) -> Option<i64> {
-        text.parse::<i64>().ok()
+        match fast_signed(18, text.as_bytes()) {
+            Some(number) => Some(number),
+            None => text.parse::<i64>().ok(),
+        }
     }
 
     fn write_number<W: TextSink>(&self, f: &mut W) -> fmt::Result {

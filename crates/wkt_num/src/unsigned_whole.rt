@@ -7,6 +7,7 @@ ghost use Rattle.wkt_num.specs.Whole.{read_unsigned};
 ghost use Rattle.wkt_num.specs.WholeLaws.{unsigned_reads_back, unsigned_reads_values, unsigned_text, unsigned_same};
 
 use crate::digits::write_whole;
+use crate::fast::fast_unsigned;
 use crate::in_window;
 use crate::kept_whole::unsigned_in_window;
 use crate::number::WktNum;
@@ -136,7 +137,10 @@ impl WktNum for u32 {
 
     #[tactic(auto, using(crate::proofs::ReadNumbers::parse_read_unsigned))]
     fn read_number(text: &str) -> Option<u32> {
-        text.parse::<u32>().ok()
+        match fast_unsigned(9, text.as_bytes()) {
+            Some(number) => Some(number as u32),
+            None => text.parse::<u32>().ok(),
+        }
     }
 
     fn write_number<W: TextSink>(&self, f: &mut W) -> fmt::Result {
@@ -189,7 +193,10 @@ impl WktNum for u64 {
 
     #[tactic(auto, using(crate::proofs::ReadNumbers::parse_read_unsigned))]
     fn read_number(text: &str) -> Option<u64> {
-        text.parse::<u64>().ok()
+        match fast_unsigned(18, text.as_bytes()) {
+            Some(number) => Some(number),
+            None => text.parse::<u64>().ok(),
+        }
     }
 
     fn write_number<W: TextSink>(&self, f: &mut W) -> fmt::Result {

@@ -349,3 +349,142 @@ fn whole_numbers_that_are_read_elsewhere(rt: HostRuntime) {
     equal(&rt, shown::<i64>(&rt, alloc, "1x,"), None);
     equal(&rt, shown::<u32>(&rt, alloc, "+1,"), None);
 }
+
+// Texts, and what Rust's `FromStr` reads them as at `i32`, `i64`, `u32` and `u64`.
+const WHOLE: &[(&str, [&str; 4])] = &[
+    ("0", ["0", "0", "0", "0"]),
+    ("7", ["7", "7", "7", "7"]),
+    ("-0", ["0", "0", "refused", "refused"]),
+    ("007", ["7", "7", "7", "7"]),
+    ("-155", ["-155", "-155", "refused", "refused"]),
+    ("+5", ["5", "5", "5", "5"]),
+    ("", ["refused", "refused", "refused", "refused"]),
+    ("-", ["refused", "refused", "refused", "refused"]),
+    ("+", ["refused", "refused", "refused", "refused"]),
+    ("-+1", ["refused", "refused", "refused", "refused"]),
+    ("1-", ["refused", "refused", "refused", "refused"]),
+    ("1.0", ["refused", "refused", "refused", "refused"]),
+    ("1a", ["refused", "refused", "refused", "refused"]),
+    ("a1", ["refused", "refused", "refused", "refused"]),
+    (":", ["refused", "refused", "refused", "refused"]),
+    ("/5", ["refused", "refused", "refused", "refused"]),
+    ("99999999", ["99999999", "99999999", "99999999", "99999999"]),
+    (
+        "999999999",
+        ["999999999", "999999999", "999999999", "999999999"],
+    ),
+    (
+        "1000000000",
+        ["1000000000", "1000000000", "1000000000", "1000000000"],
+    ),
+    (
+        "-99999999",
+        ["-99999999", "-99999999", "refused", "refused"],
+    ),
+    (
+        "-999999999",
+        ["-999999999", "-999999999", "refused", "refused"],
+    ),
+    (
+        "2147483647",
+        ["2147483647", "2147483647", "2147483647", "2147483647"],
+    ),
+    (
+        "2147483648",
+        ["refused", "2147483648", "2147483648", "2147483648"],
+    ),
+    (
+        "-2147483648",
+        ["-2147483648", "-2147483648", "refused", "refused"],
+    ),
+    (
+        "-2147483649",
+        ["refused", "-2147483649", "refused", "refused"],
+    ),
+    ("00000000007", ["7", "7", "7", "7"]),
+    (
+        "4294967295",
+        ["refused", "4294967295", "4294967295", "4294967295"],
+    ),
+    (
+        "4294967296",
+        ["refused", "4294967296", "refused", "4294967296"],
+    ),
+    (
+        "99999999999999999",
+        [
+            "refused",
+            "99999999999999999",
+            "refused",
+            "99999999999999999",
+        ],
+    ),
+    (
+        "999999999999999999",
+        [
+            "refused",
+            "999999999999999999",
+            "refused",
+            "999999999999999999",
+        ],
+    ),
+    (
+        "-99999999999999999",
+        ["refused", "-99999999999999999", "refused", "refused"],
+    ),
+    (
+        "-999999999999999999",
+        ["refused", "-999999999999999999", "refused", "refused"],
+    ),
+    (
+        "1000000000000000000",
+        [
+            "refused",
+            "1000000000000000000",
+            "refused",
+            "1000000000000000000",
+        ],
+    ),
+    ("000000000000000000", ["0", "0", "0", "0"]),
+    ("0000000000000000001", ["1", "1", "1", "1"]),
+    (
+        "9223372036854775807",
+        [
+            "refused",
+            "9223372036854775807",
+            "refused",
+            "9223372036854775807",
+        ],
+    ),
+    (
+        "9223372036854775808",
+        ["refused", "refused", "refused", "9223372036854775808"],
+    ),
+    (
+        "-9223372036854775808",
+        ["refused", "-9223372036854775808", "refused", "refused"],
+    ),
+    (
+        "-9223372036854775809",
+        ["refused", "refused", "refused", "refused"],
+    ),
+    (
+        "18446744073709551615",
+        ["refused", "refused", "refused", "18446744073709551615"],
+    ),
+    (
+        "18446744073709551616",
+        ["refused", "refused", "refused", "refused"],
+    ),
+];
+
+#[test]
+fn whole_texts(rt: HostRuntime) {
+    let alloc = rt.alloc();
+    for &(text, [i, l, u, w]) in WHOLE {
+        prints::<i32>(&rt, alloc, text, i);
+        prints::<i64>(&rt, alloc, text, l);
+        prints::<u32>(&rt, alloc, text, u);
+        prints::<u64>(&rt, alloc, text, w);
+    }
+}
