@@ -1,5 +1,5 @@
 -- Lexemes that are looked at: where a message is asked for, kind words in bytes, and marks. Only private contracts cite this file.
-use Rattle.std.specs.Prelude.{◌≡◌, ℕ, List, [], Option, Some, None, false, Bool, true, ◌≢◌, get_or}
+use Rattle.std.specs.Prelude.{◌≡◌, ℕ, List, [], Option, Some, None, false, Bool, true, ◌≢◌, get_or, codes}
 use Rattle.wkt_num.specs.Bytes.{Lexeme, Open, Word, Run, AllRun, class_of}
 use Rattle.wkt_num.specs.Bytes as lex
 use Rattle.wkt_events.specs.Remaining.{remaining_spanned, TakesOne}
@@ -50,7 +50,7 @@ is_mark next.Opening seen.Open = true
 is_mark next.Opening seen.Empty = true
 is_mark s k = false
 
--- Kind words in bytes, each with the parenthesis behind it. Only private contracts cite this file.
+-- Kind words in bytes, each with the parenthesis or EMPTY behind it. Only private contracts cite this file.
 
 -- A word that names the kind of a part, without a dimension.
 pub record IsKindName (part : Part) (word : List ℕ) : Type 0 where
@@ -61,15 +61,28 @@ pub record IsKindName (part : Part) (word : List ℕ) : Type 0 where
   pub letters : AllRun word
   pub begins : starts_number (get_or word 0 0) ≡ false
 
--- A run ends there, and behind it the parenthesis, which ends at `end`.
-pub record EndsWord (feed : Bool) (text : List ℕ) (at end : ℕ) : Type 0 where
-  pub stops : class_of (get_or text at 0) ≢ Run
-  pub opens : TakesOne feed text at Open end
+-- what stands behind a kind word: EMPTY, or the parenthesis
+abbrev pub behind_word : Bool → Lexeme
+behind_word true = lex.Word (codes "EMPTY")
+behind_word false = Open
 
--- Such a word stands there, and the parenthesis behind it.
-pub record StandsHead (feed : Bool) (text : List ℕ) (at : ℕ) (part : Part) (end : ℕ) : Type 0 where
+-- A run ends there, and behind it such a lexeme, which ends at `end`.
+pub record EndsWord (feed : Bool) (text : List ℕ) (at : ℕ) (behind : Lexeme) (end : ℕ) : Type 0 where
+  pub stops : class_of (get_or text at 0) ≢ Run
+  pub follows : TakesOne feed text at behind end
+
+-- Such a word stands there, and such a lexeme behind it.
+pub record StandsBefore (feed : Bool) (text : List ℕ) (at : ℕ) (behind : Lexeme) (part : Part) (end : ℕ) : Type 0 where
   pub word : List ℕ
   pub mid : ℕ
   pub name : IsKindName part word
   pub takes : TakesOne feed text at (Word word) mid
-  pub opens : TakesOne feed text mid Open end
+  pub follows : TakesOne feed text mid behind end
+
+-- Such a word stands there, and the parenthesis behind it.
+abbrev pub StandsHead : Bool → List ℕ → ℕ → Part → ℕ → Type 0
+StandsHead feed text at part end = StandsBefore feed text at Open part end
+
+-- Such a word stands there, and EMPTY behind it.
+abbrev pub StandsEmpty : Bool → List ℕ → ℕ → Part → ℕ → Type 0
+StandsEmpty feed text at part end = StandsBefore feed text at (lex.Word (codes "EMPTY")) part end

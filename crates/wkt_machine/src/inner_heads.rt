@@ -5,7 +5,7 @@ ghost use Rattle.std.specs.Prelude.{◌≡◌, ◌≤◌, ◌+◌, length, take,
 ghost use Rattle.wkt_events.specs.Remaining.{Legible, remaining_spanned};
 ghost use Rattle.wkt_machine.specs.View.{bytes_view, IsBetween};
 ghost use Rattle.wkt_machine.specs.Goes.{Goes, Refuses};
-ghost use Rattle.wkt_machine.specs.LexemesAhead.{IsKindName, StandsHead};
+ghost use Rattle.wkt_machine.specs.LexemesAhead.{behind_word, IsKindName, StandsBefore, StandsHead};
 ghost use Rattle.wkt_machine.specs.Room.{HasRoom, RoomAt};
 ghost use Rattle.wkt_machine.specs.declared.machine.State.TheVariants as next;
 ghost use Rattle.wkt_machine.specs.declared.part.Part.TheVariants as part_of;
@@ -15,8 +15,8 @@ use crate::builder::Builder;
 use crate::bytes::Bytes;
 use crate::coordinates::coordinates;
 use crate::heads::{
-    GEOMETRY, LINESTRI, LONGEST_HEAD, MULTILIN, MULTIPOI, MULTIPOL, eight_bytes, inside_of, named,
-    opened, opens_behind, point_head,
+    Found, GEOMETRY, LINESTRI, LONGEST_HEAD, MULTILIN, MULTIPOI, MULTIPOL, behind, eight_bytes,
+    emptied, empty_point, inside_of, named, opened, opens_behind, point_head,
 };
 use crate::machine::{Machine, State};
 use crate::part::Part;
@@ -94,32 +94,32 @@ fn many_header<'a, T: WktNum, B: Builder<T>, const FEED_ENDS: bool>(
     ensures refused { IfErr result (Refuses T.read (bytes_view FEED_ENDS) B.maker machine source.entry builder) }
 {
     let text = source.text;
-    if let Some((part, end)) = long_head::<10, FEED_ENDS>(
+    if let Some(head) = long_head::<10, FEED_ENDS>(
         Part::MultiPoint,
         b"MULTIPOINT",
         MULTIPOI,
         text,
         at,
     ) {
-        return Ok(inside_of::<T, B, FEED_ENDS>(part, at, end, machine, source, builder));
+        return Ok(behind::<T, B, FEED_ENDS>(head, at, machine, source, builder));
     }
-    if let Some((part, end)) = long_head::<12, FEED_ENDS>(
+    if let Some(head) = long_head::<12, FEED_ENDS>(
         Part::MultiPolygon,
         b"MULTIPOLYGON",
         MULTIPOL,
         text,
         at,
     ) {
-        return Ok(inside_of::<T, B, FEED_ENDS>(part, at, end, machine, source, builder));
+        return Ok(behind::<T, B, FEED_ENDS>(head, at, machine, source, builder));
     }
-    if let Some((part, end)) = long_head::<15, FEED_ENDS>(
+    if let Some(head) = long_head::<15, FEED_ENDS>(
         Part::MultiLineString,
         b"MULTILINESTRING",
         MULTILIN,
         text,
         at,
     ) {
-        return Ok(inside_of::<T, B, FEED_ENDS>(part, at, end, machine, source, builder));
+        return Ok(behind::<T, B, FEED_ENDS>(head, at, machine, source, builder));
     }
     one_header::<T, B, FEED_ENDS>(at, machine, source, builder)
 }
@@ -154,17 +154,20 @@ fn one_header<'a, T: WktNum, B: Builder<T>, const FEED_ENDS: bool>(
         } = opened::<T, B, FEED_ENDS>(Part::Point, at, end, machine, within, source, builder);
         return coordinates::<T, B, FEED_ENDS>(begun, behind, made);
     }
-    if let Some((part, end)) = long_head::<10, FEED_ENDS>(
+    if let Some(end) = empty_point::<FEED_ENDS>(text, at) {
+        return Ok(emptied::<T, B, FEED_ENDS>(Part::Point, at, end, machine, source, builder));
+    }
+    if let Some(head) = long_head::<10, FEED_ENDS>(
         Part::LineString,
         b"LINESTRING",
         LINESTRI,
         text,
         at,
     ) {
-        return Ok(inside_of::<T, B, FEED_ENDS>(part, at, end, machine, source, builder));
+        return Ok(behind::<T, B, FEED_ENDS>(head, at, machine, source, builder));
     }
-    if let Some((part, end)) = polygon_head::<FEED_ENDS>(text, at) {
-        return Ok(inside_of::<T, B, FEED_ENDS>(part, at, end, machine, source, builder));
+    if let Some(head) = polygon_head::<FEED_ENDS>(text, at) {
+        return Ok(behind::<T, B, FEED_ENDS>(head, at, machine, source, builder));
     }
     machine.step(source, builder)
 }
@@ -178,13 +181,13 @@ fn long_head<const N: usize, const FEED_ENDS: bool>(
     eight: u64,
     text: &[u8],
     at: usize,
-) -> Option<(Part, usize)>
+) -> Option<Found>
     requires name { IsKindName part word.now }
     requires eight { to_le_bytes w64 eight ≡ take 8 word.now }
     requires long { 8 ≤ N }
     requires short { N ≤ 18 }
     requires inside { at ≤ length text.now }
-    ensures { IfSome result (λ h. StandsHead FEED_ENDS text.now at h.0 h.1) }
+    ensures { IfSome result (λ h. StandsBefore FEED_ENDS text.now at (behind_word h.is_empty) h.part h.end) }
 {
     if text.len() - at < LONGEST_HEAD {
         return None;
@@ -197,9 +200,9 @@ fn long_head<const N: usize, const FEED_ENDS: bool>(
 
 /// The head of a polygon. `None` doesn't imply that none stands there.
 #[inline(always)]
-fn polygon_head<const FEED_ENDS: bool>(text: &[u8], at: usize) -> Option<(Part, usize)>
+fn polygon_head<const FEED_ENDS: bool>(text: &[u8], at: usize) -> Option<Found>
     requires { at ≤ length text.now }
-    ensures { IfSome result (λ h. StandsHead FEED_ENDS text.now at h.0 h.1) }
+    ensures { IfSome result (λ h. StandsBefore FEED_ENDS text.now at (behind_word h.is_empty) h.part h.end) }
 {
     if text.len() - at < LONGEST_HEAD {
         return None;

@@ -4,7 +4,7 @@ use std::process::Abort;
 use wkt_num::Decimal;
 
 // What each text is; nothing where no beginning of it is a geometry.
-const FRONTS: [(&str, Option<usize>); 29] = [
+const FRONTS: [(&str, Option<usize>); 37] = [
     ("POINT(1 2)", Some(10)),
     ("point z ( 1 2.50 -3 ) and more", Some(21)),
     ("POINT EMPTY", Some(11)),
@@ -39,6 +39,17 @@ const FRONTS: [(&str, Option<usize>); 29] = [
     ("LINESTRINGS(1 2,3 4) is no kind", None),
     ("POLYGON ZM((1 2 3)) lacks a number", None),
     ("POINT(1 2,3 4) has a point more", None),
+    ("POINT EMPTY, POINT EMPTY", Some(11)),
+    ("POINT EMPTYX", None),
+    ("POINT EMPT", None),
+    ("LINESTRING EMPTY and more", Some(16)),
+    ("MULTIPOLYGON EMPTY\n, and more", Some(18)),
+    ("MULTILINESTRING EMPTY(1 2)", Some(21)),
+    ("GEOMETRYCOLLECTION(POINT EMPTY,LINESTRING EMPTY)", Some(48)),
+    (
+        "GEOMETRYCOLLECTION(POLYGON EMPTY,MULTIPOINT EMPTY)) and more",
+        Some(50),
+    ),
     ("", None),
 ];
 
