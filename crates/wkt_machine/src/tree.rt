@@ -162,7 +162,7 @@ impl<T: WktNum> Tree<T> {
     }
 
     /// A point of a multipoint ends.
-    #[inline(always)]
+    #[inline(never)]
     fn end_point(&mut self)
         ensures { Becomes true HasPoint with_point self.old self.new }
     {
@@ -184,7 +184,7 @@ impl<T: WktNum> Tree<T> {
     }
 
     /// A polygon of a multipolygon ends.
-    #[inline(always)]
+    #[inline(never)]
     fn end_area(&mut self)
         ensures { Becomes true (λ w. w.grown ≡ None) (ended kind.Area) self.old self.new }
     {
@@ -336,7 +336,7 @@ impl<T: WktNum> Tree<T> {
     }
 
     /// A part without items.
-    #[inline(always)]
+    #[inline(never)]
     fn put_empty(&mut self, part: Part)
         ensures { Becomes (lists_end part) (MayBeEmpty part) (λ w. ended part (without_items part w)) self.old self.new }
     {

@@ -1,5 +1,5 @@
 -- Each way goes on from the one before.
-use Rattle.std.proofs.Common.{◌+◌, ◌++◌, ◌∙◌, ℕ, List, Option, ap, sym, arith, rules, IfErr}
+use Rattle.std.proofs.Common.{◌++◌, ◌∙◌, ℕ, List, Option, ap, sym, arith, rules, IfErr}
 use Rattle.std.proofs.Math.Nat.{le_refl}
 use Rattle.std.proofs.lemmas.Bool.{OnTrue_at}
 use Rattle.wkt_machine.specs.Goes.{Refuses, Stays, Leads}
