@@ -7,4 +7,4 @@ mod bytes;
 mod reading;
 
 pub use bytes::{byte_at, run_end, skip_white};
-pub use reading::{begins_number, number_end, number_there};
+pub use reading::{begins_number, number_there};

@@ -1,29 +1,10 @@
 //! Numbers as values.
 ghost use Rattle.std.specs.Prelude.{◌≡◌, ◌≤◌, ◌+◌, length, slice_index, slice_range, IfSome, IfNone, IsUtf8};
 ghost use Rattle.wkt_read.specs.Lexemes.{starts_number};
-ghost use Rattle.wkt_events.specs.Remaining.{IsNumberAt, EndsNumber, NoNumber, plus_len};
+ghost use Rattle.wkt_events.specs.Remaining.{IsNumberAt, NoNumber, plus_len};
 
 use crate::bytes::{is_ascii_fast, run_end};
 use wkt_num::WktNum;
-
-/// Where the number ends that stands there.
-#[inline(always)]
-pub fn number_end<T: WktNum>(text: &[u8], at: usize) -> Option<usize>
-    requires { at ≤ length text.now }
-    ensures some { IfSome result (λ end. EndsNumber T.read text.now at end) }
-    ensures none { IfNone result (NoNumber T.read text.now at) }
-{
-    let rest = &text[at..];
-    if rest.len() >= 32 {
-        if let Some((end, _)) = T::canonical_prefix_simd(rest) {
-            return Some(at + end);
-        }
-    }
-    match number_there::<T>(text, at) {
-        Some((_, end)) => Some(end),
-        None => None,
-    }
-}
 
 /// The number that stands there, in any form, and its end.
 #[inline(always)]

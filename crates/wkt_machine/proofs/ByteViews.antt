@@ -19,7 +19,7 @@ use Rattle.wkt_machine.specs.declared.bytes.Bytes.{Bytes}
 use Rattle.wkt_machine.specs.declared.machine.Seen.{Seen}
 use Rattle.wkt_machine.specs.declared.part.Axis.{Axis}
 use Rattle.wkt_machine.specs.declared.machine.Seen.TheVariants as seen
-use Rattle.wkt_num.specs.Number.{BeginsNumber, StopsRun, IsNumberText}
+use Rattle.wkt_num.specs.Number.{BeginsNumber, KeepsText, StopsRun, IsNumberText}
 
 -- the bytes of marks
 pub open_mark : class_of 40 ≡ Mark Open
@@ -311,6 +311,15 @@ module _ {T : Type 0} (read : List ℕ → Option T) where
           reads = b.reads;
           text = refl;
         })
+
+-- A number that keeps its text in a window begins there.
+pub keeps_begins : {T : Type 0} (read : List ℕ → Option T) (num : T → List ℕ) (bs : List ℕ) (end kept : ℕ) (k : KeepsText read num bs end kept) → BeginsNumber read bs k.number end
+keeps_begins read num bs end kept k = record {
+  within = k.within;
+  run = k.run;
+  stops = k.stops;
+  reads = k.reads;
+}
 
 pub ruleset nul_behind = nul-behind
 

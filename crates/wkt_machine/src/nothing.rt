@@ -1,9 +1,9 @@
 //! Nothing is made.
 
 use crate::builder::Builder;
+use crate::numbers::end_at;
 use crate::part::{Axis, Part};
 use wkt_access::Dimension;
-use wkt_events::number_end;
 use wkt_num::WktNum;
 
 /// Keeps nothing of what comes.
@@ -47,6 +47,6 @@ impl<T: WktNum> Builder<T> for Nothing {
 
     #[inline(always)]
     fn number_in(self, text: &[u8], at: usize, _axis: Axis) -> (Self, Option<usize>) {
-        (self, number_end::<T>(text, at))
+        (self, end_at::<T>(text, at))
     }
 }

@@ -1,6 +1,6 @@
 //! Numbers in bytes.
 ghost use Rattle.std.specs.Prelude.{◌≡◌, ◌<◌, ◌≤◌, ℕ, length, slice_index_or, take, IfSome, IfNone};
-ghost use Rattle.wkt_events.specs.Remaining.{IsNumberAt, NoNumber};
+ghost use Rattle.wkt_events.specs.Remaining.{IsNumberAt, EndsNumber, NoNumber};
 
 use wkt_events::{byte_at, number_there};
 use wkt_num::WktNum;
@@ -54,6 +54,47 @@ fn slow_read_outlined<T: WktNum>(text: &[u8], at: usize) -> Option<(T, usize)>
         }
     }
     number_there(text, at)
+}
+
+/// Where the number ends that stands there, whose value isn't asked for.
+#[inline(always)]
+pub(crate) fn end_at<T: WktNum>(text: &[u8], at: usize) -> Option<usize>
+    requires { at ≤ length text.now }
+    ensures some { IfSome result (λ end. EndsNumber T.read text.now at end) }
+    ensures none { IfNone result (NoNumber T.read text.now at) }
+{
+    let rest = &text[at..];
+    if rest.len() >= NUMBER_WINDOW {
+        if let Some((end, _)) = T::canonical_prefix_simd(rest) {
+            return Some(at + end);
+        }
+    }
+    slow_end::<T>(text, at)
+}
+
+/// The slow path, for a number that no window shows as it is printed.
+#[inline(never)]
+fn slow_end<T: WktNum>(text: &[u8], at: usize) -> Option<usize>
+    requires { at ≤ length text.now }
+    ensures some { IfSome result (λ end. EndsNumber T.read text.now at end) }
+    ensures none { IfNone result (NoNumber T.read text.now at) }
+{
+    // No number stands where a parenthesis closes.
+    if byte_at(text, at) == b')' {
+        return None;
+    }
+    let rest = &text[at..];
+    if rest.len() < NUMBER_WINDOW {
+        let mut window = [0; NUMBER_WINDOW];
+        pad(&mut window, rest);
+        if let Some((end, _)) = T::canonical_prefix_simd(&window) {
+            return Some(at + end);
+        }
+    }
+    match number_there::<T>(text, at) {
+        Some((_, end)) => Some(end),
+        None => None,
+    }
 }
 
 /// Puts fewer bytes than a window has to the front of one. The NULs behind them end a run as the text's end does.

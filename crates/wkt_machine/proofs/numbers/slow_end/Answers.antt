@@ -1,0 +1,19 @@
+-- A number that keeps its text in the window ends where its run does.
+use Rattle.std.proofs.Common.{arith, length, ◌-◌, take, drop, sym, ◌∙◌}
+use Rattle.wkt_machine.proofs.ByteViews.{keeps_begins, none-at-close, padded-shows, shown-there, zero-at}
+use Rattle.wkt_machine.proofs.numbers.slow_end.Goals as goal
+
+pub pad-requires-clause-zeros : goal.pad-requires-clause-zeros
+pad-requires-clause-zeros g c = zero-at 32
+
+pub returns-in-Some-clause-some : goal.returns-in-Some-clause-some
+returns-in-Some-clause-some g c =
+    let k = c.in-Some.ensures.keeps in (
+      k.number,
+      shown-there g.T.WktNum.read c.args.text.now c.args.at c.requires _ _
+          (padded-shows g.T.WktNum.read (take (length c.args.text.now - c.args.at) (drop c.args.at c.args.text.now)) c.pad.new.window _ _ (omega (arith, c.if-rest-lt-NUMBER_WINDOW.true)) c.pad.ensures.front c.pad.ensures.nul
+          (keeps_begins g.T.WktNum.read g.T.WktNum.num _ _ _ k)),
+    )
+
+pub returns-then-byte_at-eq41-clause-none : goal.returns-then-byte_at-eq41-clause-none
+returns-then-byte_at-eq41-clause-none g c = none-at-close g.T.WktNum.read c.args.text.now c.args.at c.requires (sym c.byte_at.ensures.value ∙ c.if-byte_at-eq41.true)
