@@ -1,13 +1,16 @@
 -- Where the machine stops in a text, the text is refused, at that one place. White space byte by byte, and cuts between
 -- characters.
-use Rattle.std.proofs.Common.{◌≡◌, ◌≢◌, ℕ, ◌+◌, ◌≤◌, ◌<◌, List, [], ◌∷◌, ◌++◌, length, drop, get_or, add-one, refl, ap, ◌∙◌, sym, subst, append_assoc, arith, length-append, IsUtf8, IsCharBoundary, Option, inl, inr, append-nil, None, false}
+use Rattle.std.proofs.Common.{◌≡◌, ◌≢◌, ℕ, if◌then◌else◌, slice_range, Some, ◌+◌, ◌≤◌, ◌<◌, List, [], ◌∷◌, ◌++◌, length, drop, get_or, add-one, refl, ap, ◌∙◌, sym, subst, append_assoc, arith, length-append, IsUtf8, IsCharBoundary, Option, inl, inr, append-nil, None, false}
 use Rattle.std.proofs.Math.Seq.{drop-cons}
 use Rattle.std.proofs.Math.ListN.{drop_of_length-le}
 use Rattle.std.proofs.lemmas.Str.{IsCharBoundary-at_seam}
 use Rattle.std.proofs.lemmas.Bool.{cases_eq, cases_lt}
 use Rattle.std.proofs.lemmas.List.{length-drop, drop_all, drop_more, drop_at}
-use Rattle.wkt_num.specs.Bytes.{White, class_of, AllWhite, Lexeme, Mark}
-use Rattle.wkt_read.specs.Lexemes.{StartsOther, Takes, IsSplit}
+use Rattle.wkt_num.specs.Bytes.{White, class_of, AllWhite, Lexeme, Mark, Word, Num}
+use Rattle.wkt_num.proofs.DecimalParts.{first-range}
+use Rattle.wkt_read.specs.Lexemes.{StartsOther, Takes, IsSplit, lexeme_of, starts_number, without_plus}
+use Rattle.wkt_read.specs.Grammar.{kind_word}
+use Rattle.wkt_read.specs.declared.messages.Message.{Message}
 use Rattle.wkt_explain.specs.Problems.{IsPastWhite, EndsFirst, EndsLexeme, IsTold}
 use Rattle.wkt_read.proofs.HeaderPlaces.{past_gap, body_characters}
 use Rattle.wkt_read.proofs.Splits.{prefix, span, spells_first, first_append, first_other, end_other, takes_rest, takes_after, split_one, takes_append}
@@ -18,16 +21,17 @@ use Rattle.wkt_read.specs.Begun.{BegunGeometry, NoneBegins, opens, closes, IsJus
 use Rattle.wkt_read.specs.Spanned.{Spanned, lexemes_of, end_after, AreEnds, spanned}
 use Rattle.wkt_read.specs.Context.{context, IsTurn}
 use Rattle.wkt_read.specs.Refusal.{IsRefusedWith}
-use Rattle.wkt_read.specs.Table.{before_place, reported, IsReportedAt}
+use Rattle.wkt_read.specs.Table.{at_word, before_place, reported, IsReportedAt}
 use Rattle.wkt_read.proofs.Placings.{spanned-split, spanned-ends}
-use Rattle.wkt_events.specs.Remaining.{class_in, remaining, remaining_spanned, IsRunEnd}
-use Rattle.wkt_events.proofs.RemainingLexemes.{takes-mark, takes-run}
+use Rattle.wkt_events.specs.Remaining.{class_in, remaining, remaining_spanned, IsRunEnd, TakesOne}
+use Rattle.wkt_events.proofs.RemainingLexemes.{remaining-all, takes-mark, takes-run}
 use Rattle.wkt_events.proofs.RemainingLexemes as classes
-use Rattle.wkt_machine.specs.View.{IsBetween, IsDark, IsUnmarked}
+use Rattle.wkt_machine.specs.View.{IsBetween, IsDark, IsUnmarked, between_none}
 use Rattle.wkt_machine.specs.Goes.{IsStuck, StopsAt}
-use Rattle.wkt_machine.specs.Machine.{move}
+use Rattle.wkt_machine.specs.Machine.{is_over, kind_step, move, moved}
+use Rattle.wkt_machine.specs.Machine as place
 use Rattle.wkt_machine.specs.Machines.{state_of}
-use Rattle.wkt_machine.specs.Refusing.{own}
+use Rattle.wkt_machine.specs.Refusing.{expected_at, own, refused}
 use Rattle.wkt_machine.specs.declared.machine.Machine.{Machine}
 use Rattle.wkt_machine.proofs.ByteViews.{between_more, none_left}
 use Rattle.wkt_machine.proofs.WaysJoin.{lexemes_append, end_last}
@@ -355,3 +359,55 @@ module _ {N : Type 0} (read : List ℕ → Option N) (text : List ℕ) where
       let (more, is) = taken_begin text t.after (upto start end e t) (taken_upto start end e t) in
       no_front read text (upto start end e t ++ more) is (dead_none read (upto start end e t) more t.dead.dead)
   refused_none start end e (inr t) = no_front read text t.lexemes (split_short start end e t) t.none
+
+-- A text that begins with a word of no kind: the machine stops where it begins.
+
+first_word : (run : List ℕ) → starts_number (get_or run 0 0) ≡ false → lexeme_of run ≡ Word run
+first_word [] h = refl
+first_word (b ∷ bs) h = ap (λ t. if t then Num (without_plus (b ∷ bs)) else Word (b ∷ bs)) h
+
+remaining_is : (text : List ℕ) (ps : List Spanned) → remaining_spanned false text 0 ≡ ps → remaining false text 0 ≡ lexemes_of ps
+unfolding remaining
+remaining_is text ps e = ap lexemes_of e
+
+module _ {N : Type 0} (read : List ℕ → Option N) (text : List ℕ) (begins end : ℕ) (m : Machine) (is : state_of m ≡ place.start) (between : IsBetween false text 0 begins) (ends : IsRunEnd text begins end) (some : end ≢ begins)
+    (letter : starts_number (get_or text begins 0) ≡ false) (none : kind_word (slice_range text begins end) ≡ None) where
+  abbrev word : List ℕ
+  word = slice_range text begins end
+
+  abbrev behind : List Spanned
+  behind = remaining_spanned false text end
+
+  takes : TakesOne false text begins (Word word) end
+  takes =
+      let order = ends.order in
+      let less : begins < end = omega (arith, order, some) in
+      subst (λ l. TakesOne false text begins l end) (first_word word (ap starts_number (first-range text begins end less) ∙ letter)) (takes-run false text begins end ends less)
+
+  comes : remaining_spanned false text 0 ≡ record { lexeme = Word word; end = end } ∷ behind
+  comes = between.same ∙ takes.next
+
+  pub first_stops : StopsAt read text m 0
+  first_stops = record {
+    taken = [];
+    events = [];
+    split = sym (remaining-all text);
+    between = between_none false text 0;
+    inside = omega arith;
+    ran = ap (λ s. Some (s, [])) (sym is);
+    is_open = ap is_over is;
+    stuck = subst (IsStuck read m) (sym comes) (ap (λ s. move read s (Word word)) is ∙ ap (λ o. moved read (kind_step o 0) (Some None)) none);
+  }
+
+  pub first_told : (said : Message) (e : Expected) → begins ≤ length text → IsDark false text begins → e ≡ expected_at (state_of m).place m.depth → said ≡ at_word e word → IsTold read text m 0 (record { message = said; start = begins; end = end; expected = e })
+  first_told said e inside dark expects says = record {
+    between = between;
+    inside = inside;
+    dark = dark;
+    ends = subst (λ ps. EndsFirst ps begins end) (sym takes.next) refl;
+    expected = expects;
+    message =
+        says
+        ∙ ap (λ x. at_word x word) (expects ∙ ap (λ s. expected_at s.place s.depth) is)
+        ∙ sym (ap (λ s. (refused read s (remaining false text 0)).0) is ∙ ap (λ ls. (refused read place.start ls).0) (remaining_is text _ comes));
+  }

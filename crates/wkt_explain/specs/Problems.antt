@@ -15,6 +15,7 @@ use Rattle.wkt_events.specs.Remaining.{remaining, remaining_spanned}
 use Rattle.wkt_machine.specs.View.{IsBetween, IsDark}
 use Rattle.wkt_machine.specs.Refusing.{expected_at, refused}
 use Rattle.wkt_machine.specs.Machines.{state_of}
+use Rattle.wkt_machine.specs.Goes.{StopsAt}
 use Rattle.wkt_machine.specs.declared.machine.Machine.{Machine}
 
 -- White space, whether a text is accepted, and what follows its geometry.
@@ -76,3 +77,7 @@ pub record IsTold {N : Type 0} (read : List ℕ → Option N) (text : List ℕ) 
   pub ends : EndsLexeme text r.start r.end
   pub expected : r.expected ≡ expected_at (state_of m).place m.depth
   pub message : r.message ≡ (refused read (state_of m) (remaining false text at)).0
+
+-- The machine stops where it begins, and the refusal tells of that.
+abbrev pub IsToldFirst : {N : Type 0} → (List ℕ → Option N) → List ℕ → Refusal → Type 0
+IsToldFirst read text r = (m : Machine) × StopsAt read text m 0 × IsTold read text m 0 r

@@ -1,20 +1,21 @@
 //! The machine over a text, and where it stops.
-ghost use Rattle.std.specs.Prelude.{◌≤◌, length, IfOk, IfErr, OnErr, false};
+ghost use Rattle.std.specs.Prelude.{◌≤◌, length, IfOk, IfErr, IfSome, OnErr, false};
 ghost use Rattle.wkt_read.specs.Front.{HasNoFront};
 ghost use Rattle.wkt_read.specs.Refusal.{IsRefusedWith};
 ghost use Rattle.wkt_read.specs.Explained.{EndsFront, IsRefusedAt, IsPart};
 ghost use Rattle.wkt_read.specs.Table.{IsReportedAt};
-ghost use Rattle.wkt_explain.specs.Problems.{IsPastWhite, EndsLexeme, IsTold};
+ghost use Rattle.wkt_explain.specs.Problems.{IsPastWhite, EndsLexeme, IsTold, IsToldFirst};
 ghost use Rattle.wkt_events.specs.Remaining.{remaining_spanned};
 ghost use Rattle.wkt_machine.specs.View.{IsDark};
 ghost use Rattle.wkt_machine.specs.Goes.{IsStuck, StopsAt};
 
 use crate::explanation::Refusal;
-use wkt_events::{byte_at, run_end, skip_white};
+use wkt_events::{begins_number, byte_at, run_end, skip_white};
 use wkt_machine::drive::drive;
 use wkt_machine::{Bytes, Machine, Nothing, message_at};
 use wkt_num::WktNum;
-use wkt_read::words::is_white;
+use wkt_read::table::at_word;
+use wkt_read::words::{is_white, kind_in};
 
 /// The first place from here on where no white space stands.
 pub(crate) fn past_white(text: &[u8], from: usize) -> usize
@@ -81,6 +82,40 @@ pub(crate) fn driven<T: WktNum>(text: &str) -> Result<usize, (Machine, usize)>
     }
 }
 
+/// Whether a byte may begin a kind's word. It is a guess: `false` of most letters that don't.
+#[inline(always)]
+fn may_begin(byte: u8) -> bool {
+    !byte.is_ascii_alphabetic() || matches!(byte | 32, b'g' | b'l' | b'm' | b'p')
+}
+
+/// The refusal of a text that begins with a word of no kind, if its first letter shows that: then nothing is made of the
+/// text. `None` implies nothing.
+#[inline(always)]
+fn refused_first<T: WktNum>(text: &str) -> Option<Refusal>
+    ensures { IfSome result (λ r. IsToldFirst T.read text.now r) }
+{
+    let bytes = text.as_bytes();
+    if may_begin(byte_at(bytes, 0)) {
+        return None;
+    }
+    let start = skip_white::<false>(bytes, 0);
+    let end = run_end(bytes, start);
+    if end == start || begins_number(bytes[start]) {
+        return None;
+    }
+    let word = &bytes[start..end];
+    let None = kind_in(word) else {
+        return None;
+    };
+    let expected = Machine::start().expected();
+    Some(Refusal {
+        message: at_word(expected, word),
+        start,
+        end,
+        expected,
+    })
+}
+
 /// Where the geometry ends that the text begins with, or where the text is refused.
 pub(crate) fn walked<T: WktNum>(text: &str) -> Result<usize, Refusal>
     ensures front { IfOk result (λ end. EndsFront T.read text.now end) }
@@ -91,6 +126,9 @@ pub(crate) fn walked<T: WktNum>(text: &str) -> Result<usize, Refusal>
     ensures message { IfErr result (λ r. IsRefusedWith T.read text.now r.message) }
     ensures table { IfErr result (λ r. IsReportedAt T.read text.now r.start r.end r.expected r.message) }
 {
+    if let Some(why) = refused_first::<T>(text) {
+        return Err(why);
+    }
     match driven::<T>(text) {
         Ok(end) => Ok(end),
         Err((machine, at)) => Err(refusal_at::<T>(machine, text, at)),
