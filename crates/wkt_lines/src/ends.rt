@@ -1,8 +1,9 @@
 //! Where lines end.
 ghost use Rattle.std.specs.Prelude.{◌≡◌, ◌≤◌, ◌+◌, ◌==◌, not, length, take, drop};
+ghost use Rattle.std.specs.Bool.{OnTrue};
 ghost use Rattle.std.specs.List.{prefix_len};
 ghost use Rattle.std.specs.Simd.Lanes.{chunk};
-ghost use Rattle.wkt_lines.specs.Lines.{before_feed, after_feed, EndsTextIfAny};
+ghost use Rattle.wkt_lines.specs.Lines.{before_feed, after_feed, EndsText, EndsTextIfAny};
 
 use std::simd::prelude::*;
 use wkt_events::byte_at;
@@ -47,21 +48,22 @@ fn feed_in(rest: &[u8], at: usize) -> usize
     }
 }
 
-/// Where the first line ends, if what it has from `from` on is UTF-8.
+/// Whether the first line ends there.
 #[inline(always)]
-pub fn text_end(rest: &[u8], from: usize) -> Option<usize>
-    requires inside { from ≤ length rest.now }
-    requires line { from ≤ length (before_feed rest.now) }
-    ensures { EndsTextIfAny rest.now from result }
+pub fn ends_there(rest: &[u8], at: usize) -> bool
+    requires inside { at ≤ length rest.now }
+    requires line { at ≤ length (before_feed rest.now) }
+    ensures { OnTrue result (EndsText rest.now at at) }
 {
-    if byte_at(rest, from) == b'\n' {
-        return Some(from);
+    if byte_at(rest, at) == b'\n' {
+        return true;
     }
-    text_end_behind(rest, from)
+    false
 }
 
+/// Where the first line ends, if what it has from `from` on is UTF-8.
 #[inline(never)]
-fn text_end_behind(rest: &[u8], from: usize) -> Option<usize>
+pub fn text_end(rest: &[u8], from: usize) -> Option<usize>
     requires inside { from ≤ length rest.now }
     requires line { from ≤ length (before_feed rest.now) }
     ensures { EndsTextIfAny rest.now from result }

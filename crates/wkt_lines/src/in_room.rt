@@ -3,7 +3,7 @@ ghost use Rattle.std.specs.Prelude.{◌≡◌, ◌+◌, ◌*◌, ◌≤◌, ◌+
 ghost use Rattle.wkt_lines.specs.First.{AnswersIfRoom, TestsFrom, IfAnswered};
 ghost use Rattle.wkt_lines.specs.Lines.{before_feed, after_feed};
 
-use crate::ends::{line_end, text_end};
+use crate::ends::{ends_there, line_end, text_end};
 use wkt_canonical::{NoRoom, write_front};
 use wkt_num::WktNum;
 
@@ -31,16 +31,27 @@ pub fn answer_line<T: WktNum>(rest: &[u8], out: &mut [u8], len: usize) -> Result
     ensures within { IfAnswered result (λ a. a.taken ≤ length rest.now + 1) }
 {
     match write_front::<T, true>(rest, out, len) {
-        Ok(Some((end, n))) => match text_end(rest, tests_from::<T>(end)) {
-            Some(line) => {
+        Ok(Some((end, n))) => {
+            let from = tests_from::<T>(end);
+            // Most lines end there. They are answered here, so that no `Option` is made for them.
+            if ends_there(rest, from) {
                 out[n] = b'\n';
-                Ok(Answer {
-                    taken: line + 1,
+                return Ok(Answer {
+                    taken: from + 1,
                     len: n + 1,
-                })
+                });
             }
-            None => Ok(refuse(rest, out, len)),
-        },
+            match text_end(rest, from) {
+                Some(line) => {
+                    out[n] = b'\n';
+                    Ok(Answer {
+                        taken: line + 1,
+                        len: n + 1,
+                    })
+                }
+                None => Ok(refuse(rest, out, len)),
+            }
+        }
         Ok(None) => Ok(refuse(rest, out, len)),
         Err(NoRoom) => Err(NoRoom),
     }
