@@ -48,7 +48,7 @@ pub(crate) fn canonical(
 
 /// Answers a text that isn't short with the canonical text of what it begins with.
 ///
-/// Where short texts are told from long ones nothing is needed in memory then, so that the call goes straight on.
+/// It isn't inlined, so that the function that chooses between short and long texts needs no stack frame.
 #[inline(never)]
 fn canonical_long(
     alloc: Global,

@@ -37,7 +37,7 @@ pub fn count_members<C: GeometryCollectionTrait>(collection: &C) -> usize
     collection.num_geometries()
 }
 
-/// Writes the members of a collection, each on a line of its own.
+/// Writes the members of a collection, one a line.
 ///
 /// # Errors
 /// The error of the first member that has one: the members before it are written then, and nothing of it.
