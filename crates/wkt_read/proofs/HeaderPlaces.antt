@@ -165,7 +165,7 @@ other-length word run h = by_test (bytes_eq run word) refl
     by_test true e = absurd (h (ap length ((bytes_eq-Decides run word).0 e)))
     by_test false e = e
 
-upper-length : (run : List ℕ) → length (str_to_ascii_uppercase run) ≡ length run
+pub upper-length : (run : List ℕ) → length (str_to_ascii_uppercase run) ≡ length run
 upper-length run = length-map run to_ascii_uppercase
 
 pub empty-word : (run : List ℕ) → length run ≡ 5 → begins (codes "EMPTY") (str_to_ascii_uppercase run) ≡ is_empty_word run

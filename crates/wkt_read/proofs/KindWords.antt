@@ -1,6 +1,12 @@
 -- Kind words, alone and with the letters of a dimension, and the words EMPTY, Z, M and ZM.
-use Rattle.std.proofs.Common.{◌≡◌, ℕ, List, [], ◌∷◌, ◌++◌, length, drop, refl, sym, ap, ◌∙◌, subst, Bool, true, false, cond, ◌&&◌, ◌==◌, nat_eq, Option, Some, None, codes, eqb-true, eq-eqb, arith, inl, inr}
+use Rattle.std.proofs.Common.{◌≡◌, ℕ, List, [], ◌∷◌, ◌++◌, length, drop, refl, sym, ap, ◌∙◌, subst, Bool, true, false, cond, ◌&&◌, ◌==◌, nat_eq, Option, Some, None, codes, eqb-true, eq-eqb, arith, inl, inr, take, get_or, length-append, ◌-◌, ◌+◌, ◌<◌, ◌≤◌, nat_le, append_assoc}
 use Rattle.std.specs.Prelude.{◌⊎◌}
+use Rattle.std.specs.List.{AllByRecursion}
+use Rattle.std.specs.Char.{to_ascii_uppercase}
+use Rattle.std.proofs.lemmas.Bool.{cases_lt, ne_eqb, lt-leb}
+use Rattle.std.proofs.lemmas.List.{take-map, drop-map, take-append-drop}
+use Rattle.std.proofs.Math.Seq.{take-append-add}
+use Rattle.std.proofs.lemmas.Str.Ascii.{uppercase_is}
 use Rattle.std.specs.Str.{bytes_eq, str_to_ascii_uppercase}
 use Rattle.std.proofs.lemmas.Slice.Eq.{bytes_eq-Decides}
 use Rattle.wkt_access.specs.declared.dimensions.Dimension.{Dimension}
@@ -8,7 +14,11 @@ use Rattle.wkt_access.specs.declared.dimensions.Dimension.TheVariants.{XYZ, XYM,
 use Rattle.wkt_types.specs.declared.geometry_type.GeometryType.{GeometryType}
 use Rattle.wkt_read.specs.Grammar.{KindWord, kind_words, entry_in, dim_in, kind_word, dim_word, is_empty_word}
 use Rattle.wkt_read.specs.Header.{begins, named_in}
-use Rattle.wkt_read.specs.Stream.{Names}
+use Rattle.wkt_read.specs.Stream.{Names, IsCapital, BeginsWith}
+use Rattle.wkt_read.specs.Lexemes.{starts_number}
+use Rattle.wkt_num.specs.Bytes.{AllRun}
+use Rattle.wkt_read.proofs.Placings.{late-run}
+use Rattle.wkt_read.proofs.HeaderPlaces.{upper-length}
 use Rattle.wkt_types.specs.declared.geometry_type.GeometryType.TheVariants as kind
 
 -- A kind word is one that stands alone and the letters of a dimension or none after it.
@@ -109,36 +119,37 @@ geometrycollection : (r : List ℕ) → Says kind.GeometryCollection r (codes "G
 unfolding kind_words
 geometrycollection r = four (bytes_eq r []) (bytes_eq r (codes "Z")) (bytes_eq r (codes "M")) (bytes_eq r (codes "ZM")) kind.GeometryCollection _ _ _ _ refl refl refl refl refl refl refl refl
 
-here : (w u : List ℕ) (j k : GeometryType) (r : List ℕ) → (u ≡ w ++ r) × (j ≡ k) → Says j r (w ++ r) → Says k r u
-here w u j k r p n = subst (Says k r) (sym p.0) (subst (λ x. Says x r (w ++ r)) p.1 n)
+-- A header begins with a word of the table, and something is known of each.
+abbrev Begun : (GeometryType → List ℕ → Type 0) → GeometryType → List ℕ → List ℕ → Type 0
+Begun P k r u = (w : List ℕ) × (u ≡ w ++ r) × P k w
 
--- the header's word and the letters after it are what the table says of the whole word
-pub some-named : (u : List ℕ) (k : GeometryType) (r : List ℕ) → named_in kind_words u ≡ Some (k, r) → Says k r u
+by-word : (P : GeometryType → List ℕ → Type 0) → P kind.Point (codes "POINT") → P kind.LineString (codes "LINESTRING") → P kind.LineString (codes "LINEARRING") → P kind.Polygon (codes "POLYGON") → P kind.MultiPoint (codes "MULTIPOINT") → P kind.MultiLineString (codes "MULTILINESTRING") → P kind.MultiPolygon (codes "MULTIPOLYGON") → P kind.GeometryCollection (codes "GEOMETRYCOLLECTION")
+    → (u : List ℕ) (k : GeometryType) (r : List ℕ) → named_in kind_words u ≡ Some (k, r) → Begun P k r u
 unfolding kind_words
-some-named u k r e =
+by-word P point linestring linearring polygon multipoint multilinestring multipolygon geometrycollection u k r e =
     elim (found (codes "POINT") u kind.Point k r _ e) [
-      | inl p ↦ here (codes "POINT") u kind.Point k r p (point r)
+      | inl p ↦ (codes "POINT", p.0, subst (λ k. P k (codes "POINT")) p.1 point)
       | inr e1 ↦
           elim (found (codes "LINESTRING") u kind.LineString k r _ e1) [
-            | inl p ↦ here (codes "LINESTRING") u kind.LineString k r p (linestring r)
+            | inl p ↦ (codes "LINESTRING", p.0, subst (λ k. P k (codes "LINESTRING")) p.1 linestring)
             | inr e2 ↦
                 elim (found (codes "LINEARRING") u kind.LineString k r _ e2) [
-                  | inl p ↦ here (codes "LINEARRING") u kind.LineString k r p (linearring r)
+                  | inl p ↦ (codes "LINEARRING", p.0, subst (λ k. P k (codes "LINEARRING")) p.1 linearring)
                   | inr e3 ↦
                       elim (found (codes "POLYGON") u kind.Polygon k r _ e3) [
-                        | inl p ↦ here (codes "POLYGON") u kind.Polygon k r p (polygon r)
+                        | inl p ↦ (codes "POLYGON", p.0, subst (λ k. P k (codes "POLYGON")) p.1 polygon)
                         | inr e4 ↦
                             elim (found (codes "MULTIPOINT") u kind.MultiPoint k r _ e4) [
-                              | inl p ↦ here (codes "MULTIPOINT") u kind.MultiPoint k r p (multipoint r)
+                              | inl p ↦ (codes "MULTIPOINT", p.0, subst (λ k. P k (codes "MULTIPOINT")) p.1 multipoint)
                               | inr e5 ↦
                                   elim (found (codes "MULTILINESTRING") u kind.MultiLineString k r _ e5) [
-                                    | inl p ↦ here (codes "MULTILINESTRING") u kind.MultiLineString k r p (multilinestring r)
+                                    | inl p ↦ (codes "MULTILINESTRING", p.0, subst (λ k. P k (codes "MULTILINESTRING")) p.1 multilinestring)
                                     | inr e6 ↦
                                         elim (found (codes "MULTIPOLYGON") u kind.MultiPolygon k r _ e6) [
-                                          | inl p ↦ here (codes "MULTIPOLYGON") u kind.MultiPolygon k r p (multipolygon r)
+                                          | inl p ↦ (codes "MULTIPOLYGON", p.0, subst (λ k. P k (codes "MULTIPOLYGON")) p.1 multipolygon)
                                           | inr e7 ↦
                                               elim (found (codes "GEOMETRYCOLLECTION") u kind.GeometryCollection k r _ e7) [
-                                                | inl p ↦ here (codes "GEOMETRYCOLLECTION") u kind.GeometryCollection k r p (geometrycollection r)
+                                                | inl p ↦ (codes "GEOMETRYCOLLECTION", p.0, subst (λ k. P k (codes "GEOMETRYCOLLECTION")) p.1 geometrycollection)
                                                 | inr e8 ↦ cc
                                               ]
                                         ]
@@ -148,6 +159,12 @@ some-named u k r e =
                 ]
           ]
     ]
+
+-- the header's word and the letters after it are what the table says of the whole word
+pub some-named : (u : List ℕ) (k : GeometryType) (r : List ℕ) → named_in kind_words u ≡ Some (k, r) → Says k r u
+some-named u k r e =
+    let b = by-word (λ k w. (r : List ℕ) → Says k r (w ++ r)) point linestring linearring polygon multipoint multilinestring multipolygon geometrycollection u k r e in
+    subst (Says k r) (sym b.1) (b.2 r)
 
 -- a header that begins with no word is none
 pub none-named : (u : List ℕ) → named_in kind_words u ≡ None → entry_in kind_words u ≡ None
@@ -250,3 +267,142 @@ some_dim w d false false false ez em ezm e = let never : ⊥ = cc in absurd neve
 pub dim_no_kind : (w : List ℕ) (d : Dimension) → dim_word w ≡ Some d → kind_word w ≡ None
 unfolding dim_word
 dim_no_kind w d e = some_dim w d (bytes_eq (str_to_ascii_uppercase w) (codes "Z")) (bytes_eq (str_to_ascii_uppercase w) (codes "M")) (bytes_eq (str_to_ascii_uppercase w) (codes "ZM")) refl refl refl e
+
+-- The word of a kind that bytes begin with, and the letters of a dimension behind it.
+
+-- A word of the table, with no dimension joined to it.
+abbrev pub IsAlone : GeometryType → List ℕ → Type 0
+IsAlone k w = ((x : List ℕ) → named_in kind_words (w ++ x) ≡ Some (k, x)) × AllByRecursion IsCapital w × (0 < length w)
+
+front-word : (u : List ℕ) (k : GeometryType) (r : List ℕ) → named_in kind_words u ≡ Some (k, r) → Begun IsAlone k r u
+unfolding kind_words
+front-word u k r e =
+    by-word IsAlone
+    ((λ x. refl), ((omega arith, omega arith), ((omega arith, omega arith), ((omega arith, omega arith), ((omega arith, omega arith), ((omega arith, omega arith), tt))))), omega arith)
+    ((λ x. refl), ((omega arith, omega arith), ((omega arith, omega arith), ((omega arith, omega arith), ((omega arith, omega arith), ((omega arith, omega arith), ((omega arith, omega arith), ((omega arith, omega arith), ((omega arith, omega arith), ((omega arith, omega arith), ((omega arith, omega arith), tt)))))))))), omega arith)
+    ((λ x. refl), ((omega arith, omega arith), ((omega arith, omega arith), ((omega arith, omega arith), ((omega arith, omega arith), ((omega arith, omega arith), ((omega arith, omega arith), ((omega arith, omega arith), ((omega arith, omega arith), ((omega arith, omega arith), ((omega arith, omega arith), tt)))))))))), omega arith)
+    ((λ x. refl), ((omega arith, omega arith), ((omega arith, omega arith), ((omega arith, omega arith), ((omega arith, omega arith), ((omega arith, omega arith), ((omega arith, omega arith), ((omega arith, omega arith), tt))))))), omega arith)
+    ((λ x. refl), ((omega arith, omega arith), ((omega arith, omega arith), ((omega arith, omega arith), ((omega arith, omega arith), ((omega arith, omega arith), ((omega arith, omega arith), ((omega arith, omega arith), ((omega arith, omega arith), ((omega arith, omega arith), ((omega arith, omega arith), tt)))))))))), omega arith)
+    ((λ x. refl), ((omega arith, omega arith), ((omega arith, omega arith), ((omega arith, omega arith), ((omega arith, omega arith), ((omega arith, omega arith), ((omega arith, omega arith), ((omega arith, omega arith), ((omega arith, omega arith), ((omega arith, omega arith), ((omega arith, omega arith), ((omega arith, omega arith), ((omega arith, omega arith), ((omega arith, omega arith), ((omega arith, omega arith), ((omega arith, omega arith), tt))))))))))))))), omega arith)
+    ((λ x. refl), ((omega arith, omega arith), ((omega arith, omega arith), ((omega arith, omega arith), ((omega arith, omega arith), ((omega arith, omega arith), ((omega arith, omega arith), ((omega arith, omega arith), ((omega arith, omega arith), ((omega arith, omega arith), ((omega arith, omega arith), ((omega arith, omega arith), ((omega arith, omega arith), tt)))))))))))), omega arith)
+    ((λ x. refl), ((omega arith, omega arith), ((omega arith, omega arith), ((omega arith, omega arith), ((omega arith, omega arith), ((omega arith, omega arith), ((omega arith, omega arith), ((omega arith, omega arith), ((omega arith, omega arith), ((omega arith, omega arith), ((omega arith, omega arith), ((omega arith, omega arith), ((omega arith, omega arith), ((omega arith, omega arith), ((omega arith, omega arith), ((omega arith, omega arith), ((omega arith, omega arith), ((omega arith, omega arith), ((omega arith, omega arith), tt)))))))))))))))))), omega arith)
+    u k r e
+
+-- the letters of a dimension are capitals
+dim-capitals : (v : List ℕ) (d : Dimension) → dim_in v ≡ Some d → AllByRecursion IsCapital v × (0 < length v)
+dim-capitals v d e = go (bytes_eq v (codes "Z")) (bytes_eq v (codes "M")) (bytes_eq v (codes "ZM")) refl refl refl e
+  where
+    go : (z m zm : Bool) → bytes_eq v (codes "Z") ≡ z → bytes_eq v (codes "M") ≡ m → bytes_eq v (codes "ZM") ≡ zm → cond z (Some XYZ) (cond m (Some XYM) (cond zm (Some XYZM) None)) ≡ Some d
+        → AllByRecursion IsCapital v × (0 < length v)
+    go true m zm ez em ezm h = subst (λ v. AllByRecursion IsCapital v × (0 < length v)) (sym ((bytes_eq-Decides v (codes "Z")).0 ez)) (((omega arith, omega arith), tt), omega arith)
+    go false true zm ez em ezm h = subst (λ v. AllByRecursion IsCapital v × (0 < length v)) (sym ((bytes_eq-Decides v (codes "M")).0 em)) (((omega arith, omega arith), tt), omega arith)
+    go false false true ez em ezm h = subst (λ v. AllByRecursion IsCapital v × (0 < length v)) (sym ((bytes_eq-Decides v (codes "ZM")).0 ezm)) (((omega arith, omega arith), ((omega arith, omega arith), tt)), omega arith)
+    go false false false ez em ezm h = let never : ⊥ = cc in absurd never
+
+-- a letter is of a run, and no number begins with it
+capital-late : (b : ℕ) → IsCapital (to_ascii_uppercase b) → 57 < b
+capital-late b h = elim (cases_lt b 97) [
+  | inl low ↦ let same = (uppercase_is b).1 low in omega (arith, same, h.0)
+  | inr high ↦ omega (arith, high)
+]
+
+capitals-run : (w : List ℕ) → AllByRecursion IsCapital (str_to_ascii_uppercase w) → AllRun w
+capitals-run [] h = tt
+capitals-run (b ∷ w) h = (late-run b (let late = capital-late b h.0 in omega (arith, late)), capitals-run w h.1)
+
+never-both : (x : Bool) → x && false ≡ false
+never-both true = refl
+never-both false = refl
+
+capitals-word : (w : List ℕ) → AllByRecursion IsCapital (str_to_ascii_uppercase w) → starts_number (get_or w 0 0) ≡ false
+capitals-word [] h = refl
+capitals-word (b ∷ w) h = let late = capital-late b h.0 in rw (lt-leb b 57 late, never-both (nat_le 48 b), ne_eqb b 46 (λ e. omega (arith, e, late)), ne_eqb b 45 (λ e. omega (arith, e, late)), ne_eqb b 43 (λ e. omega (arith, e, late))) refl
+
+-- the word of a dimension, and EMPTY, are runs that are no numbers
+abbrev pub IsWord : List ℕ → Type 0
+IsWord w = AllRun w × (starts_number (get_or w 0 0) ≡ false) × (0 < length w)
+
+pub dim-is-word : (w : List ℕ) (d : Dimension) → dim_word w ≡ Some d → IsWord w
+unfolding dim_word
+dim-is-word w d e =
+    let letters = dim-capitals (str_to_ascii_uppercase w) d e in
+    let long = upper-length w in
+    let some = letters.1 in
+    (capitals-run w letters.0, capitals-word w letters.0, omega (arith, long, some))
+
+pub empty-is-word : (w : List ℕ) → is_empty_word w ≡ true → IsWord w
+empty-is-word w e =
+    let is = empty_is w e in
+    let letters : AllByRecursion IsCapital (str_to_ascii_uppercase w) = subst (AllByRecursion IsCapital) (sym is) ((omega arith, omega arith), ((omega arith, omega arith), ((omega arith, omega arith), ((omega arith, omega arith), ((omega arith, omega arith), tt))))) in
+    let long = upper-length w in
+    let five = ap length is in
+    (capitals-run w letters, capitals-word w letters, omega (arith, long, five))
+
+all-capitals : (v w : List ℕ) → AllByRecursion IsCapital v → AllByRecursion IsCapital w → AllByRecursion IsCapital (v ++ w)
+all-capitals [] w h k = k
+all-capitals (b ∷ v) w h k = (h.0, all-capitals v w h.1 k)
+
+begins-more : (w u v : List ℕ) → begins w u ≡ true → begins w (u ++ v) ≡ true
+begins-more [] u v e = refl
+begins-more (a ∷ w) [] v e = cc
+begins-more (a ∷ w) (b ∷ u) v e = let p = both (nat_eq a b) (begins w u) e in ap (λ x. x && begins w (u ++ v)) p.0 ∙ begins-more w u v p.1
+
+module _ (text rest : List ℕ) (k : GeometryType) (e : named_in kind_words (str_to_ascii_uppercase text) ≡ Some (k, str_to_ascii_uppercase rest)) where
+  front : Begun IsAlone k (str_to_ascii_uppercase rest) (str_to_ascii_uppercase text)
+  front = front-word (str_to_ascii_uppercase text) k (str_to_ascii_uppercase rest) e
+
+  front-long : length text ≡ length front.0 + length rest
+  front-long = sym (upper-length text) ∙ ap length front.1 ∙ length-append front.0 (str_to_ascii_uppercase rest) ∙ ap (λ n. length front.0 + n) (upper-length rest)
+
+  pub front-shorter : length rest ≤ length text
+  front-shorter = let long = front-long in omega (arith, long)
+
+  -- the word, and as many letters more
+  front-upper : (j : ℕ) → str_to_ascii_uppercase (take (length text - length rest + j) text) ≡ front.0 ++ str_to_ascii_uppercase (take j rest)
+  front-upper j =
+      let long = front-long in
+      let n : length text - length rest + j ≡ length front.0 + j = omega (arith, long) in
+      sym (take-map to_ascii_uppercase (length text - length rest + j) text) ∙ ap (λ u. take (length text - length rest + j) u) front.1 ∙ ap (λ m. take m (front.0 ++ str_to_ascii_uppercase rest)) n
+      ∙ take-append-add front.0 (str_to_ascii_uppercase rest) j ∙ ap (λ u. front.0 ++ u) (take-map to_ascii_uppercase j rest)
+
+  -- the word stands there, whatever is said of the letters behind it
+  stands : (j : ℕ) (d : Option Dimension) → j ≤ length rest → AllByRecursion IsCapital (str_to_ascii_uppercase (take j rest)) → Names (Some (k, d)) (kind_word (take (length text - length rest + j) text)) → BeginsWith text k d (length text - length rest + j)
+  stands j d within capitals names =
+      let long = front-long in
+      let some = front.2.2 in
+      let all : AllByRecursion IsCapital (str_to_ascii_uppercase (take (length text - length rest + j) text)) = subst (AllByRecursion IsCapital) (sym (front-upper j)) (all-capitals front.0 (str_to_ascii_uppercase (take j rest)) front.2.1 capitals) in
+      record {
+        inside = omega (arith, long, within);
+        some = omega (arith, long, some);
+        names = names;
+        letters = capitals-run (take (length text - length rest + j) text) all;
+        begins = capitals-word (take (length text - length rest + j) text) all;
+      }
+
+  pub front-alone : BeginsWith text k None (length text - length rest)
+  unfolding kind_word
+  front-alone =
+      let none : length text - length rest + 0 ≡ length text - length rest = omega arith in
+      subst (BeginsWith text k None) none
+      (stands 0 None (omega arith) tt (subst (λ u. Names (Some (k, None)) (entry_in kind_words u)) (sym (front-upper 0)) (alone (front.0 ++ []) k [] (front.2.0 []) refl)))
+
+  pub front-joined : (j : ℕ) (d : Dimension) → j ≤ length rest → dim_word (take j rest) ≡ Some d → begins (codes "LINEARRING") (str_to_ascii_uppercase text) ≡ false → BeginsWith text k (Some d) (length text - length rest + j)
+  unfolding kind_word dim_word
+  front-joined j d within says other =
+      let v = str_to_ascii_uppercase (take j rest) in
+      let letters = dim-capitals v d says in
+      let some = letters.1 in
+      let ring : begins (codes "LINEARRING") (front.0 ++ v) ≡ false = by_test (begins (codes "LINEARRING") (front.0 ++ v)) refl in
+      let names : Names (cond false None (joined k (dim_in v))) (entry_in kind_words (front.0 ++ v)) = after false (front.0 ++ v) k v (front.2.0 v) (λ none. let short = ap length none in omega (arith, some, short)) ring in
+      stands j (Some d) within letters.0 (subst (λ u. Names (Some (k, Some d)) (entry_in kind_words u)) (sym (front-upper j)) (subst (λ o. Names (joined k o) (entry_in kind_words (front.0 ++ v))) says names))
+    where
+      v : List ℕ
+      v = str_to_ascii_uppercase (take j rest)
+
+      whole : str_to_ascii_uppercase text ≡ (front.0 ++ v) ++ str_to_ascii_uppercase (drop j rest)
+      whole = front.1 ∙ ap (λ u. front.0 ++ u) (sym (take-append-drop j (str_to_ascii_uppercase rest)) ∙ ap (λ x. x ++ drop j (str_to_ascii_uppercase rest)) (take-map to_ascii_uppercase j rest) ∙ ap (λ x. v ++ x) (drop-map to_ascii_uppercase j rest))
+          ∙ sym (append_assoc front.0 v (str_to_ascii_uppercase (drop j rest)))
+
+      by_test : (b : Bool) → begins (codes "LINEARRING") (front.0 ++ v) ≡ b → begins (codes "LINEARRING") (front.0 ++ v) ≡ false
+      by_test false h = h
+      by_test true h = absurd (not-both (sym other ∙ ap (begins (codes "LINEARRING")) whole ∙ begins-more (codes "LINEARRING") (front.0 ++ v) (str_to_ascii_uppercase (drop j rest)) h))

@@ -1,9 +1,10 @@
 -- What a stream of lexemes has still to give, also one that was looked at ahead; how readers go over it; and calls that take
 -- the next lexeme if it is what they want.
-use Rattle.std.specs.Prelude.{ℕ, List, length, Option, Result, ◌≡◌, ◌+◌, ◌≤◌, ◌∷◌, ◌++◌, [], Some, None}
+use Rattle.std.specs.Prelude.{ℕ, List, length, Option, Result, ◌≡◌, ◌+◌, ◌≤◌, ◌<◌, ◌∷◌, ◌++◌, [], Some, None, take, get_or, false}
 use Rattle.std.specs.Borrow.{Bor}
 use Rattle.std.specs.Iterator.{Count, at_most}
-use Rattle.wkt_num.specs.Bytes.{Lexeme, Word, Num}
+use Rattle.wkt_num.specs.Bytes.{Lexeme, Word, Num, AllRun}
+use Rattle.wkt_read.specs.Lexemes.{starts_number}
 use Rattle.wkt_read.specs.Spanned.{Spanned, Standing, StepsFrom, lexemes_of, end_after}
 use Rattle.wkt_read.specs.Items.{IsItem}
 use Rattle.wkt_read.specs.declared.tokenizer.tokens.Token.{Token}
@@ -124,6 +125,14 @@ IsCapital c = (65 ≤ c) × (c ≤ 90)
 abbrev pub Names : Option (GeometryType × Option Dimension) → Option KindWord → Type 0
 Names None e = e ≡ None
 Names (Some p) e = (k : KindWord) × (e ≡ Some k) × (k.kind ≡ p.0) × (k.joined ≡ p.1)
+
+-- Bytes begin with the word of this kind, and this dimension joined to it or none; it has so many letters.
+pub record BeginsWith (bytes : List ℕ) (kind : GeometryType) (joined : Option Dimension) (n : ℕ) : Type 0 where
+  pub some : 0 < n
+  pub inside : n ≤ length bytes
+  pub names : Names (Some (kind, joined)) (kind_word (take n bytes))
+  pub letters : AllRun (take n bytes)
+  pub begins : starts_number (get_or (take n bytes) 0 0) ≡ false
 
 -- Calls of a stream that take the next lexeme if it is what they want.
 

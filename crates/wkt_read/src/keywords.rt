@@ -1,10 +1,10 @@
 //! Words that have a meaning, whatever the case of their ASCII letters.
-ghost use Rattle.std.specs.Prelude.{◌≡◌, ◌++◌, codes};
+ghost use Rattle.std.specs.Prelude.{◌≡◌, ◌≤◌, ◌++◌, Some, codes, length, take, IfSome};
 ghost use Rattle.std.specs.Str.{str_to_ascii_uppercase};
 ghost use Rattle.wkt_read.specs.Grammar.{kind_word, dim_word, is_empty_word};
 ghost use Rattle.std.specs.List.{AllByRecursion};
 ghost use Rattle.wkt_read.specs.Header.{begins, Strips, BeginsKind};
-ghost use Rattle.wkt_read.specs.Stream.{Names, IsCapital};
+ghost use Rattle.wkt_read.specs.Stream.{Names, IsCapital, BeginsWith};
 
 use wkt_access::Dimension;
 use wkt_types::GeometryType;
@@ -136,6 +136,38 @@ pub fn kind_in(word: &[u8]) -> Option<(GeometryType, Option<Dimension>)>
     Some((kind, Some(dimension)))
 }
 
+/// The kind whose word the bytes begin with, the dimension if one is joined to the word, and how many letters that is. More
+/// letters may follow. `None` doesn't imply that they begin with none.
+#[inline(always)]
+pub fn kind_front(bytes: &[u8]) -> Option<(GeometryType, Option<Dimension>, usize)>
+    ensures { IfSome result (λ r. BeginsWith bytes.now r.0 r.1 r.2) }
+{
+    let (kind, rest) = kind(bytes)?;
+    let n = bytes.len() - rest.len();
+    match dimension_front(rest) {
+        // The one kind word that no dimension is joined to.
+        Some((dimension, more)) if !begins(b"LINEARRING", bytes) => {
+            Some((kind, Some(dimension), n + more))
+        }
+        _ => Some((kind, None, n)),
+    }
+}
+
+/// The dimension whose letters the bytes begin with, whatever their case, and how many letters those are.
+#[inline(always)]
+#[tactic(auto, unfolding(crate::specs::Grammar::dim_word))]
+pub fn dimension_front(letters: &[u8]) -> Option<(Dimension, usize)>
+    ensures names { IfSome result (λ r. dim_word (take r.1 letters.now) ≡ Some r.0) }
+    ensures inside { IfSome result (λ r. r.1 ≤ length letters.now) }
+{
+    match letters {
+        [b'Z' | b'z', b'M' | b'm', ..] => Some((Dimension::XYZM, 2)),
+        [b'Z' | b'z', ..] => Some((Dimension::XYZ, 1)),
+        [b'M' | b'm', ..] => Some((Dimension::XYM, 1)),
+        _ => None,
+    }
+}
+
 /// The dimension that the word names after a kind word alone.
 pub fn dimension_of(word: &str) -> Option<Dimension>
     ensures { result ≡ dim_word word.now }
@@ -144,6 +176,7 @@ pub fn dimension_of(word: &str) -> Option<Dimension>
 }
 
 /// The dimension that the letters name, whatever their case.
+#[inline(always)]
 #[tactic(auto, unfolding(crate::specs::Grammar::dim_word))]
 pub fn dimension_in(letters: &[u8]) -> Option<Dimension>
     ensures { result ≡ dim_word letters.now }
@@ -164,6 +197,7 @@ pub fn is_empty(word: &str) -> bool
 }
 
 /// Whether these bytes are the word EMPTY.
+#[inline(always)]
 #[tactic(auto, using(crate::proofs::HeaderPlaces::empty_word))]
 pub fn is_empty_in(word: &[u8]) -> bool
     ensures { result ≡ is_empty_word word.now }
