@@ -8,7 +8,7 @@ ghost use Rattle.wkt_canonical.specs.PenMaker.{HasBytes, WritesNumber, Numbered,
 
 use crate::pen::Pen;
 use crate::space::Space;
-use wkt_events::{byte_at, number_there};
+use wkt_events::{byte_at, is_of_run, number_there};
 use wkt_machine::pad;
 use wkt_num::WktNum;
 
@@ -156,8 +156,8 @@ impl<'a, T: WktNum> Pen<'a, T> {
         ensures some { IfSome result.1 (Numbered T.read T.num text.now at self.entry result.0) }
         ensures none { IfNone result.1 (NoNumber T.read text.now at) }
     {
-        // No number stands where a parenthesis closes.
-        if byte_at(text, at) == b')' {
+        // No number stands where a parenthesis closes, or the text ends.
+        if !is_of_run(byte_at(text, at)) {
             return (self, None);
         }
         let rest = &text[at..];

@@ -71,7 +71,7 @@ fn skip_more<const FEED_ENDS: bool>(text: &[u8], from: usize) -> usize
 /// Whether it is of a run.
 #[inline(always)]
 #[tactic(auto, unfolding(wkt_num::specs::Bytes::class_of))]
-fn is_of_run(byte: u8) -> bool
+pub fn is_of_run(byte: u8) -> bool
     ensures { IsTrue result ↔ (class_of byte ≡ Run) }
 {
     byte > b',' || !matches!(byte, 0 | b' ' | b'\n' | b'\r' | b'\t' | b'(' | b')' | b',')

@@ -6,5 +6,5 @@
 mod bytes;
 mod reading;
 
-pub use bytes::{byte_at, run_end, skip_white};
+pub use bytes::{byte_at, is_of_run, run_end, skip_white};
 pub use reading::{begins_number, number_there};

@@ -1,34 +1,13 @@
 -- A number that keeps its text, also in a window that goes on behind the text's end.
-use Rattle.std.proofs.Common.{rules, arith, length, ◌-◌, take, drop, subst, ◌≡◌, ◌≢◌, ◌≤◌, ℕ, List, Option, get_or, sym, ◌∙◌}
-use Rattle.wkt_num.specs.Bytes.{Run, class_of}
+use Rattle.std.proofs.Common.{rules, arith, length, ◌-◌, take, drop, subst}
 use Rattle.wkt_num.specs.Number.{ReadsTexts}
-use Rattle.wkt_events.specs.Remaining.{NoNumber}
-use Rattle.wkt_events.proofs.Runs.{range-run}
 use Rattle.wkt_canonical.proofs.PenOutput.{num_utf8, kept-numbered, padded-keeps}
-use Rattle.wkt_machine.proofs.ByteViews.{zero-at}
+use Rattle.wkt_machine.proofs.ByteViews.{none-unrun, zero-at}
 use Rattle.wkt_canonical.specs.PenMaker.{Extends}
 use Rattle.wkt_canonical.proofs.pen.Pen.slow_number_outlined.Goals as goal
 
--- No run begins where a parenthesis closes.
-
-close-no-run : class_of 41 ≢ Run
-unfolding class_of
-close-no-run e = let no : ⊥ = cc in no
-
-no-number : {N : Type 0} (read : List ℕ → Option N) (text : List ℕ) (at : ℕ) → at ≤ length text → get_or text at 0 ≡ 41 → NoNumber read text at
-no-number read text at inside is = record {
-  end = at;
-  ends = record {
-    order = omega arith;
-    inside = inside;
-    run = range-run text at at (omega arith) inside (λ k low high. absurd (omega (arith, low, high)));
-    stops = subst (λ b. class_of b ≢ Run) (sym is) close-no-run;
-  };
-  none = λ o b u. absurd (omega (arith, o));
-}
-
-pub returns-then-byte_at-eq41-clause-none : goal.returns-then-byte_at-eq41-clause-none
-returns-then-byte_at-eq41-clause-none g c = no-number g.T.WktNum.read c.args.text.now c.args.at c.requires.at (sym c.byte_at.ensures.value ∙ c.if-byte_at-eq41.true)
+pub returns-then-not-is_of_run-clause-none : goal.returns-then-not-is_of_run-clause-none
+returns-then-not-is_of_run-clause-none g c = none-unrun g.T.WktNum.read c.args.text.now c.args.at c.byte_at.result c.requires.at c.byte_at.ensures.value (λ r. let t = c.if-not-is_of_run.ensures.1 r in cc)
 
 pub pad-requires-clause-zeros : goal.pad-requires-clause-zeros
 pad-requires-clause-zeros g c = zero-at 32
