@@ -11,7 +11,7 @@ use Rattle.wkt_machine.specs.Action as act
 use Rattle.wkt_machine.specs.View.{IsBetween, IsDark, bytes_view, has_coordinates, seen_of, sight}
 use Rattle.wkt_machine.specs.Events.{Event}
 use Rattle.wkt_machine.specs.Goes.{Stays, MakesOneNumber, IsUnread, IsStuck, Goes, Refuses, closes}
-use Rattle.wkt_machine.specs.Machine.{at, numbers_after, inside, outside, last_place, number_step, said, moved, move, kind_step, joined_step, dimension_step, part_of, State}
+use Rattle.wkt_machine.specs.Machine.{at, numbers_after, inside, outside, last_place, number_step, said, moved, move, kind_step, joined_step, part_of, State}
 use Rattle.wkt_machine.specs.Machines.{state_of, place_of, after_third, state_for, next_after, is_single, HasNext, IsSound}
 use Rattle.wkt_machine.specs.Makers.{Maker}
 use Rattle.wkt_machine.specs.Machine as place
@@ -31,12 +31,12 @@ use Rattle.wkt_machine.specs.declared.part.Part.TheVariants as part
 use Rattle.wkt_machine.proofs.ByteViews.{close_mark}
 use Rattle.wkt_machine.proofs.ByteViews as bytes
 use Rattle.wkt_access.specs.declared.dimensions.Dimension.TheVariants.{XY}
-use Rattle.wkt_read.specs.Grammar.{kind_word, kind_words, dim_word, is_empty_word, DimPart, Header, StandFor}
+use Rattle.wkt_read.specs.Grammar.{is_empty_word, kind_word, kind_words, DimPart, Header, StandFor}
 use Rattle.wkt_read.specs.Lexemes.{lexeme_of, starts_number, without_plus}
 use Rattle.wkt_events.proofs.RemainingLexemes.{space, spanned-white, takes-mark, takes-run, takes-after, mark-in, remaining-all, takes-number}
 use Rattle.wkt_events.proofs.RemainingLexemes as classes
 use Rattle.wkt_events.proofs.Utf8Lines.{legible-one, text-with-front, text-behind-front}
-use Rattle.wkt_machine.specs.LexemesAhead.{IsKindName, EndsWord, StandsBefore, StandsHead, StandsEmpty}
+use Rattle.wkt_machine.specs.LexemesAhead.{IsKindName, EndsWord, StandsHead}
 use Rattle.wkt_num.specs.Decimal.{read_decimal}
 use Rattle.wkt_num.specs.DigitParts.{BeginsUnits}
 use Rattle.wkt_num.specs.Whole.{IsSigned}
@@ -225,7 +225,7 @@ pub collection_name : IsKindName part.Collection (codes "GEOMETRYCOLLECTION")
 unfolding kind_word kind_words class_of
 collection_name = record { row = _; names = refl; kind = refl; joined = refl; letters = (refl, (refl, (refl, (refl, (refl, (refl, (refl, (refl, (refl, (refl, (refl, (refl, (refl, (refl, (refl, (refl, (refl, (refl, tt)))))))))))))))))); begins = refl }
 
-open_no_run : class_of 40 ≢ Run
+pub open_no_run : class_of 40 ≢ Run
 unfolding class_of
 open_no_run e = cc
 
@@ -233,83 +233,61 @@ space_no_run : class_of 32 ≢ Run
 unfolding class_of
 space_no_run e = cc
 
-word_lexeme : (run : List ℕ) → starts_number (get_or run 0 0) ≡ false → lexeme_of run ≡ Word run
-word_lexeme [] h = refl
-word_lexeme (b ∷ bs) h = ap (λ t. if t then Num (without_plus (b ∷ bs)) else Word (b ∷ bs)) h
-
--- the letters of a word, and then none
-word_takes : (feed : Bool) (text : List ℕ) (at : ℕ) (word : List ℕ) (n : ℕ) → AllRun word → starts_number (get_or word 0 0) ≡ false → at + n ≤ length text → take n (drop at text) ≡ word → 0 < n
-    → class_of (get_or text (at + n) 0) ≢ Run → TakesOne feed text at (Word word) (at + n)
-word_takes feed text at word n letters begins inside is some stops =
-    let slice : slice_range text at (at + n) ≡ word = ap (λ (m : ℕ). take m (drop at text)) {x = at + n - at} {y = n} (omega arith) ∙ is in
-    let run : IsRunEnd text at (at + n) = record { order = omega arith; inside = inside; run = subst AllRun (sym slice) letters; stops = stops } in
-    let lexeme : lexeme_of (slice_range text at (at + n)) ≡ Word word = ap lexeme_of slice ∙ word_lexeme word begins in
-    subst (λ l. TakesOne feed text at l (at + n)) lexeme (takes-run feed text at (at + n) run (omega (arith, some)))
-
-empty_letters : AllRun (codes "EMPTY")
-unfolding class_of
-empty_letters = (refl, (refl, (refl, (refl, (refl, tt)))))
-
--- the bytes behind which EMPTY ends
-pub feed_no_run : class_of 10 ≢ Run
-unfolding class_of
-feed_no_run e = cc
-
-pub close_no_run : class_of 41 ≢ Run
-unfolding class_of
-close_no_run e = cc
-
-pub comma_no_run : class_of 44 ≢ Run
-unfolding class_of
-comma_no_run e = cc
-
-pub nul_no_run : class_of 0 ≢ Run
-unfolding class_of
-nul_no_run e = cc
+-- No run goes on with the parenthesis.
+pub ends-open-word : (b : ℕ) → b ≡ 40 → class_of b ≢ Run
+ends-open-word b e r = open_no_run (ap class_of (sym e) ∙ r)
 
 module _ (feed : Bool) (text : List ℕ) (at : ℕ) where
+  -- a parenthesis behind white space or none
+  pub open_after : (start b : ℕ) → at ≤ start → remaining_spanned feed text at ≡ remaining_spanned feed text start → b ≡ get_or text start 0 → b ≡ 40 → TakesOne feed text at Open (start + 1)
+  open_after start b order same byte is = takes-after feed text at start Open (start + 1) order same (takes-mark feed text start Open (ap (class_in feed) (sym byte ∙ is) ∙ classes.mark-in feed 40 Open bytes.open_mark))
+
+  -- EMPTY behind white space or none
+  pub empty_after : (start end : ℕ) → at ≤ start → remaining_spanned feed text at ≡ remaining_spanned feed text start → ((w : List ℕ) × TakesOne feed text start (Word w) end × (is_empty_word w ≡ true)) → (w : List ℕ) × TakesOne feed text at (Word w) end × (is_empty_word w ≡ true)
+  empty_after start end order same (w, takes, says) = (w, takes-after feed text at start (Word w) end order same takes, says)
+
   -- a parenthesis behind a word
-  pub ends_open : get_or text at 0 ≡ 40 → EndsWord feed text at Open (at + 1)
+  pub ends_open : get_or text at 0 ≡ 40 → EndsWord feed text at (at + 1)
   ends_open e = record {
     stops = λ r. open_no_run (ap class_of (sym e) ∙ r);
-    follows = takes-mark feed text at Open (ap (class_in feed) e ∙ classes.mark-in feed 40 Open bytes.open_mark);
+    opens = takes-mark feed text at Open (ap (class_in feed) e ∙ classes.mark-in feed 40 Open bytes.open_mark);
   }
 
-  -- a lexeme behind a space
-  ends_space : (l : Lexeme) (end : ℕ) → get_or text at 0 ≡ 32 → TakesOne feed text (at + 1) l end → EndsWord feed text at l end
-  ends_space l end e takes = record {
+  -- the same behind a space
+  pub ends_spaced : get_or text at 0 ≡ 32 → get_or text (at + 1) 0 ≡ 40 → EndsWord feed text at (at + 2)
+  ends_spaced e f = record {
     stops = λ r. space_no_run (ap class_of (sym e) ∙ r);
-    follows = takes-after feed text at (at + 1) l end (omega arith) (spanned-white feed text at (space feed (get_or text at 0) e)) takes;
+    opens =
+        let there : TakesOne feed text (at + 1) Open (at + 1 + 1) = takes-mark feed text (at + 1) Open (ap (class_in feed) f ∙ classes.mark-in feed 40 Open bytes.open_mark) in
+        let two : at + 1 + 1 ≡ at + 2 = omega arith in
+        takes-after feed text at (at + 1) Open (at + 2) (omega arith) (spanned-white feed text at (space feed (get_or text at 0) e)) (subst (TakesOne feed text (at + 1) Open) two there);
   }
 
-  -- a parenthesis behind one
-  pub ends_spaced : get_or text at 0 ≡ 32 → get_or text (at + 1) 0 ≡ 40 → EndsWord feed text at Open (at + 2)
-  ends_spaced e f =
-      let there : TakesOne feed text (at + 1) Open (at + 1 + 1) = takes-mark feed text (at + 1) Open (ap (class_in feed) f ∙ classes.mark-in feed 40 Open bytes.open_mark) in
-      let two : at + 1 + 1 ≡ at + 2 = omega arith in
-      ends_space Open (at + 2) e (subst (TakesOne feed text (at + 1) Open) two there)
+  word_lexeme : (run : List ℕ) → starts_number (get_or run 0 0) ≡ false → lexeme_of run ≡ Word run
+  word_lexeme [] h = refl
+  word_lexeme (b ∷ bs) h = ap (λ t. if t then Num (without_plus (b ∷ bs)) else Word (b ∷ bs)) h
 
-  -- EMPTY behind one
-  pub ends_empty : get_or text at 0 ≡ 32 → at + 6 ≤ length text → take 5 (drop (at + 1) text) ≡ codes "EMPTY" → class_of (get_or text (at + 6) 0) ≢ Run → EndsWord feed text at (Word (codes "EMPTY")) (at + 6)
-  ends_empty e inside is stops =
-      let six : at + 1 + 5 ≡ at + 6 = omega arith in
-      let none : class_of (get_or text (at + 1 + 5) 0) ≢ Run = subst (λ n. class_of (get_or text n 0) ≢ Run) (sym six) stops in
-      ends_space (Word (codes "EMPTY")) (at + 6) e
-      (subst (TakesOne feed text (at + 1) (Word (codes "EMPTY"))) six (word_takes feed text (at + 1) (codes "EMPTY") 5 empty_letters refl (omega (arith, inside)) is (omega arith) none))
+  -- the letters of a word, and then none
+  pub word_takes : (word : List ℕ) (n : ℕ) → AllRun word → starts_number (get_or word 0 0) ≡ false → at + n ≤ length text → take n (drop at text) ≡ word → 0 < n → class_of (get_or text (at + n) 0) ≢ Run → TakesOne feed text at (Word word) (at + n)
+  word_takes word n letters begins inside is some stops =
+      let slice : slice_range text at (at + n) ≡ word = ap (λ (m : ℕ). take m (drop at text)) {x = at + n - at} {y = n} (omega arith) ∙ is in
+      let run : IsRunEnd text at (at + n) = record { order = omega arith; inside = inside; run = subst AllRun (sym slice) letters; stops = stops } in
+      let lexeme : lexeme_of (slice_range text at (at + n)) ≡ Word word = ap lexeme_of slice ∙ word_lexeme word begins in
+      subst (λ l. TakesOne feed text at l (at + n)) lexeme (takes-run feed text at (at + n) run (omega (arith, some)))
 
   -- a word that ends so
-  pub head_stands : (l : Lexeme) (part : Part) (word : List ℕ) (n end : ℕ) → IsKindName part word → at + n ≤ length text → take n (drop at text) ≡ word → 0 < n → EndsWord feed text (at + n) l end → StandsBefore feed text at l part end
-  head_stands l part word n end name inside is some ends = record {
+  pub head_stands : (part : Part) (word : List ℕ) (n end : ℕ) → IsKindName part word → at + n ≤ length text → take n (drop at text) ≡ word → 0 < n → EndsWord feed text (at + n) end → StandsHead feed text at part end
+  head_stands part word n end name inside is some ends = record {
     word = word;
     mid = at + n;
     name = name;
-    takes = word_takes feed text at word n name.letters name.begins inside is some ends.stops;
-    follows = ends.follows;
+    takes = word_takes word n name.letters name.begins inside is some ends.stops;
+    opens = ends.opens;
   }
 
-  pub stands_if : (l : Lexeme) (part : Part) (word : List ℕ) (n : ℕ) (end : Option ℕ) → IsKindName part word → at + n ≤ length text → take n (drop at text) ≡ word → 0 < n → IfSome end (EndsWord feed text (at + n) l) → IfSome end (StandsBefore feed text at l part)
-  stands_if l part word n None name inside is some ends = tt
-  stands_if l part word n (Some end) name inside is some ends = head_stands l part word n end name inside is some ends
+  pub stands_if : (part : Part) (word : List ℕ) (n : ℕ) (end : Option ℕ) → IsKindName part word → at + n ≤ length text → take n (drop at text) ≡ word → 0 < n → IfSome end (EndsWord feed text (at + n)) → IfSome end (StandsHead feed text at part)
+  stands_if part word n None name inside is some ends = tt
+  stands_if part word n (Some end) name inside is some ends = head_stands part word n end name inside is some ends
 
 -- A lexeme that is left is one that a place counts.
 pub head_room : (feed : Bool) (text : List ℕ) (from at : ℕ) (part : Part) (end depth most : ℕ) → remaining_spanned feed text from ≡ remaining_spanned feed text at → StandsHead feed text at part end → depth + length (remaining_spanned feed text from) ≤ most → depth < most
@@ -317,48 +295,28 @@ head_room feed text from at part end depth most same head room =
     let count = ap length (same ∙ head.takes.next) in
     omega (arith, count, room)
 
--- EMPTY is no dimension.
-empty_step : (p : Part) (n : ℕ) → dimension_step (dim_word (codes "EMPTY")) p (codes "EMPTY") n ≡ Some (outside p XY n, act.HeaderEmpty p)
-unfolding dim_word is_empty_word
-empty_step p n = refl
-
--- the machine behind a kind word
-abbrev behind_kind : Machine → Part → Machine
-behind_kind m p = record { state = next.Dimension; part = p; dim = m.dim; depth = m.depth }
-
 module _ {N B : Type 0} (read : List ℕ → Option N) (maker : Maker N B) {n : ℕ} (feed : Bool) where
-  -- The machine behind a header and its lexeme.
-  before_goes : (l : Lexeme) (es : List (Event N)) (m k : Machine) (s t : Bytes n) (b c : B) (p : Part) (start : ℕ) → m.state ≡ next.Kind → IsBetween feed s.text.now s.at start → (Legible feed s.text.now s.at → Legible feed s.text.now start)
-      → StandsBefore feed s.text.now start l p t.at → t.text ≡ s.text → move read (state_of (behind_kind m p)) l ≡ Some (state_of k, es) → IsSound k → maker.makes b es c → Goes read (bytes_view feed) maker m s b (record { source = t; machine = k; builder = c })
-  before_goes l es m k s t b c p start at_kind between further head text second sound makes =
-      let mid : Bytes n = record { text = s.text; at = head.mid; end = head.mid } in
-      let word : Spanned = record { lexeme = Word head.word; end = head.mid } in
-      let last : Spanned = record { lexeme = l; end = t.at } in
-      let first : move read (state_of m) (Word head.word) ≡ Some (state_of (behind_kind m p), []) =
-      ap (λ x. move read (at m.depth (place_of x m.part m.dim)) (Word head.word)) at_kind
-      ∙ ap (λ o. moved read (kind_step o m.depth) (Some None)) head.name.names
-      ∙ ap (λ q. moved read (Some (joined_step q head.name.row.joined m.depth)) (Some None)) head.name.kind
-      ∙ ap (λ j. moved read (Some (joined_step p j m.depth)) (Some None)) head.name.joined in
-      let here : remaining_spanned feed s.text.now s.at ≡ word ∷ remaining_spanned feed s.text.now head.mid = between.same ∙ head.takes.next in
-      let behind : remaining_spanned feed s.text.now head.mid ≡ last ∷ remaining_spanned feed t.text.now t.at = head.follows.next ∙ ap (λ x. last ∷ remaining_spanned feed x.now t.at) (sym text) in
-      goes_on_to read (bytes_view feed) maker m s b (record { source = mid; machine = behind_kind m p; builder = b }) (record { source = t; machine = k; builder = c })
-      (goes_one read (bytes_view feed) maker m (behind_kind m p) s mid b b word [] here refl (λ j l. (l.0, legible-one feed s.text.now start (Word head.word) head.mid head.takes (further l.1))) first (maker.none b) tt)
-      (goes_one read (bytes_view feed) maker (behind_kind m p) k mid t b c last es behind refl
-      (λ j k. (ap (λ x. x.now) text ∙ k.0, subst (λ x. Legible feed x.now t.at) (sym text) (legible-one feed s.text.now head.mid l t.at head.follows k.1))) second makes sound)
-
   -- The machine behind a header and its parenthesis.
   pub head_goes : (m k : Machine) (s t : Bytes n) (b c : B) (p : Part) (start : ℕ) → m.state ≡ next.Kind → IsBetween feed s.text.now s.at start → (Legible feed s.text.now s.at → Legible feed s.text.now start) → StandsHead feed s.text.now start p t.at → t.text ≡ s.text
       → state_of k ≡ inside p XY m.depth → IsSound k → maker.makes b (Event.Header p XY ∷ Event.Open p ∷ []) c → Goes read (bytes_view feed) maker m s b (record { source = t; machine = k; builder = c })
   head_goes m k s t b c p start at_kind between further head text there sound makes =
-      before_goes Open (Event.Header p XY ∷ Event.Open p ∷ []) m k s t b c p start at_kind between further head text
-      (ap (λ x. Some (x, Event.Header p XY ∷ Event.Open p ∷ [])) (sym there)) sound makes
-
-  -- The machine behind a header and EMPTY.
-  pub empty_goes : (m k : Machine) (s t : Bytes n) (b c : B) (p : Part) (start : ℕ) → m.state ≡ next.Kind → IsBetween feed s.text.now s.at start → (Legible feed s.text.now s.at → Legible feed s.text.now start) → StandsEmpty feed s.text.now start p t.at → t.text ≡ s.text
-      → state_of k ≡ outside p XY m.depth → IsSound k → maker.makes b (Event.Header p XY ∷ Event.Empty p ∷ []) c → Goes read (bytes_view feed) maker m s b (record { source = t; machine = k; builder = c })
-  empty_goes m k s t b c p start at_kind between further head text there sound makes =
-      before_goes (Word (codes "EMPTY")) (Event.Header p XY ∷ Event.Empty p ∷ []) m k s t b c p start at_kind between further head text
-      (ap (λ o. moved read o (Some None)) (empty_step p m.depth) ∙ ap (λ x. Some (x, Event.Header p XY ∷ Event.Empty p ∷ [])) (sym there)) sound makes
+      let alone : Machine = record { state = next.Dimension; part = p; dim = m.dim; depth = m.depth } in
+      let mid : Bytes n = record { text = s.text; at = head.mid; end = head.mid } in
+      let word : Spanned = record { lexeme = Word head.word; end = head.mid } in
+      let opens : Spanned = record { lexeme = Open; end = t.at } in
+      let first : move read (state_of m) (Word head.word) ≡ Some (state_of alone, []) =
+      ap (λ x. move read (at m.depth (place_of x m.part m.dim)) (Word head.word)) at_kind
+      ∙ ap (λ o. moved read (kind_step o m.depth) (Some None)) head.name.names
+      ∙ ap (λ q. moved read (Some (joined_step q head.name.row.joined m.depth)) (Some None)) head.name.kind
+      ∙ ap (λ j. moved read (Some (joined_step p j m.depth)) (Some None)) head.name.joined in
+      let second : move read (state_of alone) Open ≡ Some (state_of k, Event.Header p XY ∷ Event.Open p ∷ []) =
+      ap (λ x. Some (x, Event.Header p XY ∷ Event.Open p ∷ [])) (sym there) in
+      let here : remaining_spanned feed s.text.now s.at ≡ word ∷ remaining_spanned feed s.text.now head.mid = between.same ∙ head.takes.next in
+      let behind : remaining_spanned feed s.text.now head.mid ≡ opens ∷ remaining_spanned feed t.text.now t.at = head.opens.next ∙ ap (λ x. opens ∷ remaining_spanned feed x.now t.at) (sym text) in
+      goes_on_to read (bytes_view feed) maker m s b (record { source = mid; machine = alone; builder = b }) (record { source = t; machine = k; builder = c })
+      (goes_one read (bytes_view feed) maker m alone s mid b b word [] here refl (λ j l. (l.0, legible-one feed s.text.now start (Word head.word) head.mid head.takes (further l.1))) first (maker.none b) tt)
+      (goes_one read (bytes_view feed) maker alone k mid t b c opens (Event.Header p XY ∷ Event.Open p ∷ []) behind refl
+      (λ j l. (ap (λ x. x.now) text ∙ l.0, subst (λ x. Legible feed x.now t.at) (sym text) (legible-one feed s.text.now head.mid Open t.at head.opens l.1))) second makes sound)
 
 -- The first eight bytes of a word stand there, as one number.
 pub eight_stand : (text : List ℕ) (at n word : ℕ) → n ≡ word → to_le_bytes w64 n ≡ take 8 (take (length text - at) (drop at text)) → take 8 (drop at text) ≡ to_le_bytes w64 word
@@ -419,7 +377,7 @@ module _ (D : ℕ) (text : List ℕ) where
     begins =
         head.takes.next
         ∙ ap (λ ps. record { lexeme = Word head.word; end = head.mid } ∷ ps)
-        (head.follows.next ∙ ap (λ ps. record { lexeme = Open; end = opened } ∷ ps)
+        (head.opens.next ∙ ap (λ ps. record { lexeme = Open; end = opened } ∷ ps)
         (one.next ∙ ap (λ ps. record { lexeme = Num r; end = between } ∷ ps)
         (two.next ∙ ap (λ ps. record { lexeme = Num s; end = behind } ∷ ps)
         shut.next)))
@@ -449,3 +407,7 @@ module _ (D : ℕ) (text : List ℕ) where
         subst (λ u. IsPointFront D text u (to_z w64 (of_z w64 y)) end) (sym (held-is x fx)) (subst (λ v. IsPointFront D text x v end) (sym (held-is y fy)) point-front)
 
 pub ruleset number_fast = number-fast
+
+pub ruleset ends_open_word = (ends-open-word)
+
+pub ruleset behind_white = (open_after, empty_after)

@@ -323,20 +323,15 @@ keeps_begins read num bs end kept k = record {
 
 pub ruleset nul_behind = nul-behind
 
--- No number stands where a parenthesis closes.
-
-close-stops : class_of 41 ≢ Run
-unfolding class_of
-close-stops e = cc
-
-pub none-at-close : {T : Type 0} (read : List ℕ → Option T) (text : List ℕ) (at : ℕ) → at ≤ length text → get_or text at 0 ≡ 41 → NoNumber read text at
-none-at-close read text at inside is = record {
+-- No number stands where no run does.
+pub none-unrun : {T : Type 0} (read : List ℕ → Option T) (text : List ℕ) (at b : ℕ) → at ≤ length text → b ≡ get_or text at 0 → class_of b ≢ Run → NoNumber read text at
+none-unrun read text at b inside byte stops = record {
   end = at;
   ends = record {
     order = omega arith;
     inside = inside;
     run = range-run text at at (omega arith) inside (λ k from to. absurd (omega (arith, from, to)));
-    stops = subst (λ b. class_of b ≢ Run) (sym is) close-stops;
+    stops = subst (λ b. class_of b ≢ Run) byte stops;
   };
   none = λ less. absurd (omega (arith, less));
 }

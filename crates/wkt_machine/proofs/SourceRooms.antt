@@ -7,10 +7,10 @@ use Rattle.wkt_read.specs.Stream.{remaining, end_of, Moves, Looks, TakesNumber, 
 use Rattle.wkt_read.specs.Spanned.{Standing}
 use Rattle.wkt_events.specs.Remaining.{remaining_spanned, IsRunEnd, TakesOne}
 use Rattle.wkt_machine.specs.View.{bytes_view, seen_of, sight, tokens_view}
-use Rattle.wkt_machine.specs.LexemesAhead.{StandsBefore}
+use Rattle.wkt_machine.specs.LexemesAhead.{StandsHead}
 use Rattle.wkt_machine.specs.Machine.{part_of}
 use Rattle.wkt_machine.specs.Makers.{Maker, MakesNumber}
-use Rattle.wkt_machine.specs.Room.{header_cost, cost, need, Leaves, HasRoom, number_cost, FitsNumber, LeavesBehind, HasNumberRoom, LeavesNumber}
+use Rattle.wkt_machine.specs.Room.{header_cost, need, Leaves, HasRoom, number_cost, FitsNumber, LeavesBehind, HasNumberRoom, LeavesNumber}
 use Rattle.wkt_machine.specs.declared.bytes.Bytes.{Bytes}
 use Rattle.wkt_machine.specs.declared.part.Part.{Part}
 use Rattle.wkt_machine.specs.declared.tokens.OneByOne.{OneByOne}
@@ -55,33 +55,32 @@ module _ {N B : Type 0} (maker : Maker N B) {n : ℕ} (feed : Bool) where
       let most = need_most feed s.text.now s.at in
       record { fits = maker.less b (0 + need (remaining_spanned feed s.text.now s.at)) (2 * (length s.text.now - s.at) + 1) (omega (arith, most)) h; values = λ never. absurd never }
 
--- A header in bytes, with its parenthesis or EMPTY.
-head_spends : (feed : Bool) (text : List ℕ) (from at : ℕ) (l : Lexeme) (p : Part) (end : ℕ) → remaining_spanned feed text from ≡ remaining_spanned feed text at → StandsBefore feed text at l p end → header_cost p + cost l + need (remaining_spanned feed text end) ≤ need (remaining_spanned feed text from)
-head_spends feed text from at l p end same head =
+-- A header in bytes, with its parenthesis.
+head_spends : (feed : Bool) (text : List ℕ) (from at : ℕ) (p : Part) (end : ℕ) → remaining_spanned feed text from ≡ remaining_spanned feed text at → StandsHead feed text at p end → header_cost p + 1 + need (remaining_spanned feed text end) ≤ need (remaining_spanned feed text from)
+head_spends feed text from at p end same head =
     let first : need (remaining_spanned feed text from) ≡ 2 * length head.word + 1 + need (remaining_spanned feed text head.mid) = ap need (same ∙ head.takes.next) in
-    let second : need (remaining_spanned feed text head.mid) ≡ cost l + need (remaining_spanned feed text end) = ap need head.follows.next in
+    let second : need (remaining_spanned feed text head.mid) ≡ 1 + need (remaining_spanned feed text end) = ap need head.opens.next in
     let long : header_cost (part_of head.name.row.kind) ≤ 2 * length head.word + 1 = kind_cost head.word head.name.row head.name.names in
     let is : header_cost (part_of head.name.row.kind) ≡ header_cost p = ap header_cost head.name.kind in
     omega (arith, first, second, long, is)
 
-module _ {N B : Type 0} (maker : Maker N B) {n : ℕ} (feed : Bool) (l : Lexeme) where
-  pub head_fits : (k : ℕ) (s : Bytes n) (b : B) (at : ℕ) (p : Part) (end : ℕ) → k ≤ header_cost p + cost l → remaining_spanned feed s.text.now s.at ≡ remaining_spanned feed s.text.now at → StandsBefore feed s.text.now at l p end → HasRoom (bytes_view feed) maker 0 s b → maker.fits b k
+module _ {N B : Type 0} (maker : Maker N B) {n : ℕ} (feed : Bool) where
+  pub head_fits : (k : ℕ) (s : Bytes n) (b : B) (at : ℕ) (p : Part) (end : ℕ) → k ≤ header_cost p + 1 → remaining_spanned feed s.text.now s.at ≡ remaining_spanned feed s.text.now at → StandsHead feed s.text.now at p end → HasRoom (bytes_view feed) maker 0 s b → maker.fits b k
   head_fits k s b at p end order same head h =
-      let spent = head_spends feed s.text.now s.at at l p end same head in
+      let spent = head_spends feed s.text.now s.at at p end same head in
       maker.less b k (0 + need (remaining_spanned feed s.text.now s.at)) (omega (arith, order, spent)) h.fits
 
-  pub head_after : (k : ℕ) (s t : Bytes n) (b o c : B) (at : ℕ) (p : Part) (end : ℕ) → k ≤ cost l → remaining_spanned feed s.text.now s.at ≡ remaining_spanned feed s.text.now at → StandsBefore feed s.text.now at l p end → t.text ≡ s.text → t.at ≡ end
-      → Leaves maker b (header_cost p) o → Leaves maker o k c → HasRoom (bytes_view feed) maker 0 s b → HasRoom (bytes_view feed) maker 0 t c
-  head_after k s t b o c at p end order same head text to one two h =
-      let spent = head_spends feed s.text.now s.at at l p end same head in
+  pub head_after : (s t : Bytes n) (b o c : B) (at : ℕ) (p : Part) (end : ℕ) → remaining_spanned feed s.text.now s.at ≡ remaining_spanned feed s.text.now at → StandsHead feed s.text.now at p end → t.text ≡ s.text → t.at ≡ end
+      → Leaves maker b (header_cost p) o → Leaves maker o 1 c → HasRoom (bytes_view feed) maker 0 s b → HasRoom (bytes_view feed) maker 0 t c
+  head_after s t b o c at p end same head text to one two h =
+      let spent = head_spends feed s.text.now s.at at p end same head in
       let there : need (remaining_spanned feed t.text.now t.at) ≡ need (remaining_spanned feed s.text.now end) = ap (λ x. need (remaining_spanned feed x.now t.at)) text ∙ ap (λ n. need (remaining_spanned feed s.text.now n)) to in
       record {
-        fits = leaves_both (bytes_view {n = n} feed) maker (header_cost p) k b o c one two (0 + need (remaining_spanned feed t.text.now t.at))
-            (maker.less b (0 + need (remaining_spanned feed t.text.now t.at) + (k + header_cost p)) (0 + need (remaining_spanned feed s.text.now s.at)) (omega (arith, order, spent, there)) h.fits);
+        fits = leaves_both (bytes_view {n = n} feed) maker (header_cost p) 1 b o c one two (0 + need (remaining_spanned feed t.text.now t.at))
+            (maker.less b (0 + need (remaining_spanned feed t.text.now t.at) + (1 + header_cost p)) (0 + need (remaining_spanned feed s.text.now s.at)) (omega (arith, spent, there)) h.fits);
         values = h.values;
       }
 
-module _ {N B : Type 0} (maker : Maker N B) {n : ℕ} (feed : Bool) where
   -- A mark that stands right there.
   byte_seen : (l : Lexeme) (s : Bytes n) → class_of (get_or s.text.now s.at 0) ≡ Mark l → seen_of l ≡ sight (remaining_spanned feed s.text.now s.at)
   byte_seen l s mark = (bytes.sees_mark feed s.text.now s.at (get_or s.text.now s.at 0) l (seen_of l) refl mark refl).sees

@@ -1,18 +1,20 @@
--- Ways: one after another, those that may be none, and those between the states of one part.
+-- Ways: one after another, those that may be none, those behind a look, and those between the states of one part.
 use Rattle.std.proofs.Common.{◌≡◌, ℕ, List, [], ◌∷◌, ◌++◌, sym, refl, ap, ◌∙◌, subst, append_assoc, Option, Some, Bool, true, false}
 use Rattle.std.specs.Prelude.{Result, Ok, Err, IfErr, IfOk}
 use Rattle.std.specs.Bool.{OnTrue, OnFalse}
 use Rattle.wkt_read.specs.Spanned.{Spanned, lexemes_of, end_after}
 use Rattle.wkt_machine.specs.Events.{Event}
-use Rattle.wkt_machine.specs.Goes.{Goes, GoesFrom, Refuses, RefusesFrom, Leads, reached, standing}
+use Rattle.wkt_machine.specs.Goes.{Stays, Goes, GoesFrom, Refuses, RefusesFrom, Leads, reached, standing}
 use Rattle.wkt_machine.specs.Machine.{after, run, State}
 use Rattle.wkt_machine.specs.Machines.{state_of}
 use Rattle.wkt_machine.specs.Makers.{Maker}
 use Rattle.wkt_machine.specs.View.{View}
 use Rattle.wkt_machine.specs.declared.machine.Machine.{Machine}
 use Rattle.wkt_machine.specs.declared.source.At.{At}
+use Rattle.wkt_machine.proofs.Stepping.{from_goes, from_refuses}
 use Rattle.wkt_machine.proofs.WholeRuns.{run_append}
 use Rattle.wkt_machine.specs.declared.machine.State.{State as Next}
+use Rattle.wkt_machine.specs.declared.part.Part.{Part}
 
 -- A way after another.
 
@@ -141,6 +143,22 @@ module _ {N S B : Type 0} (read : List ℕ → Option N) (view : View S) (maker 
   pub refuses_if : (m : Machine) (s : S) (b : B) (a : At S B) (r : Result (At S B) (At S B)) → Goes read view maker m s b a → IfErr r (Refuses read view maker a.machine a.source a.builder) → IfErr r (Refuses read view maker m s b)
   refuses_if m s b a (Ok to) h k = tt
   refuses_if m s b a (Err to) h k = refuses_after read view maker m s b a to h k
+
+-- A way goes on where the source was only looked at, with the machine at a state and a part that are known.
+
+pub known_machine : (m : Machine) (x : Next) (p : Part) → m.state ≡ x → m.part ≡ p → record { state = x; part = p; dim = m.dim; depth = m.depth } ≡ m
+known_machine m x p at_x in_p =
+    let in_part : record { state = x; part = p; dim = m.dim; depth = m.depth } ≡ record { state = x; part = m.part; dim = m.dim; depth = m.depth } = ap (λ (p : Part). record { state = x; part = p; dim = m.dim; depth = m.depth }) (sym in_p) in
+    in_part ∙ ap (λ (x : Next). standing m x) (sym at_x)
+
+module _ {N S B : Type 0} (read : List ℕ → Option N) (view : View S) (maker : Maker N B) where
+  pub looked_goes : (m n : Machine) (s t : S) (b : B) (a : At S B) (r : Result (At S B) (At S B)) → Goes read view maker m s b a → n ≡ a.machine → Stays view a.source t → IfOk r (Goes read view maker n t a.builder) → IfOk r (Goes read view maker m s b)
+  looked_goes m n s t b a (Ok to) h same stays k = goes_on_to read view maker m s b a to h (subst (λ x. Goes read view maker x a.source a.builder to) same (from_goes read view maker n a.source t a.builder to stays k))
+  looked_goes m n s t b a (Err to) h same stays k = tt
+
+  pub looked_refuses : (m n : Machine) (s t : S) (b : B) (a : At S B) (r : Result (At S B) (At S B)) → Goes read view maker m s b a → n ≡ a.machine → Stays view a.source t → IfErr r (Refuses read view maker n t a.builder) → IfErr r (Refuses read view maker m s b)
+  looked_refuses m n s t b a (Ok to) h same stays k = tt
+  looked_refuses m n s t b a (Err to) h same stays k = refuses_after read view maker m s b a to h (subst (λ x. Refuses read view maker x a.source a.builder to) same (from_refuses read view maker n a.source t a.builder to stays k))
 
 -- Ways between the states of one part.
 

@@ -1,5 +1,5 @@
 -- Lexemes that are looked at: where a message is asked for, kind words in bytes, and marks. Only private contracts cite this file.
-use Rattle.std.specs.Prelude.{◌≡◌, ℕ, List, [], Option, Some, None, false, Bool, true, ◌≢◌, get_or, codes}
+use Rattle.std.specs.Prelude.{◌≡◌, ℕ, List, [], Option, Some, None, false, Bool, true, ◌≢◌, ◌⊎◌, get_or}
 use Rattle.wkt_num.specs.Bytes.{Lexeme, Open, Word, Run, AllRun, class_of}
 use Rattle.wkt_num.specs.Bytes as lex
 use Rattle.wkt_events.specs.Remaining.{remaining_spanned, TakesOne}
@@ -13,7 +13,11 @@ use Rattle.wkt_machine.specs.declared.pairs.Mark.TheVariants.{Comma, Close, None
 use Rattle.wkt_read.specs.Stream as ahead
 use Rattle.wkt_machine.specs.declared.machine.Seen.TheVariants as seen
 use Rattle.wkt_machine.specs.declared.machine.State.TheVariants as next
-use Rattle.wkt_read.specs.Grammar.{KindWord, kind_word}
+use Rattle.wkt_access.specs.declared.dimensions.Dimension.{Dimension}
+use Rattle.wkt_access.specs.declared.dimensions.Dimension.TheVariants.{XY}
+use Rattle.wkt_machine.specs.declared.other_heads.Then.{Then}
+use Rattle.wkt_machine.specs.declared.other_heads.Then.TheVariants as then
+use Rattle.wkt_read.specs.Grammar.{KindWord, kind_word, dim_word, is_empty_word}
 use Rattle.wkt_read.specs.Lexemes.{starts_number}
 use Rattle.wkt_machine.specs.Machine.{part_of}
 use Rattle.wkt_machine.specs.declared.part.Part.{Part}
@@ -50,7 +54,7 @@ is_mark next.Opening seen.Open = true
 is_mark next.Opening seen.Empty = true
 is_mark s k = false
 
--- Kind words in bytes, each with the parenthesis or EMPTY behind it. Only private contracts cite this file.
+-- Kind words in bytes, each with the parenthesis behind it. Only private contracts cite this file.
 
 -- A word that names the kind of a part, without a dimension.
 pub record IsKindName (part : Part) (word : List ℕ) : Type 0 where
@@ -61,28 +65,53 @@ pub record IsKindName (part : Part) (word : List ℕ) : Type 0 where
   pub letters : AllRun word
   pub begins : starts_number (get_or word 0 0) ≡ false
 
--- what stands behind a kind word: EMPTY, or the parenthesis
-abbrev pub behind_word : Bool → Lexeme
-behind_word true = lex.Word (codes "EMPTY")
-behind_word false = Open
-
--- A run ends there, and behind it such a lexeme, which ends at `end`.
-pub record EndsWord (feed : Bool) (text : List ℕ) (at : ℕ) (behind : Lexeme) (end : ℕ) : Type 0 where
+-- A run ends there, and behind it the parenthesis, which ends at `end`.
+pub record EndsWord (feed : Bool) (text : List ℕ) (at end : ℕ) : Type 0 where
   pub stops : class_of (get_or text at 0) ≢ Run
-  pub follows : TakesOne feed text at behind end
+  pub opens : TakesOne feed text at Open end
 
--- Such a word stands there, and such a lexeme behind it.
-pub record StandsBefore (feed : Bool) (text : List ℕ) (at : ℕ) (behind : Lexeme) (part : Part) (end : ℕ) : Type 0 where
+-- Such a word stands there, and the parenthesis behind it.
+pub record StandsHead (feed : Bool) (text : List ℕ) (at : ℕ) (part : Part) (end : ℕ) : Type 0 where
   pub word : List ℕ
   pub mid : ℕ
   pub name : IsKindName part word
   pub takes : TakesOne feed text at (Word word) mid
-  pub follows : TakesOne feed text mid behind end
+  pub opens : TakesOne feed text mid Open end
 
--- Such a word stands there, and the parenthesis behind it.
-abbrev pub StandsHead : Bool → List ℕ → ℕ → Part → ℕ → Type 0
-StandsHead feed text at part end = StandsBefore feed text at Open part end
+-- Headers in bytes, in any form. Only private contracts cite this file.
 
--- Such a word stands there, and EMPTY behind it.
-abbrev pub StandsEmpty : Bool → List ℕ → ℕ → Part → ℕ → Type 0
-StandsEmpty feed text at part end = StandsBefore feed text at (lex.Word (codes "EMPTY")) part end
+-- The parenthesis or EMPTY stands there, and ends there.
+abbrev pub EndsHeader : Bool → List ℕ → ℕ → Then → ℕ → Type 0
+EndsHeader feed text at then.Inside end = TakesOne feed text at Open end
+EndsHeader feed text at then.Outside end = (w : List ℕ) × TakesOne feed text at (Word w) end × (is_empty_word w ≡ true)
+EndsHeader feed text at t end = ⊥
+
+-- What stands behind a dimension.
+abbrev pub EndsDimension : Bool → List ℕ → ℕ → Then → ℕ → Type 0
+EndsDimension feed text at then.Dimension end = ⊥
+EndsDimension feed text at then.Opening end = end ≡ at
+EndsDimension feed text at t end = EndsHeader feed text at t end
+
+-- A dimension stands there, and behind it what stands there.
+abbrev pub NamesDimension : Bool → List ℕ → ℕ → Dimension → Then → ℕ → Type 0
+NamesDimension feed text at dim t end = (w : List ℕ) × (mid : ℕ) × TakesOne feed text at (Word w) mid × (dim_word w ≡ Some dim) × EndsDimension feed text mid t end
+
+-- What stands behind the word of a kind alone.
+abbrev pub EndsKind : Bool → List ℕ → ℕ → Dimension → Then → ℕ → Type 0
+EndsKind feed text at dim then.Dimension end = (dim ≡ XY) × (end ≡ at)
+EndsKind feed text at dim t end = ((dim ≡ XY) × EndsHeader feed text at t end) ⊎ NamesDimension feed text at dim t end
+
+-- What stands behind the word of a kind, by the dimension that is joined to it.
+abbrev pub EndsWords : Bool → List ℕ → ℕ → Option Dimension → Dimension → Then → ℕ → Type 0
+EndsWords feed text at None dim t end = EndsKind feed text at dim t end
+EndsWords feed text at (Some joined) dim t end = (dim ≡ joined) × EndsDimension feed text at t end
+
+-- The word of a kind stands there, and behind it what stands there.
+pub record StandsHeader (feed : Bool) (text : List ℕ) (at : ℕ) (part : Part) (dim : Dimension) (t : Then) (end : ℕ) : Type 0 where
+  pub word : List ℕ
+  pub row : KindWord
+  pub mid : ℕ
+  pub names : kind_word word ≡ Some row
+  pub kind : part_of row.kind ≡ part
+  pub takes : TakesOne feed text at (Word word) mid
+  pub ends : EndsWords feed text mid row.joined dim t end

@@ -45,10 +45,32 @@ pub(crate) fn coordinates<'a, T: WktNum, B: Builder<T>, const FEED_ENDS: bool>(
     ensures room { IfOk result (RoomAt (bytes_view FEED_ENDS) B.maker) }
     ensures refused { IfErr result (Refuses T.read (bytes_view FEED_ENDS) B.maker machine source.entry builder) }
 {
+    match machine.dim {
+        Dimension::XY => flat_coordinates::<T, B, FEED_ENDS>(machine, source, builder),
+        _ => deep_coordinates::<T, B, FEED_ENDS>(machine, source, builder),
+    }
+}
+
+/// The same of two numbers each.
+#[inline(always)]
+fn flat_coordinates<'a, T: WktNum, B: Builder<T>, const FEED_ENDS: bool>(
+    machine: Machine,
+    source: Bytes<'a, FEED_ENDS>,
+    builder: B,
+) -> Walked<Bytes<'a, FEED_ENDS>, B>
+    requires state { machine.state ≡ next.X }
+    requires part { has_coordinates machine.part ≡ true }
+    requires flat { machine.dim ≡ dim_of.XY }
+    requires inside { source.at ≤ length source.text.now }
+    requires room { HasRoom (bytes_view FEED_ENDS) B.maker 0 source builder }
+    ensures on { IfOk result (Goes T.read (bytes_view FEED_ENDS) B.maker machine source.entry builder) }
+    ensures room { IfOk result (RoomAt (bytes_view FEED_ENDS) B.maker) }
+    ensures refused { IfErr result (Refuses T.read (bytes_view FEED_ENDS) B.maker machine source.entry builder) }
+{
     let single = is_single(machine.part);
     let (mut source, mut builder) = (source, builder);
     'coordinates: loop {
-        let (is_whole, state, behind, made) = coordinate::<T, B, FEED_ENDS>(
+        let (is_whole, state, behind, made) = flat_coordinate::<T, B, FEED_ENDS>(
             machine, source, builder,
         );
         if !is_whole {
@@ -71,17 +93,80 @@ pub(crate) fn coordinates<'a, T: WktNum, B: Builder<T>, const FEED_ENDS: bool>(
     }
 }
 
-/// The coordinate that comes next, and whether it is whole. If it isn't: in which state the number that isn't read stands.
+/// The same of more numbers each. They stand apart, since few texts have them.
+///
+/// What is answered comes through memory, whose place is cleared here, away from the ways beside it.
+#[inline(always)]
+fn deep_coordinates<'a, T: WktNum, B: Builder<T>, const FEED_ENDS: bool>(
+    machine: Machine,
+    source: Bytes<'a, FEED_ENDS>,
+    builder: B,
+) -> Walked<Bytes<'a, FEED_ENDS>, B>
+    requires state { machine.state ≡ next.X }
+    requires part { has_coordinates machine.part ≡ true }
+    requires more { machine.dim ≢ dim_of.XY }
+    requires inside { source.at ≤ length source.text.now }
+    requires room { HasRoom (bytes_view FEED_ENDS) B.maker 0 source builder }
+    ensures on { IfOk result (Goes T.read (bytes_view FEED_ENDS) B.maker machine source.entry builder) }
+    ensures room { IfOk result (RoomAt (bytes_view FEED_ENDS) B.maker) }
+    ensures refused { IfErr result (Refuses T.read (bytes_view FEED_ENDS) B.maker machine source.entry builder) }
+{
+    deep_coordinates_outlined::<T, B, FEED_ENDS>(machine, source, builder)
+}
+
+#[inline(never)]
+fn deep_coordinates_outlined<'a, T: WktNum, B: Builder<T>, const FEED_ENDS: bool>(
+    machine: Machine,
+    source: Bytes<'a, FEED_ENDS>,
+    builder: B,
+) -> Walked<Bytes<'a, FEED_ENDS>, B>
+    requires state { machine.state ≡ next.X }
+    requires part { has_coordinates machine.part ≡ true }
+    requires more { machine.dim ≢ dim_of.XY }
+    requires inside { source.at ≤ length source.text.now }
+    requires room { HasRoom (bytes_view FEED_ENDS) B.maker 0 source builder }
+    ensures on { IfOk result (Goes T.read (bytes_view FEED_ENDS) B.maker machine source.entry builder) }
+    ensures room { IfOk result (RoomAt (bytes_view FEED_ENDS) B.maker) }
+    ensures refused { IfErr result (Refuses T.read (bytes_view FEED_ENDS) B.maker machine source.entry builder) }
+{
+    let single = is_single(machine.part);
+    let (mut source, mut builder) = (source, builder);
+    'coordinates: loop {
+        let (is_whole, state, behind, made) = deep_coordinate::<T, B, FEED_ENDS>(
+            machine, source, builder,
+        );
+        if !is_whole {
+            return refused(behind, machine.to(state), made);
+        }
+        let text = behind.text;
+        let byte = byte_at(text, behind.at);
+        if byte == b')' {
+            return on(
+                Bytes::new(text, behind.at + 1),
+                machine.outside(),
+                made.close(machine.part),
+            );
+        }
+        if byte != b',' || single {
+            return on(behind, machine.to(State::Item), made);
+        }
+        source = Bytes::new(text, behind.at + 1);
+        builder = made.comma(machine.part);
+    }
+}
+
+/// The coordinate of two numbers that comes next, and whether it is whole. If it isn't: in which state the number that isn't read stands.
 ///
 /// What is carried round the loop stands apart from the machine, since what fills that up would be carried along.
 #[inline(always)]
-fn coordinate<'a, T: WktNum, B: Builder<T>, const FEED_ENDS: bool>(
+fn flat_coordinate<'a, T: WktNum, B: Builder<T>, const FEED_ENDS: bool>(
     machine: Machine,
     source: Bytes<'a, FEED_ENDS>,
     builder: B,
 ) -> (bool, State, Bytes<'a, FEED_ENDS>, B)
     requires state { machine.state ≡ next.X }
     requires part { has_coordinates machine.part ≡ true }
+    requires flat { machine.dim ≡ dim_of.XY }
     requires inside { source.at ≤ length source.text.now }
     requires room { HasRoom (bytes_view FEED_ENDS) B.maker 0 source builder }
     ensures on { OnTrue result.0 (Goes T.read (bytes_view FEED_ENDS) B.maker machine source.entry builder (reached machine next.Item result.2 result.3)) }
@@ -97,35 +182,40 @@ fn coordinate<'a, T: WktNum, B: Builder<T>, const FEED_ENDS: bool>(
     if !has_y {
         return (false, State::Y, source, made);
     }
-    match machine.dim {
-        Dimension::XY => (true, State::Item, source, made),
-        _ => z_and_m::<T, B, FEED_ENDS>(machine, source, made),
-    }
+    (true, State::Item, source, made)
 }
 
-/// The numbers behind X and Y, of which there are some.
-///
-/// What is answered comes through memory, whose place is cleared here, away from the ways beside it.
+/// The same of more numbers.
 #[inline(always)]
-fn z_and_m<'a, T: WktNum, B: Builder<T>, const FEED_ENDS: bool>(
+fn deep_coordinate<'a, T: WktNum, B: Builder<T>, const FEED_ENDS: bool>(
     machine: Machine,
     source: Bytes<'a, FEED_ENDS>,
     builder: B,
 ) -> (bool, State, Bytes<'a, FEED_ENDS>, B)
+    requires state { machine.state ≡ next.X }
     requires part { has_coordinates machine.part ≡ true }
     requires more { machine.dim ≢ dim_of.XY }
     requires inside { source.at ≤ length source.text.now }
     requires room { HasRoom (bytes_view FEED_ENDS) B.maker 0 source builder }
-    ensures on { OnTrue result.0 (Goes T.read (bytes_view FEED_ENDS) B.maker (standing machine (next_after axis.Y machine.dim)) source.entry builder (reached machine next.Item result.2 result.3)) }
+    ensures on { OnTrue result.0 (Goes T.read (bytes_view FEED_ENDS) B.maker machine source.entry builder (reached machine next.Item result.2 result.3)) }
     ensures inside { OnTrue result.0 (result.2.at ≤ length result.2.text.now) }
     ensures room { OnTrue result.0 (HasRoom (bytes_view FEED_ENDS) B.maker 0 result.2 result.3) }
-    ensures refused { OnFalse result.0 (Refuses T.read (bytes_view FEED_ENDS) B.maker (standing machine (next_after axis.Y machine.dim)) source.entry builder (reached machine result.1 result.2 result.3)) }
+    ensures refused { OnFalse result.0 (Refuses T.read (bytes_view FEED_ENDS) B.maker machine source.entry builder (reached machine result.1 result.2 result.3)) }
 {
-    z_and_m_outlined::<T, B, FEED_ENDS>(machine, source, builder)
+    let (has_x, source, made) = number::<T, B, FEED_ENDS>(Axis::X, machine, source, builder);
+    if !has_x {
+        return (false, State::X, source, made);
+    }
+    let (has_y, source, made) = number::<T, B, FEED_ENDS>(Axis::Y, machine, source, made);
+    if !has_y {
+        return (false, State::Y, source, made);
+    }
+    z_and_m::<T, B, FEED_ENDS>(machine, source, made)
 }
 
-#[inline(never)]
-fn z_and_m_outlined<'a, T: WktNum, B: Builder<T>, const FEED_ENDS: bool>(
+/// The numbers behind X and Y, of which there are some.
+#[inline(always)]
+fn z_and_m<'a, T: WktNum, B: Builder<T>, const FEED_ENDS: bool>(
     machine: Machine,
     source: Bytes<'a, FEED_ENDS>,
     builder: B,

@@ -1,12 +1,11 @@
 //! Kind words in capitals, each with the parenthesis or EMPTY behind it, by comparisons.
 ghost use Rattle.std.specs.Bool.{OnTrue};
 ghost use Rattle.std.specs.Int.{w32, w64, to_le_bytes};
-ghost use Rattle.std.specs.Prelude.{◌≡◌, ◌≢◌, ◌≤◌, ◌<◌, ◌+◌, length, take, drop, codes, IfOk, IfErr, IfSome};
-ghost use Rattle.wkt_num.specs.Bytes.{Open, Word, Run, class_of};
+ghost use Rattle.std.specs.Prelude.{◌≡◌, ◌≤◌, ◌<◌, ◌+◌, length, take, drop, codes, IfOk, IfErr, IfSome};
 ghost use Rattle.wkt_events.specs.Remaining.{Legible, remaining_spanned};
 ghost use Rattle.wkt_machine.specs.View.{bytes_view, IsBetween};
 ghost use Rattle.wkt_machine.specs.Goes.{Goes, Refuses};
-ghost use Rattle.wkt_machine.specs.LexemesAhead.{behind_word, IsKindName, EndsWord, StandsBefore, StandsHead, StandsEmpty};
+ghost use Rattle.wkt_machine.specs.LexemesAhead.{IsKindName, EndsWord, StandsHead};
 ghost use Rattle.wkt_access.specs.declared.dimensions.Dimension.TheVariants as dim_of;
 ghost use Rattle.wkt_machine.specs.Machine.{inside};
 ghost use Rattle.wkt_machine.specs.Machines.{state_of, IsSound};
@@ -17,11 +16,13 @@ ghost use Rattle.wkt_machine.specs.declared.part.Part.TheVariants as part_of;
 use crate::builder::Builder;
 use crate::bytes::Bytes;
 use crate::coordinates::coordinates;
+use crate::inner_heads::collection_head;
 use crate::machine::{Machine, State};
+use crate::other_heads::other_header;
 use crate::part::Part;
 use crate::source::{At, Walked};
 use wkt_access::Dimension;
-use wkt_events::{byte_at, skip_white};
+use wkt_events::skip_white;
 use wkt_num::WktNum;
 
 /// The bytes of `GEOMETRYCOLLECTION (`.
@@ -37,15 +38,6 @@ pub(crate) const MULTIPOL: u64 = 0x4c4f_5049_544c_554d;
 pub(crate) const MULTILIN: u64 = 0x4e49_4c49_544c_554d;
 
 pub(crate) const MULTIPOI: u64 = 0x494f_5049_544c_554d;
-
-/// A kind word that stands in a text: its part, where what stands behind it ends, and whether that is EMPTY, or else a
-/// parenthesis.
-#[derive(Clone, Copy)]
-pub(crate) struct Found {
-    part: Part,
-    end: usize,
-    is_empty: bool,
-}
 
 /// Behind the header that comes first, and its parenthesis; of a point behind its coordinate.
 #[inline(always)]
@@ -74,65 +66,10 @@ pub(crate) fn header<'a, T: WktNum, B: Builder<T>, const FEED_ENDS: bool>(
         } = opened::<T, B, FEED_ENDS>(Part::Point, at, end, machine, within, source, builder);
         return coordinates::<T, B, FEED_ENDS>(begun, behind, made);
     }
-    if let Some(end) = empty_point::<FEED_ENDS>(text, at) {
-        return Ok(emptied::<T, B, FEED_ENDS>(Part::Point, at, end, machine, source, builder));
+    if let Some((part, end)) = head::<FEED_ENDS>(text, at) {
+        return Ok(inside_of::<T, B, FEED_ENDS>(part, at, end, machine, source, builder));
     }
-    match head::<FEED_ENDS>(text, at) {
-        Some(head) => Ok(behind::<T, B, FEED_ENDS>(head, at, machine, source, builder)),
-        None => machine.step(source, builder),
-    }
-}
-
-/// Behind a header that stands there.
-#[inline(always)]
-pub(crate) fn behind<'a, T: WktNum, B: Builder<T>, const FEED_ENDS: bool>(
-    head: Found,
-    at: usize,
-    machine: Machine,
-    source: Bytes<'a, FEED_ENDS>,
-    builder: B,
-) -> At<Bytes<'a, FEED_ENDS>, B>
-    requires state { machine.state ≡ next.Kind }
-    requires depth { machine.depth + length (remaining_spanned FEED_ENDS source.text.now source.at) ≤ usize.MAX }
-    requires between { IsBetween FEED_ENDS source.text.now source.at at }
-    requires line { Legible FEED_ENDS source.text.now source.at → Legible FEED_ENDS source.text.now at }
-    requires head { StandsBefore FEED_ENDS source.text.now at (behind_word head.is_empty) head.part head.end }
-    requires room { HasRoom (bytes_view FEED_ENDS) B.maker 0 source builder }
-    ensures on { Goes T.read (bytes_view FEED_ENDS) B.maker machine source.entry builder result }
-    ensures stands { RoomAt (bytes_view FEED_ENDS) B.maker result }
-{
-    if head.is_empty {
-        emptied::<T, B, FEED_ENDS>(head.part, at, head.end, machine, source, builder)
-    } else {
-        inside_of::<T, B, FEED_ENDS>(head.part, at, head.end, machine, source, builder)
-    }
-}
-
-/// Behind the header of a part that stands there in two dimensions, and EMPTY, which ends at `end`.
-#[inline(always)]
-pub(crate) fn emptied<'a, T: WktNum, B: Builder<T>, const FEED_ENDS: bool>(
-    part: Part,
-    at: usize,
-    end: usize,
-    machine: Machine,
-    source: Bytes<'a, FEED_ENDS>,
-    builder: B,
-) -> At<Bytes<'a, FEED_ENDS>, B>
-    requires state { machine.state ≡ next.Kind }
-    requires between { IsBetween FEED_ENDS source.text.now source.at at }
-    requires line { Legible FEED_ENDS source.text.now source.at → Legible FEED_ENDS source.text.now at }
-    requires head { StandsEmpty FEED_ENDS source.text.now at part end }
-    requires room { HasRoom (bytes_view FEED_ENDS) B.maker 0 source builder }
-    ensures on { Goes T.read (bytes_view FEED_ENDS) B.maker machine source.entry builder result }
-    ensures stands { RoomAt (bytes_view FEED_ENDS) B.maker result }
-{
-    let _ = at;
-    let text = source.text;
-    At {
-        source: Bytes::new(text, end),
-        machine: machine.begun(State::Opening, part, Dimension::XY).outside(),
-        builder: builder.begin(part, Dimension::XY).empty(part),
-    }
+    other_header::<T, B, FEED_ENDS>(at, machine, source, builder)
 }
 
 /// Behind the header of a part that stands there in two dimensions, and its parenthesis, which ends at `end`.
@@ -195,11 +132,12 @@ pub(crate) fn opened<'a, T: WktNum, B: Builder<T>, const FEED_ENDS: bool>(
     }
 }
 
-/// The header that stands there, in two dimensions, of any kind but a point. `None` doesn't imply that none does.
+/// The header that stands there, in capitals and two dimensions, with its parenthesis, of any kind but a point. `None`
+/// doesn't imply that none does.
 #[inline(always)]
-fn head<const FEED_ENDS: bool>(text: &[u8], at: usize) -> Option<Found>
+fn head<const FEED_ENDS: bool>(text: &[u8], at: usize) -> Option<(Part, usize)>
     requires { at ≤ length text.now }
-    ensures { IfSome result (λ h. StandsBefore FEED_ENDS text.now at (behind_word h.is_empty) h.part h.end) }
+    ensures { IfSome result (λ h. StandsHead FEED_ENDS text.now at h.0 h.1) }
 {
     if text.len() - at < LONGEST_HEAD {
         return None;
@@ -209,7 +147,10 @@ fn head<const FEED_ENDS: bool>(text: &[u8], at: usize) -> Option<Found>
     }
     let first = eight_bytes(&text[at..]);
     if first == GEOMETRY {
-        return named::<18, 8, FEED_ENDS>(Part::Collection, b"GEOMETRYCOLLECTION", text, at);
+        return match collection_head::<FEED_ENDS>(text, at) {
+            Some(end) => Some((Part::Collection, end)),
+            None => None,
+        };
     }
     if first == LINESTRI {
         return named::<10, 8, FEED_ENDS>(Part::LineString, b"LINESTRING", text, at);
@@ -233,29 +174,18 @@ pub(crate) fn named<const N: usize, const KNOWN: usize, const FEED_ENDS: bool>(
     word: &[u8; N],
     text: &[u8],
     at: usize,
-) -> Option<Found>
+) -> Option<(Part, usize)>
     requires name { IsKindName part word.now }
     requires some { 0 < N }
     requires known { KNOWN ≤ N × (take KNOWN (drop at text.now) ≡ take KNOWN word.now) }
     requires room { at + N + 2 ≤ length text.now }
-    ensures { IfSome result (λ h. StandsBefore FEED_ENDS text.now at (behind_word h.is_empty) h.part h.end) }
+    ensures { IfSome result (λ h. StandsHead FEED_ENDS text.now at h.0 h.1) }
 {
     if !begins::<N, KNOWN>(word, &text[at..]) {
         return None;
     }
-    if let Some(end) = opens_behind::<FEED_ENDS>(text, at + N) {
-        return Some(Found {
-            part,
-            end,
-            is_empty: false,
-        });
-    }
-    match empty_behind::<FEED_ENDS>(text, at + N) {
-        Some(end) => Some(Found {
-            part,
-            end,
-            is_empty: true,
-        }),
+    match opens_behind::<FEED_ENDS>(text, at + N) {
+        Some(end) => Some((part, end)),
         None => None,
     }
 }
@@ -272,23 +202,11 @@ pub(crate) fn point_head<const FEED_ENDS: bool>(text: &[u8], at: usize) -> Optio
     opens_behind::<FEED_ENDS>(text, at + 5)
 }
 
-/// Behind `POINT EMPTY`. `None` doesn't imply that it doesn't stand there.
-#[inline(always)]
-pub(crate) fn empty_point<const FEED_ENDS: bool>(text: &[u8], at: usize) -> Option<usize>
-    requires { at ≤ length text.now }
-    ensures { IfSome result (StandsEmpty FEED_ENDS text.now at part_of.Point) }
-{
-    if text.len() - at < 8 || !is_point(&text[at..]) {
-        return None;
-    }
-    empty_behind::<FEED_ENDS>(text, at + 5)
-}
-
 /// Behind a parenthesis, or a space and a parenthesis.
 #[inline(always)]
 pub(crate) fn opens_behind<const FEED_ENDS: bool>(text: &[u8], at: usize) -> Option<usize>
     requires { at + 2 ≤ length text.now }
-    ensures { IfSome result (EndsWord FEED_ENDS text.now at Open) }
+    ensures { IfSome result (EndsWord FEED_ENDS text.now at) }
 {
     if text[at] == b'(' {
         return Some(at + 1);
@@ -297,45 +215,6 @@ pub(crate) fn opens_behind<const FEED_ENDS: bool>(text: &[u8], at: usize) -> Opt
         return Some(at + 2);
     }
     None
-}
-
-/// Behind a space and EMPTY, and before what ends a text, a line or an item. `None` doesn't imply that EMPTY doesn't stand
-/// there. Its first letter is looked at first: it is none of a dimension's.
-#[inline(always)]
-fn empty_behind<const FEED_ENDS: bool>(text: &[u8], at: usize) -> Option<usize>
-    requires { at + 2 ≤ length text.now }
-    ensures { IfSome result (EndsWord FEED_ENDS text.now at (Word (codes "EMPTY"))) }
-{
-    if text[at + 1] != b'E' {
-        return None;
-    }
-    if text[at] != b' ' || text.len() - at < 6 {
-        return None;
-    }
-    if !is_empty(&text[at + 1..]) || !ends_word(byte_at(text, at + 6)) {
-        return None;
-    }
-    Some(at + 6)
-}
-
-/// Whether the byte ends a text, a line or an item.
-#[inline(always)]
-fn ends_word(byte: u8) -> bool
-    ensures { OnTrue result (class_of byte ≢ Run) }
-{
-    if byte == b'\n' {
-        return true;
-    }
-    if byte == b',' {
-        return true;
-    }
-    if byte == b')' {
-        return true;
-    }
-    if byte != 0 {
-        return false;
-    }
-    true
 }
 
 /// Whether the bytes begin with the word, of which the first are known to. Where it is a constant, the compiler makes few
@@ -368,24 +247,6 @@ fn is_point(bytes: &[u8]) -> bool
         return false;
     }
     if bytes[4] != b'T' {
-        return false;
-    }
-    true
-}
-
-/// The bytes `EMPT`, as one number.
-const EMPT: u32 = 0x5450_4d45;
-
-/// Whether the bytes begin with `EMPTY`, by two comparisons.
-#[inline(always)]
-fn is_empty(bytes: &[u8]) -> bool
-    requires { 5 ≤ length bytes.now }
-    ensures { OnTrue result (take 5 bytes.now ≡ codes "EMPTY") }
-{
-    if four_bytes(bytes) != EMPT {
-        return false;
-    }
-    if bytes[4] != b'Y' {
         return false;
     }
     true

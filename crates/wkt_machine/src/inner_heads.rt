@@ -5,7 +5,7 @@ ghost use Rattle.std.specs.Prelude.{◌≡◌, ◌≤◌, ◌+◌, length, take,
 ghost use Rattle.wkt_events.specs.Remaining.{Legible, remaining_spanned};
 ghost use Rattle.wkt_machine.specs.View.{bytes_view, IsBetween};
 ghost use Rattle.wkt_machine.specs.Goes.{Goes, Refuses};
-ghost use Rattle.wkt_machine.specs.LexemesAhead.{behind_word, IsKindName, StandsBefore, StandsHead};
+ghost use Rattle.wkt_machine.specs.LexemesAhead.{IsKindName, StandsHead};
 ghost use Rattle.wkt_machine.specs.Room.{HasRoom, RoomAt};
 ghost use Rattle.wkt_machine.specs.declared.machine.State.TheVariants as next;
 ghost use Rattle.wkt_machine.specs.declared.part.Part.TheVariants as part_of;
@@ -15,10 +15,11 @@ use crate::builder::Builder;
 use crate::bytes::Bytes;
 use crate::coordinates::coordinates;
 use crate::heads::{
-    Found, GEOMETRY, LINESTRI, LONGEST_HEAD, MULTILIN, MULTIPOI, MULTIPOL, behind, eight_bytes,
-    emptied, empty_point, inside_of, named, opened, opens_behind, point_head,
+    GEOMETRY, LINESTRI, LONGEST_HEAD, MULTILIN, MULTIPOI, MULTIPOL, eight_bytes, inside_of, named,
+    opened, opens_behind, point_head,
 };
 use crate::machine::{Machine, State};
+use crate::other_heads::other_header;
 use crate::part::Part;
 use crate::source::{At, Walked};
 use wkt_access::Dimension;
@@ -94,32 +95,32 @@ fn many_header<'a, T: WktNum, B: Builder<T>, const FEED_ENDS: bool>(
     ensures refused { IfErr result (Refuses T.read (bytes_view FEED_ENDS) B.maker machine source.entry builder) }
 {
     let text = source.text;
-    if let Some(head) = long_head::<10, FEED_ENDS>(
+    if let Some((part, end)) = long_head::<10, FEED_ENDS>(
         Part::MultiPoint,
         b"MULTIPOINT",
         MULTIPOI,
         text,
         at,
     ) {
-        return Ok(behind::<T, B, FEED_ENDS>(head, at, machine, source, builder));
+        return Ok(inside_of::<T, B, FEED_ENDS>(part, at, end, machine, source, builder));
     }
-    if let Some(head) = long_head::<12, FEED_ENDS>(
+    if let Some((part, end)) = long_head::<12, FEED_ENDS>(
         Part::MultiPolygon,
         b"MULTIPOLYGON",
         MULTIPOL,
         text,
         at,
     ) {
-        return Ok(behind::<T, B, FEED_ENDS>(head, at, machine, source, builder));
+        return Ok(inside_of::<T, B, FEED_ENDS>(part, at, end, machine, source, builder));
     }
-    if let Some(head) = long_head::<15, FEED_ENDS>(
+    if let Some((part, end)) = long_head::<15, FEED_ENDS>(
         Part::MultiLineString,
         b"MULTILINESTRING",
         MULTILIN,
         text,
         at,
     ) {
-        return Ok(behind::<T, B, FEED_ENDS>(head, at, machine, source, builder));
+        return Ok(inside_of::<T, B, FEED_ENDS>(part, at, end, machine, source, builder));
     }
     one_header::<T, B, FEED_ENDS>(at, machine, source, builder)
 }
@@ -154,22 +155,19 @@ fn one_header<'a, T: WktNum, B: Builder<T>, const FEED_ENDS: bool>(
         } = opened::<T, B, FEED_ENDS>(Part::Point, at, end, machine, within, source, builder);
         return coordinates::<T, B, FEED_ENDS>(begun, behind, made);
     }
-    if let Some(end) = empty_point::<FEED_ENDS>(text, at) {
-        return Ok(emptied::<T, B, FEED_ENDS>(Part::Point, at, end, machine, source, builder));
-    }
-    if let Some(head) = long_head::<10, FEED_ENDS>(
+    if let Some((part, end)) = long_head::<10, FEED_ENDS>(
         Part::LineString,
         b"LINESTRING",
         LINESTRI,
         text,
         at,
     ) {
-        return Ok(behind::<T, B, FEED_ENDS>(head, at, machine, source, builder));
+        return Ok(inside_of::<T, B, FEED_ENDS>(part, at, end, machine, source, builder));
     }
-    if let Some(head) = polygon_head::<FEED_ENDS>(text, at) {
-        return Ok(behind::<T, B, FEED_ENDS>(head, at, machine, source, builder));
+    if let Some((part, end)) = polygon_head::<FEED_ENDS>(text, at) {
+        return Ok(inside_of::<T, B, FEED_ENDS>(part, at, end, machine, source, builder));
     }
-    machine.step(source, builder)
+    other_header::<T, B, FEED_ENDS>(at, machine, source, builder)
 }
 
 /// The head of one kind, where the first eight bytes of its word, as one number, stand. `None` doesn't imply that it
@@ -181,13 +179,13 @@ fn long_head<const N: usize, const FEED_ENDS: bool>(
     eight: u64,
     text: &[u8],
     at: usize,
-) -> Option<Found>
+) -> Option<(Part, usize)>
     requires name { IsKindName part word.now }
     requires eight { to_le_bytes w64 eight ≡ take 8 word.now }
     requires long { 8 ≤ N }
     requires short { N ≤ 18 }
     requires inside { at ≤ length text.now }
-    ensures { IfSome result (λ h. StandsBefore FEED_ENDS text.now at (behind_word h.is_empty) h.part h.end) }
+    ensures { IfSome result (λ h. StandsHead FEED_ENDS text.now at h.0 h.1) }
 {
     if text.len() - at < LONGEST_HEAD {
         return None;
@@ -200,9 +198,9 @@ fn long_head<const N: usize, const FEED_ENDS: bool>(
 
 /// The head of a polygon. `None` doesn't imply that none stands there.
 #[inline(always)]
-fn polygon_head<const FEED_ENDS: bool>(text: &[u8], at: usize) -> Option<Found>
+fn polygon_head<const FEED_ENDS: bool>(text: &[u8], at: usize) -> Option<(Part, usize)>
     requires { at ≤ length text.now }
-    ensures { IfSome result (λ h. StandsBefore FEED_ENDS text.now at (behind_word h.is_empty) h.part h.end) }
+    ensures { IfSome result (λ h. StandsHead FEED_ENDS text.now at h.0 h.1) }
 {
     if text.len() - at < LONGEST_HEAD {
         return None;
@@ -212,7 +210,7 @@ fn polygon_head<const FEED_ENDS: bool>(text: &[u8], at: usize) -> Option<Found>
 
 /// Behind `GEOMETRYCOLLECTION(` or `GEOMETRYCOLLECTION (`. `None` doesn't imply that none stands there.
 #[inline(always)]
-fn collection_head<const FEED_ENDS: bool>(text: &[u8], at: usize) -> Option<usize>
+pub(crate) fn collection_head<const FEED_ENDS: bool>(text: &[u8], at: usize) -> Option<usize>
     requires { at ≤ length text.now }
     ensures { IfSome result (StandsHead FEED_ENDS text.now at part_of.Collection) }
 {

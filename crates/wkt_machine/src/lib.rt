@@ -19,6 +19,7 @@ mod marks;
 mod message;
 pub mod nothing;
 mod numbers;
+mod other_heads;
 mod pairs;
 mod part;
 mod points;

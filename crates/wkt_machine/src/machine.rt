@@ -1,8 +1,10 @@
 //! The grammar, as a state machine over lexemes.
-ghost use Rattle.std.specs.Prelude.{◌≡◌, ◌<◌, ◌-◌};
+ghost use Rattle.std.specs.Bool.{OnTrue, OnFalse};
+ghost use Rattle.std.specs.Prelude.{◌≡◌, ◌≢◌, ◌<◌, ◌-◌};
 ghost use Rattle.wkt_machine.specs.Machine.{at, part_of, inside, outside, start, is_over};
 ghost use Rattle.wkt_machine.specs.Machines.{state_of, next_after, is_single, IsSound};
 ghost use Rattle.wkt_machine.specs.Machine as place;
+ghost use Rattle.wkt_machine.specs.declared.machine.Seen.TheVariants as sees;
 
 use crate::part::{Axis, Part};
 use wkt_access::Dimension;
@@ -66,6 +68,24 @@ pub fn part_of(kind: GeometryType) -> Part
         GeometryType::MultiPolygon => Part::MultiPolygon,
         GeometryType::GeometryCollection => Part::Collection,
     }
+}
+
+/// Whether it is a closing parenthesis. A match over all lexemes would be a jump by a table.
+#[inline(always)]
+pub(crate) fn is_close(seen: Seen) -> bool
+    ensures on { OnTrue result (seen ≡ sees.Close) }
+    ensures off { OnFalse result (seen ≢ sees.Close) }
+{
+    matches!(seen, Seen::Close)
+}
+
+/// Whether it is a comma.
+#[inline(always)]
+pub(crate) fn is_comma(seen: Seen) -> bool
+    ensures on { OnTrue result (seen ≡ sees.Comma) }
+    ensures off { OnFalse result (seen ≢ sees.Comma) }
+{
+    matches!(seen, Seen::Comma)
 }
 
 /// Whether a part has one coordinate alone.

@@ -7,10 +7,15 @@ ghost use Rattle.wkt_machine.specs.Machines.{state_of, IsSound};
 ghost use Rattle.wkt_machine.specs.LexemesAhead.{is_mark};
 ghost use Rattle.wkt_machine.specs.Room.{owed, HasRoom, RoomAt};
 ghost use Rattle.wkt_machine.specs.View.{sight};
+ghost use Rattle.wkt_machine.specs.declared.machine.Seen.TheVariants as sees;
+ghost use Rattle.wkt_machine.specs.declared.machine.State.TheVariants as next;
+ghost use Rattle.wkt_machine.specs.declared.part.Part.TheVariants as member;
 
 use crate::builder::Builder;
 use crate::machine::{Machine, Seen, State};
-use crate::source::{At, Source, Walked};
+use crate::part::{Axis, Part};
+use crate::source::{At, Source, Walk, Walked};
+use crate::step::on;
 use wkt_num::WktNum;
 
 /// After one lexeme or more: as far as no parenthesis or comma comes next that a part, or a collection, has there.
@@ -126,4 +131,178 @@ fn mark<T: WktNum, S: Source<T>, B: Builder<T>>(
         },
         _ => machine.step(source, builder),
     }
+}
+
+/// The points of a multipoint with commas between them, and the parenthesis behind them; or as far as something else stands
+/// there. They stand apart, since few texts have them.
+///
+/// What is answered comes through memory, whose place is cleared here, away from the ways beside it.
+#[inline(always)]
+pub(crate) fn members<T: WktNum, S: Walk<T>, B: Builder<T>>(
+    machine: Machine,
+    source: S,
+    builder: B,
+) -> Walked<S, B>
+    requires state { machine.state ≡ next.Opening }
+    requires part { machine.part ≡ member.Member }
+    requires depth { machine.depth + length (S.view.remaining source) ≤ usize.MAX }
+    requires room { HasRoom S.view B.maker 0 source builder }
+    ensures on { IfOk result (Goes T.read S.view B.maker machine source builder) }
+    ensures room { IfOk result (RoomAt S.view B.maker) }
+    ensures refused { IfErr result (Refuses T.read S.view B.maker machine source builder) }
+{
+    members_outlined(machine, source, builder)
+}
+
+#[inline(never)]
+fn members_outlined<T: WktNum, S: Walk<T>, B: Builder<T>>(
+    machine: Machine,
+    source: S,
+    builder: B,
+) -> Walked<S, B>
+    requires state { machine.state ≡ next.Opening }
+    requires part { machine.part ≡ member.Member }
+    requires depth { machine.depth + length (S.view.remaining source) ≤ usize.MAX }
+    requires room { HasRoom S.view B.maker 0 source builder }
+    ensures on { IfOk result (Goes T.read S.view B.maker machine source builder) }
+    ensures room { IfOk result (RoomAt S.view B.maker) }
+    ensures refused { IfErr result (Refuses T.read S.view B.maker machine source builder) }
+{
+    let (mut source, mut builder) = (source, builder);
+    let (mut dim, mut depth) = (machine.dim, machine.depth);
+    'members: loop {
+        let machine = Machine {
+            state: State::Opening,
+            part: Part::Member,
+            dim,
+            depth,
+        };
+        let At {
+            source: behind,
+            machine: next,
+            builder: made,
+        } = member_and_mark(machine, source, builder)?;
+        if !is_before_member(next) {
+            return on(behind, next, made);
+        }
+        (source, builder) = (behind, made);
+        dim = next.dim;
+        depth = next.depth;
+    }
+}
+
+/// Whether a point of a multipoint comes next.
+#[inline(always)]
+fn is_before_member(machine: Machine) -> bool
+    ensures state { OnTrue result (machine.state ≡ next.Opening) }
+    ensures part { OnTrue result (machine.part ≡ member.Member) }
+{
+    matches!(machine.state, State::Opening) && matches!(machine.part, Part::Member)
+}
+
+/// Whether what follows a point of a multipoint comes next.
+#[inline(always)]
+fn is_behind_member(machine: Machine) -> bool
+    ensures state { OnTrue result (machine.state ≡ next.Item) }
+    ensures part { OnTrue result (machine.part ≡ member.MultiPoint) }
+{
+    matches!(machine.state, State::Item) && matches!(machine.part, Part::MultiPoint)
+}
+
+/// A point of a multipoint and the mark behind it; or as far as something else stands there.
+#[inline(always)]
+fn member_and_mark<T: WktNum, S: Walk<T>, B: Builder<T>>(
+    machine: Machine,
+    source: S,
+    builder: B,
+) -> Walked<S, B>
+    requires state { machine.state ≡ next.Opening }
+    requires part { machine.part ≡ member.Member }
+    requires depth { machine.depth + length (S.view.remaining source) ≤ usize.MAX }
+    requires room { HasRoom S.view B.maker 0 source builder }
+    ensures on { IfOk result (Goes T.read S.view B.maker machine source builder) }
+    ensures room { IfOk result (RoomAt S.view B.maker) }
+    ensures refused { IfErr result (Refuses T.read S.view B.maker machine source builder) }
+{
+    let At {
+        source: behind,
+        machine: next,
+        builder: made,
+    } = member(machine, source, builder)?;
+    if !is_behind_member(next) {
+        return on(behind, next, made);
+    }
+    let machine = Machine {
+        state: State::Item,
+        part: Part::MultiPoint,
+        dim: next.dim,
+        depth: next.depth,
+    };
+    let (seen, looked) = behind.look();
+    machine.at_item(seen, looked, made)
+}
+
+/// A point of a multipoint; or as far as something else stands there.
+#[inline(always)]
+fn member<T: WktNum, S: Walk<T>, B: Builder<T>>(
+    machine: Machine,
+    source: S,
+    builder: B,
+) -> Walked<S, B>
+    requires state { machine.state ≡ next.Opening }
+    requires part { machine.part ≡ member.Member }
+    requires depth { machine.depth + length (S.view.remaining source) ≤ usize.MAX }
+    requires room { HasRoom S.view B.maker 0 source builder }
+    ensures on { IfOk result (Goes T.read S.view B.maker machine source builder) }
+    ensures room { IfOk result (RoomAt S.view B.maker) }
+    ensures refused { IfErr result (Refuses T.read S.view B.maker machine source builder) }
+{
+    let (seen, looked) = source.look();
+    match seen {
+        Seen::Open => {
+            let inside = Machine {
+                state: State::X,
+                part: Part::Member,
+                dim: machine.dim,
+                depth: machine.depth,
+            };
+            looked
+                .skip()
+                .coordinates(inside, builder.open(Part::Member))
+        }
+        Seen::Number => bare(machine, looked, builder),
+        Seen::Empty => machine.at_empty(looked, builder),
+        _ => machine.step(looked, builder),
+    }
+}
+
+/// A point without parentheses, as far as its second number. The first was looked at.
+#[inline(always)]
+fn bare<T: WktNum, S: Walk<T>, B: Builder<T>>(
+    machine: Machine,
+    source: S,
+    builder: B,
+) -> Walked<S, B>
+    requires state { machine.state ≡ next.Opening }
+    requires part { machine.part ≡ member.Member }
+    requires looked { S.view.looked source }
+    requires seen { sees.Number ≡ sight (S.view.remaining source) }
+    requires room { HasRoom S.view B.maker 0 source builder }
+    ensures on { IfOk result (Goes T.read S.view B.maker machine source builder) }
+    ensures room { IfOk result (RoomAt S.view B.maker) }
+    ensures refused { IfErr result (Refuses T.read S.view B.maker machine source builder) }
+{
+    let At {
+        source: behind,
+        machine: _,
+        builder: made,
+    } = machine.bare(source, builder)?;
+    let second = Machine {
+        state: State::Y,
+        part: Part::Bare,
+        dim: machine.dim,
+        depth: machine.depth,
+    };
+    let (seen, looked) = behind.look();
+    second.at_number(Axis::Y, seen, looked, made)
 }

@@ -2,7 +2,7 @@
 ghost use Rattle.std.specs.Prelude.{◌≡◌, ◌<◌, ◌≤◌, ℕ, length, slice_index_or, take, IfSome, IfNone};
 ghost use Rattle.wkt_events.specs.Remaining.{IsNumberAt, EndsNumber, NoNumber};
 
-use wkt_events::{byte_at, number_there};
+use wkt_events::{byte_at, is_of_run, number_there};
 use wkt_num::WktNum;
 
 /// How many bytes a window has.
@@ -41,8 +41,8 @@ fn slow_read_outlined<T: WktNum>(text: &[u8], at: usize) -> Option<(T, usize)>
     ensures some { IfSome result (λ p. IsNumberAt T.read text.now at p.1 p.0) }
     ensures none { IfNone result (NoNumber T.read text.now at) }
 {
-    // No number stands where a parenthesis closes.
-    if byte_at(text, at) == b')' {
+    // No number stands where a parenthesis closes, or the text ends.
+    if !is_of_run(byte_at(text, at)) {
         return None;
     }
     let rest = &text[at..];
@@ -79,8 +79,8 @@ fn slow_end<T: WktNum>(text: &[u8], at: usize) -> Option<usize>
     ensures some { IfSome result (λ end. EndsNumber T.read text.now at end) }
     ensures none { IfNone result (NoNumber T.read text.now at) }
 {
-    // No number stands where a parenthesis closes.
-    if byte_at(text, at) == b')' {
+    // No number stands where a parenthesis closes, or the text ends.
+    if !is_of_run(byte_at(text, at)) {
         return None;
     }
     let rest = &text[at..];

@@ -1,6 +1,5 @@
 //! The step of the machine.
-ghost use Rattle.std.specs.Bool.{OnTrue, OnFalse};
-ghost use Rattle.std.specs.Prelude.{◌≡◌, ◌≢◌, ◌+◌, ◌<◌, ◌≤◌, length, IfOk, IfErr, Ok, Err, false};
+ghost use Rattle.std.specs.Prelude.{◌≡◌, ◌+◌, ◌<◌, ◌≤◌, length, IfOk, IfErr, Ok, Err, false};
 ghost use Rattle.wkt_machine.specs.Machine.{is_over};
 ghost use Rattle.wkt_machine.specs.Goes.{Goes, Refuses, EndsPoint};
 ghost use Rattle.wkt_machine.specs.Machines.{state_of, state_for, IsSound};
@@ -11,7 +10,7 @@ ghost use Rattle.wkt_machine.specs.declared.machine.State.TheVariants as next;
 ghost use Rattle.wkt_machine.specs.declared.part.Part.TheVariants as member;
 
 use crate::builder::Builder;
-use crate::machine::{Machine, Seen, State, after, is_single, part_of};
+use crate::machine::{Machine, Seen, State, after, is_close, is_comma, is_single, part_of};
 use crate::part::{Axis, Part};
 use crate::source::{At, Source, Walked};
 use wkt_access::Dimension;
@@ -240,13 +239,18 @@ impl Machine {
 
     /// After the first number of a point without parentheses.
     #[inline(always)]
-    fn bare<T: WktNum, S: Source<T>, B: Builder<T>>(self, source: S, builder: B) -> Walked<S, B>
+    pub(crate) fn bare<T: WktNum, S: Source<T>, B: Builder<T>>(
+        self,
+        source: S,
+        builder: B,
+    ) -> Walked<S, B>
         requires state { self.state ≡ next.Opening }
         requires part { self.part ≡ member.Member }
         requires looked { S.view.looked source }
         requires seen { sees.Number ≡ sight (S.view.remaining source) }
         requires room { HasRoom S.view B.maker 0 source builder }
         ensures on { IfOk result (Goes T.read S.view B.maker self source builder) }
+        ensures machine { IfOk result (λ to. to.machine ≡ record { state = next.Y; part = member.Bare; dim = self.dim; depth = self.depth }) }
         ensures room { IfOk result (RoomAt S.view B.maker) }
         ensures refused { IfErr result (Refuses T.read S.view B.maker self source builder) }
     {
@@ -258,7 +262,7 @@ impl Machine {
 
     /// A number of a coordinate comes next.
     #[inline(always)]
-    fn at_number<T: WktNum, S: Source<T>, B: Builder<T>>(
+    pub(crate) fn at_number<T: WktNum, S: Source<T>, B: Builder<T>>(
         self,
         axis: Axis,
         seen: Seen,
@@ -402,24 +406,6 @@ impl Machine {
             refused(source, self, builder)
         }
     }
-}
-
-/// Whether it is a closing parenthesis. A match over all lexemes would be a jump by a table.
-#[inline(always)]
-fn is_close(seen: Seen) -> bool
-    ensures on { OnTrue result (seen ≡ sees.Close) }
-    ensures off { OnFalse result (seen ≢ sees.Close) }
-{
-    matches!(seen, Seen::Close)
-}
-
-/// Whether it is a comma.
-#[inline(always)]
-fn is_comma(seen: Seen) -> bool
-    ensures on { OnTrue result (seen ≡ sees.Comma) }
-    ensures off { OnFalse result (seen ≢ sees.Comma) }
-{
-    matches!(seen, Seen::Comma)
 }
 
 /// On at the place, with what was made.

@@ -4,7 +4,7 @@ use std::process::Abort;
 use wkt_num::Decimal;
 
 // What each text is; nothing where no beginning of it is a geometry.
-const FRONTS: [(&str, Option<usize>); 37] = [
+const FRONTS: [(&str, Option<usize>); 69] = [
     ("POINT(1 2)", Some(10)),
     ("point z ( 1 2.50 -3 ) and more", Some(21)),
     ("POINT EMPTY", Some(11)),
@@ -49,6 +49,41 @@ const FRONTS: [(&str, Option<usize>); 37] = [
     (
         "GEOMETRYCOLLECTION(POLYGON EMPTY,MULTIPOINT EMPTY)) and more",
         Some(50),
+    ),
+    ("PointZ(1 2 3)", Some(13)),
+    ("POINTM (1 2 3) x", Some(14)),
+    ("pointzm empty", Some(13)),
+    ("Point  zM\t(1 2 3 4)", Some(19)),
+    ("POINT\n(1 2)", Some(11)),
+    ("POINT Z EMPTY", Some(13)),
+    ("LineString M empty,", Some(18)),
+    ("LINEARRING Z(1 2 3,4 5 6)", Some(25)),
+    ("LINEARRINGZ(1 2 3,4 5 6)", None),
+    ("POINTX(1 2)", None),
+    ("POINT ZX(1 2 3)", None),
+    ("POINT ZMX(1 2 3)", None),
+    ("POINT Z EMPTYX", None),
+    ("POINT Z 1 2 3", None),
+    ("POINT 1 2", None),
+    ("POINT Z", None),
+    ("POINTZ", None),
+    ("POINT", None),
+    ("POINT E", None),
+    ("POINT M Z(1 2 3)", None),
+    ("POINTZ M(1 2 3 4)", None),
+    ("MULTIPOINT(1 2,3 4)", Some(19)),
+    ("MULTIPOINT Z(1 2 3,(4 5 6),EMPTY)", Some(33)),
+    ("multipoint zm (1 2 3 4 , 5 6 7 8 ) x", Some(34)),
+    ("MULTIPOINT ( ( 1 2 ) , 3 4 )", Some(28)),
+    ("MULTIPOINT(1,2)", None),
+    ("MULTIPOINT(1 2 3)", None),
+    ("MULTIPOINT((1 2),(3 4", None),
+    ("MULTIPOINT(1 2", None),
+    ("MULTIPOINT(())", None),
+    ("MULTIPOINT(1 2;3 4)", None),
+    (
+        "GEOMETRYCOLLECTION ZM(MULTIPOINT M(1 2 3),pointzm(1 2 3 4),Polygon Empty)",
+        Some(73),
     ),
     ("", None),
 ];

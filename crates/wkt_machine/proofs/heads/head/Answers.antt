@@ -1,15 +1,10 @@
 -- Each word is the name of its kind, of which what was compared stands there.
 use Rattle.std.proofs.Common.{arith, refl}
-use Rattle.wkt_machine.proofs.ByteSteps.{collection_name, line_string_name, polygon_name, multi_polygon_name, multi_line_string_name, multi_point_name, eight_stand}
+use Rattle.wkt_machine.proofs.ByteSteps.{line_string_name, polygon_name, multi_polygon_name, multi_line_string_name, multi_point_name, eight_stand}
 use Rattle.wkt_machine.proofs.heads.head.Goals as goal
 
 pub named-requires : goal.named-requires
 named-requires g c = (omega arith, (polygon_name, (omega arith, ((omega arith, refl), omega arith))))
-
-pub named-requires-then-first-eq-GEOMETRY : goal.named-requires-then-first-eq-GEOMETRY
-named-requires-then-first-eq-GEOMETRY g c =
-    let begun = eight_stand c.args.text.now c.args.at _ _ c.if-first-eq-GEOMETRY.true c.eight_bytes-first.ensures in
-    (omega arith, (collection_name, (omega arith, ((omega arith, begun), omega arith))))
 
 pub named-requires-then-first-eq-LINESTRI : goal.named-requires-then-first-eq-LINESTRI
 named-requires-then-first-eq-LINESTRI g c =

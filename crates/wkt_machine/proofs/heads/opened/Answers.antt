@@ -1,7 +1,6 @@
 -- The kind word and the parenthesis are two lexemes.
 use Rattle.std.proofs.Common.{sym, subst, arith, ◌+◌, ap, ◌∙◌}
 use Rattle.std.specs.Prelude.{not, ◌==◌}
-use Rattle.wkt_num.specs.Bytes.{Open}
 use Rattle.wkt_machine.specs.LexemesAhead.{StandsHead}
 use Rattle.wkt_machine.proofs.ByteSteps.{head_goes}
 use Rattle.wkt_machine.proofs.SourceRooms.{head_fits, head_after}
@@ -17,14 +16,14 @@ returns-clause-on g c =
     (g.B.Builder.maker.more _ _ _ _ _ c.begin.ensures.makes c.open.ensures.makes)
 
 pub begin-requires : goal.begin-requires
-begin-requires g c = record { room = head_fits g.B.Builder.maker _ Open (header_cost c.args.part) c.args.source c.args.builder c.args.at c.args.part c.args.end (omega arith) c.requires.between.same c.requires.head c.requires.room }
+begin-requires g c = record { room = head_fits g.B.Builder.maker _ (header_cost c.args.part) c.args.source c.args.builder c.args.at c.args.part c.args.end (omega arith) c.requires.between.same c.requires.head c.requires.room }
 
 pub open-requires : goal.open-requires
-open-requires g c = record { room = c.begin.ensures.leaves 1 (head_fits g.B.Builder.maker _ Open (1 + header_cost c.args.part) c.args.source c.args.builder c.args.at c.args.part c.args.end (omega arith) c.requires.between.same c.requires.head c.requires.room) }
+open-requires g c = record { room = c.begin.ensures.leaves 1 (head_fits g.B.Builder.maker _ (1 + header_cost c.args.part) c.args.source c.args.builder c.args.at c.args.part c.args.end (omega arith) c.requires.between.same c.requires.head c.requires.room) }
 
 pub returns-clause-room : goal.returns-clause-room
 returns-clause-room g c =
-    head_after g.B.Builder.maker _ Open 1 c.args.source c.new.result c.args.builder c.begin.result c.open.result c.args.at c.args.part c.args.end (omega arith) c.requires.between.same c.requires.head c.new.ensures.text c.new.ensures.at c.begin.ensures.leaves c.open.ensures.leaves c.requires.room
+    head_after g.B.Builder.maker _ c.args.source c.new.result c.args.builder c.begin.result c.open.result c.args.at c.args.part c.args.end c.requires.between.same c.requires.head c.new.ensures.text c.new.ensures.at c.begin.ensures.leaves c.open.ensures.leaves c.requires.room
 
 pub returns-clause-stands : goal.returns-clause-stands
 returns-clause-stands g c = subst (λ n. HasRoom (bytes_view (not (g.row.FEED_ENDS == 0))) g.B.Builder.maker n c.new.result c.open.result) (sym (ap owed c.requires.there ∙ inside_owes _ _ _)) (returns-clause-room g c)

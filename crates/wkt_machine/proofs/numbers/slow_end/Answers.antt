@@ -1,6 +1,6 @@
 -- A number that keeps its text in the window ends where its run does.
-use Rattle.std.proofs.Common.{arith, length, ◌-◌, take, drop, sym, ◌∙◌}
-use Rattle.wkt_machine.proofs.ByteViews.{keeps_begins, none-at-close, padded-shows, shown-there, zero-at}
+use Rattle.std.proofs.Common.{arith, length, ◌-◌, take, drop}
+use Rattle.wkt_machine.proofs.ByteViews.{keeps_begins, none-unrun, padded-shows, shown-there, zero-at}
 use Rattle.wkt_machine.proofs.numbers.slow_end.Goals as goal
 
 pub pad-requires-clause-zeros : goal.pad-requires-clause-zeros
@@ -15,5 +15,5 @@ returns-in-Some-clause-some g c =
           (keeps_begins g.T.WktNum.read g.T.WktNum.num _ _ _ k)),
     )
 
-pub returns-then-byte_at-eq41-clause-none : goal.returns-then-byte_at-eq41-clause-none
-returns-then-byte_at-eq41-clause-none g c = none-at-close g.T.WktNum.read c.args.text.now c.args.at c.requires (sym c.byte_at.ensures.value ∙ c.if-byte_at-eq41.true)
+pub returns-then-not-is_of_run-clause-none : goal.returns-then-not-is_of_run-clause-none
+returns-then-not-is_of_run-clause-none g c = none-unrun g.T.WktNum.read c.args.text.now c.args.at c.byte_at.result c.requires c.byte_at.ensures.value (λ r. let t = c.if-not-is_of_run.ensures.1 r in cc)

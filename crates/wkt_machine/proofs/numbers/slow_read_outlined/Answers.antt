@@ -1,6 +1,6 @@
 -- The number that the window shows stands there.
-use Rattle.std.proofs.Common.{arith, length, ◌-◌, take, drop, sym, ◌∙◌}
-use Rattle.wkt_machine.proofs.ByteViews.{none-at-close, padded-shows, shown-there, zero-at}
+use Rattle.std.proofs.Common.{arith, length, ◌-◌, take, drop}
+use Rattle.wkt_machine.proofs.ByteViews.{none-unrun, padded-shows, shown-there, zero-at}
 use Rattle.wkt_machine.proofs.numbers.slow_read_outlined.Goals as goal
 
 pub pad-requires-clause-zeros : goal.pad-requires-clause-zeros
@@ -11,5 +11,5 @@ returns-in-Some-clause-some g c =
     shown-there g.T.WktNum.read c.args.text.now c.args.at c.requires _ _
     (padded-shows g.T.WktNum.read (take (length c.args.text.now - c.args.at) (drop c.args.at c.args.text.now)) c.pad.new.window _ _ (omega (arith, c.if-rest-lt-NUMBER_WINDOW.true)) c.pad.ensures.front c.pad.ensures.nul c.in-Some.ensures.reads)
 
-pub returns-then-byte_at-eq41-clause-none : goal.returns-then-byte_at-eq41-clause-none
-returns-then-byte_at-eq41-clause-none g c = none-at-close g.T.WktNum.read c.args.text.now c.args.at c.requires (sym c.byte_at.ensures.value ∙ c.if-byte_at-eq41.true)
+pub returns-then-not-is_of_run-clause-none : goal.returns-then-not-is_of_run-clause-none
+returns-then-not-is_of_run-clause-none g c = none-unrun g.T.WktNum.read c.args.text.now c.args.at c.byte_at.result c.requires c.byte_at.ensures.value (λ r. let t = c.if-not-is_of_run.ensures.1 r in cc)

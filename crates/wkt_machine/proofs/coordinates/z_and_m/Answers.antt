@@ -7,7 +7,7 @@ use Rattle.wkt_machine.specs.Machines.{next_after}
 use Rattle.wkt_machine.specs.declared.machine.State.TheVariants as next
 use Rattle.wkt_machine.specs.declared.part.Axis.TheVariants as axis
 use Rattle.wkt_machine.proofs.WaysJoin.{Way, Stop, on_true, on_false, way_on, way_stops}
-use Rattle.wkt_machine.proofs.coordinates.z_and_m_outlined.Goals as goal
+use Rattle.wkt_machine.proofs.coordinates.z_and_m.Goals as goal
 
 pub returns-else-not-has_z-clause-on : goal.returns-else-not-has_z-clause-on
 returns-else-not-has_z-clause-on g c =
