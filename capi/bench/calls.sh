@@ -21,7 +21,8 @@ count() { valgrind --tool=callgrind --callgrind-out-file=/dev/null "$@" 2>&1 > /
 
 texts=('POINT EMPTY' 'POINT(1 2)' 'POINT(-171.244391 7.816492)' 'POINT(-171.244391234567891 7.816492345678912)'
     'POLYGON((0 0,10.5 0,10.5 1,9 2,8 3,7 4,6 5,5 6.25,0 7,0 0))' 'GEOMETRYCOLLECTION(POINT(1 2),LINESTRING(0 0,1 1),POINT EMPTY)'
-    'POINT(1)')
+    'POINT(1)' 'POINT Z (1 2 3)' 'point(1 2)' 'point empty' 'LINESTRING Z (0 0 1, 1 1 2)' 'MULTIPOINT((1 2),(3 4))'
+    'MULTIPOINT(1 2,3 4)')
 printf '%-64s %12s %12s %12s %12s %12s\n' '' canonical same infer explain GEOS
 for text in "${texts[@]}"; do
     printf '%-64s' "$text"
