@@ -1,10 +1,10 @@
 -- Kind words, alone and with the letters of a dimension, and the words EMPTY, Z, M and ZM.
-use Rattle.std.proofs.Common.{◌≡◌, ℕ, List, [], ◌∷◌, ◌++◌, length, drop, refl, sym, ap, ◌∙◌, subst, Bool, true, false, cond, ◌&&◌, ◌==◌, nat_eq, Option, Some, None, codes, eqb-true, eq-eqb, arith, inl, inr, take, get_or, length-append, ◌-◌, ◌+◌, ◌<◌, ◌≤◌, nat_le, append_assoc}
+use Rattle.std.proofs.Common.{◌≡◌, ℕ, zero, suc, List, [], ◌∷◌, ◌++◌, length, drop, refl, sym, ap, ◌∙◌, subst, Bool, true, false, cond, ◌&&◌, ◌==◌, nat_eq, Option, Some, None, codes, eqb-true, eq-eqb, arith, inl, inr, take, get_or, length-append, ◌-◌, ◌+◌, ◌<◌, ◌≤◌, nat_le, append_assoc}
 use Rattle.std.specs.Prelude.{◌⊎◌}
 use Rattle.std.specs.List.{AllByRecursion}
 use Rattle.std.specs.Char.{to_ascii_uppercase}
 use Rattle.std.proofs.lemmas.Bool.{cases_lt, ne_eqb, lt-leb}
-use Rattle.std.proofs.lemmas.List.{take-map, drop-map, take-append-drop}
+use Rattle.std.proofs.lemmas.List.{take-map, drop-map, take-append-drop, length-take-le}
 use Rattle.std.proofs.Math.Seq.{take-append-add}
 use Rattle.std.proofs.lemmas.Str.Ascii.{uppercase_is}
 use Rattle.std.specs.Str.{bytes_eq, str_to_ascii_uppercase}
@@ -272,20 +272,20 @@ dim_no_kind w d e = some_dim w d (bytes_eq (str_to_ascii_uppercase w) (codes "Z"
 
 -- A word of the table, with no dimension joined to it.
 abbrev pub IsAlone : GeometryType → List ℕ → Type 0
-IsAlone k w = ((x : List ℕ) → named_in kind_words (w ++ x) ≡ Some (k, x)) × AllByRecursion IsCapital w × (0 < length w)
+IsAlone k w = ((x : List ℕ) → named_in kind_words (w ++ x) ≡ Some (k, x)) × AllByRecursion IsCapital w × (0 < length w) × ((x y : List ℕ) → begins (codes "LINEARRING") (w ++ x) ≡ begins (codes "LINEARRING") (w ++ y))
 
 front-word : (u : List ℕ) (k : GeometryType) (r : List ℕ) → named_in kind_words u ≡ Some (k, r) → Begun IsAlone k r u
 unfolding kind_words
 front-word u k r e =
     by-word IsAlone
-    ((λ x. refl), ((omega arith, omega arith), ((omega arith, omega arith), ((omega arith, omega arith), ((omega arith, omega arith), ((omega arith, omega arith), tt))))), omega arith)
-    ((λ x. refl), ((omega arith, omega arith), ((omega arith, omega arith), ((omega arith, omega arith), ((omega arith, omega arith), ((omega arith, omega arith), ((omega arith, omega arith), ((omega arith, omega arith), ((omega arith, omega arith), ((omega arith, omega arith), ((omega arith, omega arith), tt)))))))))), omega arith)
-    ((λ x. refl), ((omega arith, omega arith), ((omega arith, omega arith), ((omega arith, omega arith), ((omega arith, omega arith), ((omega arith, omega arith), ((omega arith, omega arith), ((omega arith, omega arith), ((omega arith, omega arith), ((omega arith, omega arith), ((omega arith, omega arith), tt)))))))))), omega arith)
-    ((λ x. refl), ((omega arith, omega arith), ((omega arith, omega arith), ((omega arith, omega arith), ((omega arith, omega arith), ((omega arith, omega arith), ((omega arith, omega arith), ((omega arith, omega arith), tt))))))), omega arith)
-    ((λ x. refl), ((omega arith, omega arith), ((omega arith, omega arith), ((omega arith, omega arith), ((omega arith, omega arith), ((omega arith, omega arith), ((omega arith, omega arith), ((omega arith, omega arith), ((omega arith, omega arith), ((omega arith, omega arith), ((omega arith, omega arith), tt)))))))))), omega arith)
-    ((λ x. refl), ((omega arith, omega arith), ((omega arith, omega arith), ((omega arith, omega arith), ((omega arith, omega arith), ((omega arith, omega arith), ((omega arith, omega arith), ((omega arith, omega arith), ((omega arith, omega arith), ((omega arith, omega arith), ((omega arith, omega arith), ((omega arith, omega arith), ((omega arith, omega arith), ((omega arith, omega arith), ((omega arith, omega arith), ((omega arith, omega arith), tt))))))))))))))), omega arith)
-    ((λ x. refl), ((omega arith, omega arith), ((omega arith, omega arith), ((omega arith, omega arith), ((omega arith, omega arith), ((omega arith, omega arith), ((omega arith, omega arith), ((omega arith, omega arith), ((omega arith, omega arith), ((omega arith, omega arith), ((omega arith, omega arith), ((omega arith, omega arith), ((omega arith, omega arith), tt)))))))))))), omega arith)
-    ((λ x. refl), ((omega arith, omega arith), ((omega arith, omega arith), ((omega arith, omega arith), ((omega arith, omega arith), ((omega arith, omega arith), ((omega arith, omega arith), ((omega arith, omega arith), ((omega arith, omega arith), ((omega arith, omega arith), ((omega arith, omega arith), ((omega arith, omega arith), ((omega arith, omega arith), ((omega arith, omega arith), ((omega arith, omega arith), ((omega arith, omega arith), ((omega arith, omega arith), ((omega arith, omega arith), ((omega arith, omega arith), tt)))))))))))))))))), omega arith)
+    ((λ x. refl), ((omega arith, omega arith), ((omega arith, omega arith), ((omega arith, omega arith), ((omega arith, omega arith), ((omega arith, omega arith), tt))))), omega arith, λ x y. refl)
+    ((λ x. refl), ((omega arith, omega arith), ((omega arith, omega arith), ((omega arith, omega arith), ((omega arith, omega arith), ((omega arith, omega arith), ((omega arith, omega arith), ((omega arith, omega arith), ((omega arith, omega arith), ((omega arith, omega arith), ((omega arith, omega arith), tt)))))))))), omega arith, λ x y. refl)
+    ((λ x. refl), ((omega arith, omega arith), ((omega arith, omega arith), ((omega arith, omega arith), ((omega arith, omega arith), ((omega arith, omega arith), ((omega arith, omega arith), ((omega arith, omega arith), ((omega arith, omega arith), ((omega arith, omega arith), ((omega arith, omega arith), tt)))))))))), omega arith, λ x y. refl)
+    ((λ x. refl), ((omega arith, omega arith), ((omega arith, omega arith), ((omega arith, omega arith), ((omega arith, omega arith), ((omega arith, omega arith), ((omega arith, omega arith), ((omega arith, omega arith), tt))))))), omega arith, λ x y. refl)
+    ((λ x. refl), ((omega arith, omega arith), ((omega arith, omega arith), ((omega arith, omega arith), ((omega arith, omega arith), ((omega arith, omega arith), ((omega arith, omega arith), ((omega arith, omega arith), ((omega arith, omega arith), ((omega arith, omega arith), ((omega arith, omega arith), tt)))))))))), omega arith, λ x y. refl)
+    ((λ x. refl), ((omega arith, omega arith), ((omega arith, omega arith), ((omega arith, omega arith), ((omega arith, omega arith), ((omega arith, omega arith), ((omega arith, omega arith), ((omega arith, omega arith), ((omega arith, omega arith), ((omega arith, omega arith), ((omega arith, omega arith), ((omega arith, omega arith), ((omega arith, omega arith), ((omega arith, omega arith), ((omega arith, omega arith), ((omega arith, omega arith), tt))))))))))))))), omega arith, λ x y. refl)
+    ((λ x. refl), ((omega arith, omega arith), ((omega arith, omega arith), ((omega arith, omega arith), ((omega arith, omega arith), ((omega arith, omega arith), ((omega arith, omega arith), ((omega arith, omega arith), ((omega arith, omega arith), ((omega arith, omega arith), ((omega arith, omega arith), ((omega arith, omega arith), ((omega arith, omega arith), tt)))))))))))), omega arith, λ x y. refl)
+    ((λ x. refl), ((omega arith, omega arith), ((omega arith, omega arith), ((omega arith, omega arith), ((omega arith, omega arith), ((omega arith, omega arith), ((omega arith, omega arith), ((omega arith, omega arith), ((omega arith, omega arith), ((omega arith, omega arith), ((omega arith, omega arith), ((omega arith, omega arith), ((omega arith, omega arith), ((omega arith, omega arith), ((omega arith, omega arith), ((omega arith, omega arith), ((omega arith, omega arith), ((omega arith, omega arith), ((omega arith, omega arith), tt)))))))))))))))))), omega arith, λ x y. refl)
     u k r e
 
 -- the letters of a dimension are capitals
@@ -298,6 +298,15 @@ dim-capitals v d e = go (bytes_eq v (codes "Z")) (bytes_eq v (codes "M")) (bytes
     go false true zm ez em ezm h = subst (λ v. AllByRecursion IsCapital v × (0 < length v)) (sym ((bytes_eq-Decides v (codes "M")).0 em)) (((omega arith, omega arith), tt), omega arith)
     go false false true ez em ezm h = subst (λ v. AllByRecursion IsCapital v × (0 < length v)) (sym ((bytes_eq-Decides v (codes "ZM")).0 ezm)) (((omega arith, omega arith), ((omega arith, omega arith), tt)), omega arith)
     go false false false ez em ezm h = let never : ⊥ = cc in absurd never
+
+-- no dimension begins with a byte that isn't a letter
+pub unlettered : (l : List ℕ) (i : ℕ) → 0 < i → get_or l 0 0 < 65 → dim_word (take i l) ≡ None
+unfolding dim_word
+unlettered [] (suc i) some low = refl
+unlettered (b ∷ l) (suc i) some low =
+    let same : to_ascii_uppercase b ≡ b = (uppercase_is b).1 (omega (arith, low)) in
+    rw (same, ne_eqb b 90 (λ e. omega (arith, e, low)), ne_eqb b 77 (λ e. omega (arith, e, low))) refl
+unlettered l zero some low = absurd (omega (arith, some))
 
 -- a letter is of a run, and no number begins with it
 capital-late : (b : ℕ) → IsCapital (to_ascii_uppercase b) → 57 < b
@@ -406,3 +415,23 @@ module _ (text rest : List ℕ) (k : GeometryType) (e : named_in kind_words (str
       by_test : (b : Bool) → begins (codes "LINEARRING") (front.0 ++ v) ≡ b → begins (codes "LINEARRING") (front.0 ++ v) ≡ false
       by_test false h = h
       by_test true h = absurd (not-both (sym other ∙ ap (begins (codes "LINEARRING")) whole ∙ begins-more (codes "LINEARRING") (front.0 ++ v) (str_to_ascii_uppercase (drop j rest)) h))
+
+  -- no longer word stands there, where no dimension goes on with more letters, or none is joined to the word
+  pub front-longest : (at : ℕ) → length text - length rest ≤ at → ((i : ℕ) → at - (length text - length rest) < i → i ≤ length rest → (begins (codes "LINEARRING") (str_to_ascii_uppercase text) ≡ true) ⊎ (dim_word (take i rest) ≡ None))
+      → (j : ℕ) → at < j → j ≤ length text → kind_word (take j text) ≡ None
+  unfolding kind_word dim_word
+  front-longest at from none j more within =
+      let long = front-long in
+      let i : ℕ = j - (length text - length rest) in
+      let n : length text - length rest + i ≡ j = omega (arith, more, from) in
+      let v : List ℕ = str_to_ascii_uppercase (take i rest) in
+      let some : v ≡ [] → ⊥ = λ is. (let short = sym (upper-length (take i rest)) ∙ ap length is in let full = length-take-le i rest (omega (arith, within, long)) in omega (arith, short, full, more, from)) in
+      let upper : str_to_ascii_uppercase (take j text) ≡ front.0 ++ v = ap (λ m. str_to_ascii_uppercase (take m text)) (sym n) ∙ front-upper i in
+      ap (entry_in kind_words) upper ∙ elim (none i (omega (arith, more, from)) (omega (arith, within, long))) [
+        | inl ring ↦ after true (front.0 ++ v) k v (front.2.0 v) some (front.2.3 v (str_to_ascii_uppercase rest) ∙ ap (begins (codes "LINEARRING")) (sym front.1) ∙ ring)
+        | inr says ↦ other v some says (begins (codes "LINEARRING") (front.0 ++ v)) refl
+      ]
+    where
+      other : (v : List ℕ) → (v ≡ [] → ⊥) → dim_in v ≡ None → (b : Bool) → begins (codes "LINEARRING") (front.0 ++ v) ≡ b → entry_in kind_words (front.0 ++ v) ≡ None
+      other v some says true ring = after true (front.0 ++ v) k v (front.2.0 v) some ring
+      other v some says false ring = subst (λ o. Names (joined k o) (entry_in kind_words (front.0 ++ v))) says (after false (front.0 ++ v) k v (front.2.0 v) some ring)

@@ -1,9 +1,9 @@
 //! Words that have a meaning, whatever the case of their ASCII letters.
-ghost use Rattle.std.specs.Prelude.{◌≡◌, ◌≤◌, ◌++◌, Some, codes, length, take, IfSome};
+ghost use Rattle.std.specs.Prelude.{◌≡◌, ◌<◌, ◌≤◌, ◌++◌, ℕ, Some, None, codes, length, take, IfSome, IfNone};
 ghost use Rattle.std.specs.Str.{str_to_ascii_uppercase};
-ghost use Rattle.wkt_read.specs.Grammar.{kind_word, dim_word, is_empty_word};
+ghost use Rattle.wkt_read.specs.Grammar.{kind_words, kind_word, dim_word, is_empty_word};
 ghost use Rattle.std.specs.List.{AllByRecursion};
-ghost use Rattle.wkt_read.specs.Header.{begins, Strips, BeginsKind};
+ghost use Rattle.wkt_read.specs.Header.{begins, named_in, Strips, BeginsKind};
 ghost use Rattle.wkt_read.specs.Stream.{Names, IsCapital, BeginsWith};
 
 use wkt_access::Dimension;
@@ -136,14 +136,20 @@ pub fn kind_in(word: &[u8]) -> Option<(GeometryType, Option<Dimension>)>
     Some((kind, Some(dimension)))
 }
 
-/// The kind whose word the bytes begin with, the dimension if one is joined to the word, and how many letters that is. More
-/// letters may follow. `None` doesn't imply that they begin with none.
+/// The longest word of a kind that the bytes begin with: the kind, the dimension if one is joined to the word, and how many
+/// letters that is. More letters may follow.
 #[inline(always)]
 pub fn kind_front(bytes: &[u8]) -> Option<(GeometryType, Option<Dimension>, usize)>
-    ensures { IfSome result (λ r. BeginsWith bytes.now r.0 r.1 r.2) }
+    ensures word { IfSome result (λ r. BeginsWith bytes.now r.0 r.1 r.2) }
+    ensures longest { IfSome result (λ r. (j : ℕ) → r.2 < j → j ≤ length bytes.now → kind_word (take j bytes.now) ≡ None) }
+    ensures none { IfNone result (named_in kind_words (str_to_ascii_uppercase bytes.now) ≡ None) }
 {
     let (kind, rest) = kind(bytes)?;
     let n = bytes.len() - rest.len();
+    // Most words end here.
+    if !rest.is_empty() && rest[0] < b'A' {
+        return Some((kind, None, n));
+    }
     match dimension_front(rest) {
         // The one kind word that no dimension is joined to.
         Some((dimension, more)) if !begins(b"LINEARRING", bytes) => {
@@ -153,12 +159,15 @@ pub fn kind_front(bytes: &[u8]) -> Option<(GeometryType, Option<Dimension>, usiz
     }
 }
 
-/// The dimension whose letters the bytes begin with, whatever their case, and how many letters those are.
+/// The longest word of a dimension that the letters begin with, whatever their case: the dimension, and how many letters
+/// that is.
 #[inline(always)]
 #[tactic(auto, unfolding(crate::specs::Grammar::dim_word))]
 pub fn dimension_front(letters: &[u8]) -> Option<(Dimension, usize)>
     ensures names { IfSome result (λ r. dim_word (take r.1 letters.now) ≡ Some r.0) }
     ensures inside { IfSome result (λ r. r.1 ≤ length letters.now) }
+    ensures longest { IfSome result (λ r. (j : ℕ) → r.1 < j → j ≤ length letters.now → dim_word (take j letters.now) ≡ None) }
+    ensures none { IfNone result ((j : ℕ) → dim_word (take j letters.now) ≡ None) }
 {
     match letters {
         [b'Z' | b'z', b'M' | b'm', ..] => Some((Dimension::XYZM, 2)),
