@@ -70,6 +70,10 @@ fn next_given<'a, T: WktNum>(text: &'a [u8], from: usize) -> Option<(Given<'a>, 
     requires utf8 { IsUtf8 text.now }
     ensures { GivesNext T.read text.now from result }
 {
+    // Most texts that end too early end right here.
+    if byte_at(text, from) == 0 {
+        return None;
+    }
     let at = skip_white::<false>(text, from);
     let byte = byte_at(text, at);
     if byte == b')' {

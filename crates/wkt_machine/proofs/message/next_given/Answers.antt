@@ -1,10 +1,16 @@
 -- A mark is itself; white space may stand before the lexeme.
-use Rattle.std.proofs.Common.{sym, refl, ◌∙◌}
-use Rattle.wkt_num.specs.Bytes.{Open, Close, Comma}
+use Rattle.std.proofs.Common.{sym, refl, ap, false, ◌∙◌}
+use Rattle.wkt_num.specs.Bytes.{Open, Close, Comma, class_of}
+use Rattle.wkt_events.specs.Remaining.{class_in}
+use Rattle.wkt_events.proofs.RemainingLexemes.{spanned-nul}
 use Rattle.wkt_machine.specs.declared.message.Given.TheVariants as given
 use Rattle.wkt_machine.proofs.ByteViews.{open_mark, close_mark, comma_mark, unmarked}
 use Rattle.wkt_machine.proofs.NextLexeme.{gives_mark, gives_after}
 use Rattle.wkt_machine.proofs.message.next_given.Goals as goal
+
+pub returns-then-byte_at-eq0 : goal.returns-then-byte_at-eq0
+unfolding class_in class_of
+returns-then-byte_at-eq0 g c = spanned-nul false c.args.text.now c.args.from (ap (class_in false) (sym c.byte_at.ensures.value ∙ c.if-byte_at-eq0.true))
 
 pub returns-then-byte-eq41 : goal.returns-then-byte-eq41
 returns-then-byte-eq41 g c = gives_mark g.T.WktNum.read c.args.text.now c.args.from c.skip_white-at.result 41 Close given.Close c.skip_white-at.ensures.order c.skip_white-at.ensures.same (sym c.if-byte-eq41.true ∙ c.byte_at-byte.ensures.value) close_mark refl
