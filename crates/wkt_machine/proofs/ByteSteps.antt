@@ -28,6 +28,7 @@ use Rattle.wkt_machine.specs.declared.machine.Seen.TheVariants as seen
 use Rattle.wkt_machine.specs.declared.machine.State.TheVariants as next
 use Rattle.wkt_machine.specs.declared.part.Axis.TheVariants as axis
 use Rattle.wkt_machine.specs.declared.part.Part.TheVariants as part
+use Rattle.wkt_machine.specs.declared.other_heads.Then.TheVariants as then
 use Rattle.wkt_machine.proofs.ByteViews.{close_mark}
 use Rattle.wkt_machine.proofs.ByteViews as bytes
 use Rattle.wkt_access.specs.declared.dimensions.Dimension.TheVariants.{XY}
@@ -36,7 +37,7 @@ use Rattle.wkt_read.specs.Lexemes.{lexeme_of, starts_number, without_plus}
 use Rattle.wkt_events.proofs.RemainingLexemes.{space, spanned-white, takes-mark, takes-run, takes-after, mark-in, remaining-all, takes-number}
 use Rattle.wkt_events.proofs.RemainingLexemes as classes
 use Rattle.wkt_events.proofs.Utf8Lines.{legible-one, text-with-front, text-behind-front}
-use Rattle.wkt_machine.specs.LexemesAhead.{IsKindName, EndsWord, StandsHead}
+use Rattle.wkt_machine.specs.LexemesAhead.{StandsHeader, EndsWords, IsKindName, EndsWord, StandsHead}
 use Rattle.wkt_num.specs.Decimal.{read_decimal}
 use Rattle.wkt_num.specs.DigitParts.{BeginsUnits}
 use Rattle.wkt_num.specs.Whole.{IsSigned}
@@ -246,6 +247,10 @@ module _ (feed : Bool) (text : List ℕ) (at : ℕ) where
   pub empty_after : (start end : ℕ) → at ≤ start → remaining_spanned feed text at ≡ remaining_spanned feed text start → ((w : List ℕ) × TakesOne feed text start (Word w) end × (is_empty_word w ≡ true)) → (w : List ℕ) × TakesOne feed text at (Word w) end × (is_empty_word w ≡ true)
   empty_after start end order same (w, takes, says) = (w, takes-after feed text at start (Word w) end order same takes, says)
 
+  -- EMPTY behind a space
+  empty_spaced : (end : ℕ) → get_or text at 0 ≡ 32 → ((w : List ℕ) × TakesOne feed text (at + 1) (Word w) end × (is_empty_word w ≡ true)) → (w : List ℕ) × TakesOne feed text at (Word w) end × (is_empty_word w ≡ true)
+  empty_spaced end e there = empty_after (at + 1) end (omega arith) (spanned-white feed text at (space feed (get_or text at 0) e)) there
+
   -- a parenthesis behind a word
   pub ends_open : get_or text at 0 ≡ 40 → EndsWord feed text at (at + 1)
   ends_open e = record {
@@ -288,6 +293,20 @@ module _ (feed : Bool) (text : List ℕ) (at : ℕ) where
   pub stands_if : (part : Part) (word : List ℕ) (n : ℕ) (end : Option ℕ) → IsKindName part word → at + n ≤ length text → take n (drop at text) ≡ word → 0 < n → IfSome end (EndsWord feed text (at + n)) → IfSome end (StandsHead feed text at part)
   stands_if part word n None name inside is some ends = tt
   stands_if part word n (Some end) name inside is some ends = head_stands part word n end name inside is some ends
+
+-- The word POINT, a space and EMPTY.
+pub point_empty : (feed : Bool) (text : List ℕ) (at end : ℕ) → at + 5 ≤ length text → take 5 (drop at text) ≡ codes "POINT" → get_or text (at + 5) 0 ≡ 32 → ((w : List ℕ) × TakesOne feed text (at + 6) (Word w) end × (is_empty_word w ≡ true)) → StandsHeader feed text at part.Point XY then.Outside end
+point_empty feed text at end inside is e there =
+    let six : at + 6 ≡ at + 5 + 1 = omega arith in
+    record {
+      word = codes "POINT";
+      row = point_name.row;
+      mid = at + 5;
+      names = point_name.names;
+      kind = point_name.kind;
+      takes = word_takes feed text at (codes "POINT") 5 point_name.letters point_name.begins inside is (omega arith) (λ r. space_no_run (ap class_of (sym e) ∙ r));
+      ends = subst (λ j. EndsWords feed text (at + 5) j XY then.Outside end) (sym point_name.joined) (inl (refl, empty_spaced feed text (at + 5) end e (subst (λ a. (w : List ℕ) × TakesOne feed text a (Word w) end × (is_empty_word w ≡ true)) six there)));
+    }
 
 -- A lexeme that is left is one that a place counts.
 pub head_room : (feed : Bool) (text : List ℕ) (from at : ℕ) (part : Part) (end depth most : ℕ) → remaining_spanned feed text from ≡ remaining_spanned feed text at → StandsHead feed text at part end → depth + length (remaining_spanned feed text from) ≤ most → depth < most

@@ -18,7 +18,7 @@ use crate::bytes::Bytes;
 use crate::coordinates::coordinates;
 use crate::inner_heads::collection_head;
 use crate::machine::{Machine, State};
-use crate::other_heads::other_header;
+use crate::other_heads::{behind, empty_point, other_header};
 use crate::part::Part;
 use crate::source::{At, Walked};
 use wkt_access::Dimension;
@@ -65,6 +65,9 @@ pub(crate) fn header<'a, T: WktNum, B: Builder<T>, const FEED_ENDS: bool>(
             builder: made,
         } = opened::<T, B, FEED_ENDS>(Part::Point, at, end, machine, within, source, builder);
         return coordinates::<T, B, FEED_ENDS>(begun, behind, made);
+    }
+    if let Some(head) = empty_point::<FEED_ENDS>(text, at) {
+        return Ok(behind::<T, B, FEED_ENDS>(head, at, machine, source, builder));
     }
     if let Some((part, end)) = head::<FEED_ENDS>(text, at) {
         return Ok(inside_of::<T, B, FEED_ENDS>(part, at, end, machine, source, builder));
@@ -239,7 +242,7 @@ const POIN: u32 = 0x4e49_4f50;
 
 /// Whether the bytes begin with `POINT`, by two comparisons.
 #[inline(always)]
-fn is_point(bytes: &[u8]) -> bool
+pub(crate) fn is_point(bytes: &[u8]) -> bool
     requires { 5 ≤ length bytes.now }
     ensures { OnTrue result (take 5 bytes.now ≡ codes "POINT") }
 {

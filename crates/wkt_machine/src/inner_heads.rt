@@ -19,7 +19,7 @@ use crate::heads::{
     opened, opens_behind, point_head,
 };
 use crate::machine::{Machine, State};
-use crate::other_heads::other_header;
+use crate::other_heads::{behind, empty_point, other_header};
 use crate::part::Part;
 use crate::source::{At, Walked};
 use wkt_access::Dimension;
@@ -154,6 +154,9 @@ fn one_header<'a, T: WktNum, B: Builder<T>, const FEED_ENDS: bool>(
             builder: made,
         } = opened::<T, B, FEED_ENDS>(Part::Point, at, end, machine, within, source, builder);
         return coordinates::<T, B, FEED_ENDS>(begun, behind, made);
+    }
+    if let Some(head) = empty_point::<FEED_ENDS>(text, at) {
+        return Ok(behind::<T, B, FEED_ENDS>(head, at, machine, source, builder));
     }
     if let Some((part, end)) = long_head::<10, FEED_ENDS>(
         Part::LineString,

@@ -12,6 +12,7 @@ ghost use Rattle.wkt_machine.specs.declared.machine.State.TheVariants as next;
 
 use crate::builder::Builder;
 use crate::bytes::Bytes;
+use crate::heads::is_point;
 use crate::machine::{Machine, State, part_of};
 use crate::part::Part;
 use crate::source::{At, Walked};
@@ -70,7 +71,7 @@ pub(crate) fn other_header<'a, T: WktNum, B: Builder<T>, const FEED_ENDS: bool>(
 
 /// Behind a header that stands there.
 #[inline(always)]
-fn behind<'a, T: WktNum, B: Builder<T>, const FEED_ENDS: bool>(
+pub(crate) fn behind<'a, T: WktNum, B: Builder<T>, const FEED_ENDS: bool>(
     head: Found,
     at: usize,
     machine: Machine,
@@ -219,6 +220,32 @@ fn empty_at<const FEED_ENDS: bool>(text: &[u8], at: usize) -> Option<usize>
         return None;
     }
     Some(at + 5)
+}
+
+/// `POINT EMPTY` in capitals, by comparisons. `None` doesn't imply that it doesn't stand there.
+#[inline(always)]
+pub(crate) fn empty_point<const FEED_ENDS: bool>(text: &[u8], at: usize) -> Option<Found>
+    requires { at ≤ length text.now }
+    ensures { IfSome result (λ h. StandsHeader FEED_ENDS text.now at h.part h.dim h.then h.end) }
+{
+    if text.len() - at < 11 || !is_point(&text[at..]) {
+        return None;
+    }
+    if text[at + 5] != b' ' {
+        return None;
+    }
+    if text[at + 6] != b'E' {
+        return None;
+    }
+    match empty_at::<FEED_ENDS>(text, at + 6) {
+        Some(end) => Some(Found {
+            part: Part::Point,
+            dim: Dimension::XY,
+            then: Then::Outside,
+            end,
+        }),
+        None => None,
+    }
 }
 
 /// Whether a word ends before the byte.

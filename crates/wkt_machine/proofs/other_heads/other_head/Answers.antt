@@ -33,9 +33,9 @@ header_stands feed text at n kind joined p d t end b within begins byte stops is
 pub returns-in-Some : goal.returns-in-Some
 returns-in-Some g c =
     header_stands _ c.args.text.now c.args.at c.in_ok-kind.n c.in_ok-kind.kind (Some c.in-Some.dim) c.part_of-part.result c.in-Some.dim c.behind_dimension-then.result.0 c.behind_dimension-then.result.1 c.byte_at.result c.requires
-    (subst (λ j. BeginsWith (take (length c.args.text.now - c.args.at) (drop c.args.at c.args.text.now)) c.in_ok-kind.kind j c.in_ok-kind.n) c.in-Some.is c.in_ok-kind.ensures) c.byte_at.ensures.value c.if-not-ends_word.ensures c.part_of-part.ensures (refl, c.behind_dimension-then.ensures)
+    (subst (λ j. BeginsWith (take (length c.args.text.now - c.args.at) (drop c.args.at c.args.text.now)) c.in_ok-kind.kind j c.in_ok-kind.n) c.in-Some.is c.in_ok-kind.ensures.word) c.byte_at.ensures.value c.if-not-ends_word.ensures c.part_of-part.ensures (refl, c.behind_dimension-then.ensures)
 
 pub returns-in-None : goal.returns-in-None
 returns-in-None g c =
     header_stands _ c.args.text.now c.args.at c.in_ok-kind.n c.in_ok-kind.kind None c.part_of-part.result c.behind_kind-dim.result.0 c.behind_kind-dim.result.1 c.behind_kind-dim.result.2 c.byte_at.result c.requires
-    (subst (λ j. BeginsWith (take (length c.args.text.now - c.args.at) (drop c.args.at c.args.text.now)) c.in_ok-kind.kind j c.in_ok-kind.n) c.in-None.is c.in_ok-kind.ensures) c.byte_at.ensures.value c.if-not-ends_word.ensures c.part_of-part.ensures c.behind_kind-dim.ensures
+    (subst (λ j. BeginsWith (take (length c.args.text.now - c.args.at) (drop c.args.at c.args.text.now)) c.in_ok-kind.kind j c.in_ok-kind.n) c.in-None.is c.in_ok-kind.ensures.word) c.byte_at.ensures.value c.if-not-ends_word.ensures c.part_of-part.ensures c.behind_kind-dim.ensures
