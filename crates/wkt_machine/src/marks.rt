@@ -15,7 +15,7 @@ use crate::builder::Builder;
 use crate::machine::{Machine, Seen, State};
 use crate::part::{Axis, Part};
 use crate::source::{At, Source, Walk, Walked};
-use crate::step::on;
+use crate::step::{anew, on};
 use wkt_num::WktNum;
 
 /// After one lexeme or more: as far as no parenthesis or comma comes next that a part, or a collection, has there.
@@ -181,7 +181,7 @@ fn members_outlined<T: WktNum, S: Walk<T>, B: Builder<T>>(
             source: behind,
             machine: next,
             builder: made,
-        } = member_and_mark(machine, source, builder)?;
+        } = anew(member_and_mark(machine, source, builder))?;
         if !is_before_member(next) {
             return on(behind, next, made);
         }
@@ -228,7 +228,7 @@ fn member_and_mark<T: WktNum, S: Walk<T>, B: Builder<T>>(
         source: behind,
         machine: next,
         builder: made,
-    } = member(machine, source, builder)?;
+    } = anew(member(machine, source, builder))?;
     if !is_behind_member(next) {
         return on(behind, next, made);
     }

@@ -2,6 +2,7 @@
 use Rattle.std.proofs.Common.{arith, rules, sym, subst, IfOk, IfErr}
 use Rattle.std.proofs.Math.Nat.{le_refl}
 use Rattle.wkt_machine.specs.Goes.{Goes, Refuses, Leads}
+use Rattle.wkt_machine.specs.Room.{RoomAt}
 use Rattle.wkt_machine.specs.declared.machine.Machine.{Machine}
 use Rattle.wkt_machine.specs.declared.machine.State.TheVariants as next
 use Rattle.wkt_machine.specs.declared.part.Part.TheVariants as member
@@ -25,7 +26,7 @@ members-preserved g c =
     let i = c.members.invariant in
     let machine : Machine = record { state = next.Opening; part = member.Member; dim = c.members.dim; depth = c.members.depth } in
     let to = c.in_ok-behind.field-0 in
-    let way = c.in_ok-behind.ensures.on in
+    let way = subst (λ r. IfOk r (Goes g.T.WktNum.read g.S.Source.view g.B.Builder.maker machine c.members.source c.members.builder)) (sym c.in_ok-behind.ensures) c.member_and_mark.ensures.on in
     let opens = c.if-not-is_before_member.ensures.state in
     let same = known_machine to.machine next.Opening member.Member opens c.if-not-is_before_member.ensures.part in
     let more = goes_room g.T.WktNum.read g.S.Source.view g.B.Builder.maker machine c.members.source c.members.builder to way in
@@ -34,7 +35,7 @@ members-preserved g c =
           (goes_leads g.T.WktNum.read g.S.Source.view g.B.Builder.maker c.args.machine c.args.source c.args.builder to
           (leads_goes g.T.WktNum.read g.S.Source.view g.B.Builder.maker c.args.machine c.args.source c.args.builder machine c.members.source c.members.builder to i.leads way));
       depth = omega (arith, more, i.depth);
-      room = state_room g.S.Source.view g.B.Builder.maker to.machine next.Opening to.source to.builder opens c.in_ok-behind.ensures.room;
+      room = state_room g.S.Source.view g.B.Builder.maker to.machine next.Opening to.source to.builder opens (subst (λ r. IfOk r (RoomAt g.S.Source.view g.B.Builder.maker)) (sym c.in_ok-behind.ensures) c.member_and_mark.ensures.room);
     }
 
 pub returns-in_err-behind-clause-refused : goal.returns-in_err-behind-clause-refused
@@ -46,5 +47,6 @@ returns-in_err-behind-clause-refused g c =
 pub returns-then-not-is_before_member-clause-on : goal.returns-then-not-is_before_member-clause-on
 returns-then-not-is_before_member-clause-on g c =
     let machine : Machine = record { state = next.Opening; part = member.Member; dim = c.members.dim; depth = c.members.depth } in
-    let on = subst (λ r. IfOk r (Goes g.T.WktNum.read g.S.Source.view g.B.Builder.maker machine c.members.source c.members.builder)) (sym c.on.ensures) c.in_ok-behind.ensures.on in
+    let way = subst (λ r. IfOk r (Goes g.T.WktNum.read g.S.Source.view g.B.Builder.maker machine c.members.source c.members.builder)) (sym c.in_ok-behind.ensures) c.member_and_mark.ensures.on in
+    let on = subst (λ r. IfOk r (Goes g.T.WktNum.read g.S.Source.view g.B.Builder.maker machine c.members.source c.members.builder)) (sym c.on.ensures) way in
     leads_ok g.T.WktNum.read g.S.Source.view g.B.Builder.maker c.args.machine c.args.source c.args.builder machine c.members.source c.members.builder c.on.result c.members.invariant.leads on
