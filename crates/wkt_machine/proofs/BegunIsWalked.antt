@@ -7,12 +7,12 @@ use Rattle.wkt_access.specs.declared.dimensions.Dimension.TheVariants.{XY}
 use Rattle.wkt_types.specs.declared.geometry_type.GeometryType.{GeometryType}
 use Rattle.wkt_read.specs.Grammar.{DimPart, Header, IsEmptyWord, Within, More, Many, Numbers, Coord, Ring, Poly, Member, StandFor}
 use Rattle.wkt_read.specs.Begun.{BegunNext, BegunMany, BegunWithin, BegunListed, BegunPerhaps, BegunCoord, BegunRing, BegunPoly, BegunMember, BegunBody, BegunAt, BegunGeometry}
-use Rattle.wkt_read.proofs.KindWords.{is_empty}
+use Rattle.wkt_read.proofs.KindWords.{empty_no_dim, is_empty}
 use Rattle.wkt_machine.specs.Events.{Event, numbers, listed, perhaps, events}
 use Rattle.wkt_machine.specs.Machine.{Move, part_of, numbers_after, last_place, at, inside, outside, after, and_then, move, moved, run, joined_step, kind_step, dimension_step, State, Place, over_at}
 use Rattle.wkt_machine.specs.declared.part.Part.{Part}
 use Rattle.wkt_machine.specs.Machine as place
-use Rattle.wkt_machine.proofs.Complete.{Runs, stay, first, both, one, lexemes, number, plain_coord, size_after, Stands, empty_word, ring_run, string_run, polygon_run, polygon_ring_run, member_run, empty_no_dim, value_run}
+use Rattle.wkt_machine.proofs.Complete.{Runs, stay, first, both, one, lexemes, number, plain_coord, size_after, Stands, empty_word, ring_run, string_run, polygon_run, polygon_ring_run, member_run, value_run}
 use Rattle.wkt_types.specs.declared.geometry_type.GeometryType.TheVariants as kind
 use Rattle.wkt_machine.specs.declared.part.Part.TheVariants as part
 use Rattle.wkt_machine.specs.Action as act

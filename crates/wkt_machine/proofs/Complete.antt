@@ -9,8 +9,8 @@ use Rattle.wkt_machine.specs.Machine as place
 use Rattle.wkt_access.specs.declared.dimensions.Dimension.{Dimension}
 use Rattle.wkt_access.specs.declared.dimensions.Dimension.TheVariants.{XY, XYZ, XYM, XYZM}
 use Rattle.wkt_access.specs.Values.{size, Value, Values}
-use Rattle.wkt_read.specs.Grammar.{IsEmptyWord, Within, More, Listed, Perhaps, Numbers, Coord, Ring, Poly, Member, dim_word, dim_in, DimPart, Header, StandFor, Geometries, Further}
-use Rattle.wkt_read.proofs.KindWords.{is_empty}
+use Rattle.wkt_read.specs.Grammar.{IsEmptyWord, Within, More, Listed, Perhaps, Numbers, Coord, Ring, Poly, Member, DimPart, Header, StandFor, Geometries, Further}
+use Rattle.wkt_read.proofs.KindWords.{empty_no_dim, is_empty}
 use Rattle.wkt_machine.specs.declared.part.Part.{Part}
 use Rattle.wkt_machine.specs.Action as act
 use Rattle.wkt_machine.specs.declared.part.Axis.TheVariants as axis
@@ -203,11 +203,6 @@ module _ {N : Type 0} (read : List ℕ → Option N) where
   members_stand d n = listed_stands part.MultiPoint d n (Member read d) (perhaps part.Member (numbers d)) (member_run d n) refl
 
 -- The lexemes of a geometry lead over it, and make its events.
-
--- EMPTY is no dimension word
-pub empty_no_dim : (w : List ℕ) → str_to_ascii_uppercase w ≡ codes "EMPTY" → dim_word w ≡ None
-unfolding dim_word
-empty_no_dim w e = ap dim_in e
 
 module _ {N : Type 0} (read : List ℕ → Option N) where
   -- what stands after a kind word alone, without a dimension word

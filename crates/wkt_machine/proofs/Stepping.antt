@@ -1,15 +1,13 @@
 -- One lexeme is taken, or none can be.
-use Rattle.std.proofs.Common.{◌≡◌, ◌≢◌, ◌<◌, ◌≤◌, ◌-◌, length, arith, ℕ, zero, suc, List, [], ◌∷◌, ◌++◌, sym, refl, ap, ◌∙◌, subst, append-nil, Option, Some, None, Bool, true, false, cond, codes}
+use Rattle.std.proofs.Common.{◌≡◌, ◌≢◌, ◌<◌, ◌≤◌, ◌-◌, length, arith, ℕ, zero, suc, List, [], ◌∷◌, ◌++◌, sym, refl, ap, ◌∙◌, subst, append-nil, Option, Some, None, Bool, true, false, cond}
 use Rattle.std.specs.Prelude.{Result, Ok, Err, IfOk, IfErr}
-use Rattle.std.specs.Str.{bytes_eq, str_to_ascii_uppercase}
-use Rattle.std.proofs.lemmas.Slice.Eq.{bytes_eq-Decides}
 use Rattle.wkt_num.specs.Bytes.{Lexeme, Open, Close, Comma, Word, Num}
 use Rattle.wkt_access.specs.declared.dimensions.Dimension.{Dimension}
-use Rattle.wkt_access.specs.declared.dimensions.Dimension.TheVariants.{XY, XYZ, XYM, XYZM}
+use Rattle.wkt_access.specs.declared.dimensions.Dimension.TheVariants.{XY}
 use Rattle.wkt_types.specs.declared.geometry_type.GeometryType.{GeometryType}
-use Rattle.wkt_read.specs.Grammar.{KindWord, kind_words, entry_in, kind_word, dim_word, dim_in, is_empty_word}
+use Rattle.wkt_read.specs.Grammar.{KindWord, kind_word, dim_word, is_empty_word}
 use Rattle.wkt_read.specs.Spanned.{Spanned}
-use Rattle.wkt_read.proofs.KindWords.{empty_is}
+use Rattle.wkt_read.proofs.KindWords.{empty_is, empty_no_kind, empty_no_dim, dim_no_kind}
 use Rattle.wkt_machine.specs.Action.{Action}
 use Rattle.wkt_machine.specs.Action as act
 use Rattle.wkt_machine.specs.Machine.{is_over, over_at, at, part_of, inside, outside, kind_step, joined_step, dimension_step, bare_step, number_step, comma_step, step_at, made, number_of, moved, and_then, move, run, Place, State}
@@ -26,38 +24,6 @@ use Rattle.wkt_machine.specs.declared.machine.State.{State as Next}
 use Rattle.wkt_machine.specs.declared.part.Part.{Part}
 use Rattle.wkt_machine.specs.declared.part.Part.TheVariants as part
 use Rattle.wkt_machine.specs.declared.source.At.{At}
-
--- EMPTY and the dimension words are no kind words, and EMPTY is no dimension word.
-empty_no_kind : (w : List ℕ) → str_to_ascii_uppercase w ≡ codes "EMPTY" → kind_word w ≡ None
-unfolding kind_word kind_words
-empty_no_kind w e = ap (entry_in kind_words) e
-
-z_no_kind : (w : List ℕ) → str_to_ascii_uppercase w ≡ codes "Z" → kind_word w ≡ None
-unfolding kind_word kind_words
-z_no_kind w e = ap (entry_in kind_words) e
-
-m_no_kind : (w : List ℕ) → str_to_ascii_uppercase w ≡ codes "M" → kind_word w ≡ None
-unfolding kind_word kind_words
-m_no_kind w e = ap (entry_in kind_words) e
-
-zm_no_kind : (w : List ℕ) → str_to_ascii_uppercase w ≡ codes "ZM" → kind_word w ≡ None
-unfolding kind_word kind_words
-zm_no_kind w e = ap (entry_in kind_words) e
-
-some_dim : (w : List ℕ) (d : Dimension) (z m zm : Bool) → bytes_eq (str_to_ascii_uppercase w) (codes "Z") ≡ z → bytes_eq (str_to_ascii_uppercase w) (codes "M") ≡ m → bytes_eq (str_to_ascii_uppercase w) (codes "ZM") ≡ zm
-    → cond z (Some XYZ) (cond m (Some XYM) (cond zm (Some XYZM) None)) ≡ Some d → kind_word w ≡ None
-some_dim w d true m zm ez em ezm e = z_no_kind w ((bytes_eq-Decides (str_to_ascii_uppercase w) (codes "Z")).0 ez)
-some_dim w d false true zm ez em ezm e = m_no_kind w ((bytes_eq-Decides (str_to_ascii_uppercase w) (codes "M")).0 em)
-some_dim w d false false true ez em ezm e = zm_no_kind w ((bytes_eq-Decides (str_to_ascii_uppercase w) (codes "ZM")).0 ezm)
-some_dim w d false false false ez em ezm e = let never : ⊥ = cc in absurd never
-
-dim_no_kind : (w : List ℕ) (d : Dimension) → dim_word w ≡ Some d → kind_word w ≡ None
-unfolding dim_word
-dim_no_kind w d e = some_dim w d (bytes_eq (str_to_ascii_uppercase w) (codes "Z")) (bytes_eq (str_to_ascii_uppercase w) (codes "M")) (bytes_eq (str_to_ascii_uppercase w) (codes "ZM")) refl refl refl e
-
-empty_no_dim : (w : List ℕ) → str_to_ascii_uppercase w ≡ codes "EMPTY" → dim_word w ≡ None
-unfolding dim_word
-empty_no_dim w e = ap dim_in e
 
 -- What is seen at each place.
 abbrev pub seen_at : Place → ℕ → Seen → Option (State × Action)
