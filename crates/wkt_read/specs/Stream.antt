@@ -152,9 +152,3 @@ pub record TakesNumber {N : Type 0} (read : List ℕ → Option N) (old : Standi
   pub run : List ℕ
   pub reads : read run ≡ Some number
   pub moves : Moves old (Some (Num run)) new
-
--- The next lexeme is taken, a kind word, with the dimension that is joined to it.
-pub record TakesKind (old : Standing) (kind : GeometryType × Option Dimension) (new : Standing) : Type 0 where
-  pub word : List ℕ
-  pub names : Names (Some kind) (kind_word word)
-  pub moves : Moves old (Some (Word word)) new

@@ -3,7 +3,10 @@ ghost use Rattle.std.specs.Prelude.{◌≡◌, ℕ, ◌+◌, ◌-◌, ◌≤◌,
 ghost use Rattle.std.specs.Str.{IsCharBoundary, IsUtf8};
 
 /// The bytes of a text, of which some were taken.
-#[derive(Clone, Copy)]
+///
+/// It is moved and never copied, its fields are private to this file, and `next_byte` alone reads: so a stream of lexemes
+/// looks at no byte that it doesn't count as taken.
+#[derive(Drop)]
 pub(crate) struct Cursor<'a> {
     text: &'a str,
     // The bytes that were not taken yet, to the text's end.
@@ -33,12 +36,6 @@ impl<'a> Cursor<'a> {
         ensures { result ≡ taken_in self.now }
     {
         self.text.len() - self.remaining.len()
-    }
-
-    /// How many bytes are left to be taken.
-    #[inline(always)]
-    pub(crate) fn remaining(&self) -> usize {
-        self.remaining.len()
     }
 
     /// More than the bytes that are left, by two.

@@ -1,15 +1,10 @@
 //! The lexemes of a text, of which one may be looked at ahead.
-ghost use Rattle.std.specs.Prelude.{◌≡◌, ◌+◌, ◌≤◌, ℕ, length, [], ◌∷◌, Some, None, OnSome, IfNone, MatchOption};
-ghost use Rattle.std.specs.Bool.{MatchBool, OnFalse};
-ghost use Rattle.wkt_num.specs.Bytes.{Lexeme, Close, Comma, Open};
+ghost use Rattle.std.specs.Prelude.{◌≡◌, ◌≤◌, length, [], OnSome, IfNone, MatchOption};
 ghost use Rattle.wkt_read.specs.Peeks.{found};
 
-use crate::keywords::kind_of;
-use crate::tokenizer::tokens::{Lexeme, Token, Tokens, slow_item};
+use crate::tokenizer::tokens::{Lexeme, Token, Tokens, item_of};
 use std::marker::Model;
-use wkt_access::Dimension;
 use wkt_num::WktNum;
-use wkt_types::GeometryType;
 
 /// The lexemes of a text, one after the other, of which one may be looked at ahead.
 #[derive(Drop)]
@@ -17,21 +12,6 @@ pub struct PeekableTokens<'a, T> {
     tokens: Tokens<'a, T>,
     ahead: Option<Lexeme<'a>>,
     end: usize,
-}
-
-// None, which comes through memory: its place is cleared here, away from what is returned in registers.
-#[inline(always)]
-fn none<T>() -> Option<T>
-    ensures { result ≡ None }
-{
-    none_outlined()
-}
-
-#[inline(never)]
-fn none_outlined<T>() -> Option<T>
-    ensures { result ≡ None }
-{
-    None
 }
 
 impl<'a, T> Model for PeekableTokens<'a, T> {
@@ -53,7 +33,7 @@ impl<'a, T: WktNum> PeekableTokens<'a, T> {
     ghost use Rattle.wkt_read.specs.Stream.{remaining, taken_of, end_of, rest, first_of, Moves};
     ghost use Rattle.wkt_read.specs.Stream.{TakesNext, IsFirst, StreamGoesOn};
     ghost use Rattle.wkt_read.specs.Stream.{IsNear};
-    ghost use Rattle.wkt_read.specs.Stream.{Looks, StaysUnread, TakesNumber, TakesKind};
+    ghost use Rattle.wkt_read.specs.Stream.{StaysUnread, TakesNumber};
 
     /// The lexemes that the stream has still to give; none is looked at yet.
     pub fn new(tokens: Tokens<'a, T>) -> Self
@@ -122,40 +102,6 @@ impl<'a, T: WktNum> PeekableTokens<'a, T> {
         self.step()
     }
 
-    /// The same, where the lexeme was mostly looked at: only for that is the code in place, which is short.
-    #[inline(always)]
-    #[tactic(auto, using(crate::proofs::Placings::goes_moves))]
-    pub fn take_looked(&mut self) -> Lexeme<'a>
-        ensures goes_on { StreamGoesOn self.old self.new }
-        ensures near { OnSome (found result) (IsNear self.new) }
-        ensures moves { Moves self.old (found result) self.new }
-        ensures takes { TakesNext (found result) (rest self.old) (rest self.new) }
-    {
-        self.step_looked()
-    }
-
-    #[inline(always)]
-    fn step_looked(&mut self) -> Lexeme<'a>
-        ensures { Moves self.old (found result) self.new }
-    {
-        match self.ahead {
-            Some(Lexeme::End) => Lexeme::End,
-            Some(lexeme) => {
-                self.ahead = None;
-                self.end = self.tokens.end();
-                lexeme
-            }
-            None => self.step_outlined(),
-        }
-    }
-
-    #[inline(never)]
-    fn step_outlined(&mut self) -> Lexeme<'a>
-        ensures { Moves self.old (found result) self.new }
-    {
-        self.step()
-    }
-
     #[inline(always)]
     fn step(&mut self) -> Lexeme<'a>
         ensures { Moves self.old (found result) self.new }
@@ -176,105 +122,19 @@ impl<'a, T: WktNum> PeekableTokens<'a, T> {
     }
 
     /// Takes the next lexeme if it is a number that is read.
-    #[inline(always)]
     pub fn take_number(&mut self) -> Option<T>
         ensures { MatchOption result (StaysUnread T.read self.old self.new) (λ n. TakesNumber T.read self.old n self.new) }
     {
-        let lexeme = match self.ahead {
-            Some(lexeme) => lexeme,
-            None => self.tokens.next_lexeme(),
-        };
-        match lexeme {
+        match self.look() {
             Lexeme::Number(digits) => match T::read_number(digits) {
                 Some(number) => {
-                    self.ahead = None;
-                    self.end = self.tokens.end();
+                    let _ = self.step();
                     Some(number)
                 }
-                None => {
-                    self.ahead = Some(lexeme);
-                    none()
-                }
+                None => None,
             },
-            _ => {
-                self.ahead = Some(lexeme);
-                none()
-            }
+            _ => None,
         }
-    }
-
-    /// Takes the next lexeme if it is a kind word.
-    #[inline(always)]
-    pub fn take_kind(&mut self) -> Option<(GeometryType, Option<Dimension>)>
-        ensures { MatchOption result (Looks self.old self.new) (λ k. TakesKind self.old k self.new) }
-    {
-        let lexeme = match self.ahead {
-            Some(lexeme) => lexeme,
-            None => self.tokens.next_lexeme(),
-        };
-        if let Lexeme::Word(word) = lexeme {
-            if let Some(kind) = kind_of(word) {
-                self.ahead = None;
-                self.end = self.tokens.end();
-                return Some(kind);
-            }
-        }
-        self.ahead = Some(lexeme);
-        None
-    }
-
-    /// Takes the next lexeme if it is a comma right behind a run.
-    #[inline(always)]
-    pub fn take_comma_near(&mut self) -> bool
-        ensures { MatchBool result (Moves self.old (Some Comma) self.new) (self.new ≡ self.old) }
-    {
-        if let None = self.ahead {
-            if self.tokens.take_comma_ahead() {
-                self.end = self.tokens.end();
-                return true;
-            }
-        }
-        false
-    }
-
-    /// Takes the next lexeme if it is a closing parenthesis right behind a run.
-    #[inline(always)]
-    pub fn take_close_near(&mut self) -> bool
-        ensures { MatchBool result (Moves self.old (Some Close) self.new) (self.new ≡ self.old) }
-    {
-        if let None = self.ahead {
-            if self.tokens.take_close_ahead() {
-                self.end = self.tokens.end();
-                return true;
-            }
-        }
-        false
-    }
-
-    /// Takes the next lexeme if it is an opening parenthesis.
-    #[inline(always)]
-    pub fn take_open(&mut self) -> bool
-        ensures { MatchBool result (Moves self.old (Some Open) self.new) (Looks self.old self.new) }
-    {
-        if let None = self.ahead {
-            if self.tokens.take_open_ahead() {
-                self.end = self.tokens.end();
-                return true;
-            }
-        }
-        self.take_open_behind()
-    }
-
-    // Takes the next lexeme if it is an opening parenthesis, wherever it stands.
-    #[inline(never)]
-    fn take_open_behind(&mut self) -> bool
-        ensures { MatchBool result (Moves self.old (Some Open) self.new) (Looks self.old self.new) }
-    {
-        if let Lexeme::Open = self.look() {
-            let _ = self.step();
-            return true;
-        }
-        false
     }
 
     /// The item that `next` gives next. It is returned by value, and a number is read anew by each call.
@@ -286,7 +146,7 @@ impl<'a, T: WktNum> PeekableTokens<'a, T> {
         ensures end { end_of self.new ≡ end_of self.old }
         ensures grows { taken_of self.old ≤ taken_of self.new }
     {
-        slow_item(self.look())
+        item_of(self.look())
     }
 }
 
@@ -300,6 +160,6 @@ impl<'a, T: WktNum> Iterator for PeekableTokens<'a, T> {
     ghost remaining = { count_ahead };
 
     fn next(&mut self) -> Option<Result<Token<'a, T>, &'static str>> {
-        slow_item(self.step())
+        item_of(self.step())
     }
 }

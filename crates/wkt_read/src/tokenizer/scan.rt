@@ -61,32 +61,25 @@ pub(crate) fn starts_number(byte: u8) -> bool
     byte.is_ascii_digit() || byte == b'.' || byte == b'-' || byte == b'+'
 }
 
-/// The class of the first byte that is no white space, which is taken. The cursor is held by value, so that it stays
-/// in registers.
+/// The class of the first byte that is no white space, which is taken.
 #[inline(always)]
-pub(crate) fn first_class<'a>(bytes: Cursor<'a>, ahead: ByteClass) -> (Cursor<'a>, ByteClass)
-    requires boundary { IsCharBoundary bytes.text.now (taken_in bytes) }
+pub(crate) fn first_class(bytes: &mut Cursor<'_>, ahead: ByteClass) -> ByteClass
+    requires boundary { IsCharBoundary bytes.now.text.now (taken_in bytes.now) }
     requires start { ahead ≢ ByteClass.Run }
-    ensures text { result.0.text ≡ bytes.entry.text }
-    ensures grows { taken_in bytes.entry ≤ taken_in result.0 }
-    ensures found { FoundClass (coming_at bytes.entry.text.now (meant ahead) (taken_in bytes.entry)) result.0.text.now result.1
-        (taken_in result.0) }
-    ensures stops { result.1 ≢ ByteClass.White }
+    ensures text { bytes.new.text ≡ bytes.old.text }
+    ensures grows { taken_in bytes.old ≤ taken_in bytes.new }
+    ensures found { FoundClass (coming_at bytes.old.text.now (meant ahead) (taken_in bytes.old)) bytes.new.text.now result
+        (taken_in bytes.new) }
+    ensures stops { result ≢ ByteClass.White }
 {
-    let mut cursor = bytes;
     let mut class = ahead;
     'white: while let ByteClass::White = class {
-        match cursor.next_byte() {
-            Some(byte) => {
-                if byte > b',' {
-                    return (cursor, ByteClass::Run);
-                }
-                class = class_of(byte);
-            }
-            None => return (cursor, ByteClass::Nul),
+        match bytes.next_byte() {
+            Some(byte) => class = class_of(byte),
+            None => return ByteClass::Nul,
         }
     }
-    (cursor, class)
+    class
 }
 
 /// Takes the next byte: the end of a run that came so far, and the class of the byte, if it is no part of the run.
@@ -99,42 +92,28 @@ fn run_ends(bytes: &mut Cursor<'_>) -> Option<(usize, ByteClass)>
 {
     let end = bytes.taken();
     match bytes.next_byte() {
-        Some(byte) => {
-            if byte > b',' {
-                return None;
-            }
-            match class_of(byte) {
-                ByteClass::Run => None,
-                class => Some((end, class)),
-            }
-        }
+        Some(byte) => match class_of(byte) {
+            ByteClass::Run => None,
+            class => Some((end, class)),
+        },
         None => Some((end, ByteClass::Nul)),
     }
 }
 
-/// The end of the run that begins at `from`, and the class of the byte after it, which is taken. The cursor
-/// is held by value, and asked once for eight bytes how many are left, so that it stays in registers.
+/// The end of the run that begins at `from`, and the class of the byte after it, which is taken.
 #[inline(always)]
 #[tactic(auto, using(crate::proofs::Placings::taken_within))]
-pub(crate) fn end_of_run<'a>(bytes: Cursor<'a>, from: usize) -> (Cursor<'a>, usize, ByteClass)
-    requires { IsRunSoFar bytes.text.now from (taken_in bytes) }
-    ensures text { result.0.text ≡ bytes.entry.text }
-    ensures grows { taken_in bytes.entry ≤ taken_in result.0 }
-    ensures on { taken_in bytes.entry ≤ result.1 }
-    ensures ends { EndsRun result.0.text.now from result.1 (taken_in result.0) result.2 }
-    ensures other { result.2 ≢ ByteClass.Run }
+pub(crate) fn end_of_run(bytes: &mut Cursor<'_>, from: usize) -> (usize, ByteClass)
+    requires { IsRunSoFar bytes.now.text.now from (taken_in bytes.now) }
+    ensures text { bytes.new.text ≡ bytes.old.text }
+    ensures grows { taken_in bytes.old ≤ taken_in bytes.new }
+    ensures on { taken_in bytes.old ≤ result.0 }
+    ensures ends { EndsRun bytes.new.text.now from result.0 (taken_in bytes.new) result.1 }
+    ensures other { result.1 ≢ ByteClass.Run }
 {
-    let mut cursor = bytes;
-    'eight: while cursor.remaining() >= 8 {
-        'turn: for _ in 0..8usize {
-            if let Some((end, class)) = run_ends(&mut cursor) {
-                return (cursor, end, class);
-            }
-        }
-    }
-    'one: loop {
-        if let Some((end, class)) = run_ends(&mut cursor) {
-            return (cursor, end, class);
+    'bytes: loop {
+        if let Some(found) = run_ends(bytes) {
+            return found;
         }
     }
 }

@@ -1,8 +1,6 @@
 //! Lexemes, and the lexemes of a text one after the other.
-ghost use Rattle.std.specs.Prelude.{◌≡◌, ◌≢◌, ◌≤◌, ◌<◌, ℕ, length, Some};
-ghost use Rattle.std.specs.Bool.{MatchBool};
+ghost use Rattle.std.specs.Prelude.{◌≡◌, ◌≤◌, ◌<◌, length, Some};
 ghost use Rattle.std.specs.Str.{IsCharBoundary};
-ghost use Rattle.wkt_num.specs.Bytes.{Close, Comma, Open};
 ghost use Rattle.wkt_read.specs.Lexemes.{lexeme_of};
 ghost use Rattle.wkt_read.specs.Items.{IsItem};
 ghost use Rattle.wkt_read.specs.Peeks.{found, IsNumberIn};
@@ -60,8 +58,7 @@ fn number_in<'a>(run: &'a str) -> Option<&'a str>
     }
 }
 
-/// The item that stands for a lexeme. Inlined, so that what a caller doesn't look at isn't made.
-#[inline(always)]
+/// The item that stands for a lexeme.
 pub(crate) fn item_of<'a, T: WktNum>(
     lexeme: Lexeme<'a>,
 ) -> Option<Result<Token<'a, T>, &'static str>>
@@ -78,16 +75,6 @@ pub(crate) fn item_of<'a, T: WktNum>(
             None => return Some(Err(Message::BadNumber.text())),
         },
     }))
-}
-
-/// The item of a lexeme, where speed isn't wanted: the slow path.
-#[inline(never)]
-pub(crate) fn slow_item<'a, T: WktNum>(
-    lexeme: Lexeme<'a>,
-) -> Option<Result<Token<'a, T>, &'static str>>
-    ensures { IsItem T.read (found lexeme.entry) result }
-{
-    item_of(lexeme)
 }
 
 /// The lexemes of a text, one after the other.
@@ -157,78 +144,30 @@ impl<'a, T: WktNum> Tokens<'a, T> {
         self.bytes.most_left()
     }
 
-    // Gives the next lexeme if it is a comma that was taken with the run before it.
-    #[inline(always)]
-    pub(crate) fn take_comma_ahead(&mut self) -> bool
-        ensures { MatchBool result (Steps self.old (Some Comma) self.new) (self.new ≡ self.old) }
-    {
-        match self.ahead {
-            ByteClass::Comma => {
-                self.ahead = ByteClass::White;
-                self.end = self.bytes.taken();
-                true
-            }
-            _ => false,
-        }
-    }
-
-    // Gives the next lexeme if it is a closing parenthesis that was taken with the run before it.
-    #[inline(always)]
-    pub(crate) fn take_close_ahead(&mut self) -> bool
-        ensures { MatchBool result (Steps self.old (Some Close) self.new) (self.new ≡ self.old) }
-    {
-        match self.ahead {
-            ByteClass::Close => {
-                self.ahead = ByteClass::White;
-                self.end = self.bytes.taken();
-                true
-            }
-            _ => false,
-        }
-    }
-
-    // Gives the next lexeme if it is an opening parenthesis that was taken with the run before it.
-    #[inline(always)]
-    pub(crate) fn take_open_ahead(&mut self) -> bool
-        ensures { MatchBool result (Steps self.old (Some Open) self.new) (self.new ≡ self.old) }
-    {
-        match self.ahead {
-            ByteClass::Open => {
-                self.ahead = ByteClass::White;
-                self.end = self.bytes.taken();
-                true
-            }
-            _ => false,
-        }
-    }
-
     /// The next lexeme, its number not read.
     #[inline(always)]
     pub fn next_lexeme(&mut self) -> Lexeme<'a>
         ensures { Steps self.old (found result) self.new }
     {
-        let (bytes, class) = first_class(self.bytes, self.ahead);
+        let class = first_class(&mut self.bytes, self.ahead);
         let mark = match class {
             ByteClass::Open => Lexeme::Open,
             ByteClass::Close => Lexeme::Close,
             ByteClass::Comma => Lexeme::Comma,
             ByteClass::Run => {
-                let from = bytes.taken() - 1;
-                let (bytes, end, ahead) = end_of_run(bytes, from);
-                self.bytes = bytes;
+                let from = self.bytes.taken() - 1;
+                let (end, ahead) = end_of_run(&mut self.bytes, from);
                 self.end = end;
                 self.ahead = ahead;
-                return lexeme_of(bytes.part(from, end));
+                return lexeme_of(self.bytes.part(from, end));
             }
             ByteClass::Nul | ByteClass::White => {
-                self.bytes = bytes;
                 self.ahead = ByteClass::Nul;
                 return Lexeme::End;
             }
         };
-        self.bytes = bytes;
         self.ahead = ByteClass::White;
-        self.end = bytes.taken();
+        self.end = self.bytes.taken();
         mark
     }
 }

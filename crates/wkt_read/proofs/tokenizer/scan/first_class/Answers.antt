@@ -1,7 +1,6 @@
 -- White space is skipped, and the class is that of the first other byte.
-use Rattle.std.proofs.Common.{ap, sym, ◌∙◌, arith}
-use Rattle.wkt_read.proofs.Placings.{first-step, first-end, late-run}
-use Rattle.wkt_read.specs.declared.tokenizer.scan.ByteClass.TheVariants as class
+use Rattle.std.proofs.Common.{ap, ◌∙◌, arith}
+use Rattle.wkt_read.proofs.Placings.{first-step, first-end}
 use Rattle.wkt_read.proofs.tokenizer.scan.first_class.Goals as goal
 
 pub white-preserved : goal.white-preserved
@@ -18,8 +17,3 @@ pub returns-in-None-clause-found : goal.returns-in-None-clause-found
 returns-in-None-clause-found c =
     let e = c.in-None.ensures in
     first-end _ _ _ _ _ _ (ap (λ t. t.now) e.text) e.cases.0 e.cases.1 c.in-White.is c.white.invariant.found
-
-pub returns-then-byte-gt44-clause-found : goal.returns-then-byte-gt44-clause-found
-returns-then-byte-gt44-clause-found c =
-    let e = c.in-Some.ensures in
-    first-step _ _ _ _ class.Run _ _ _ (ap (λ t. t.now) e.text) e.cases.0 e.cases.1 e.cases.2 e.utf8 c.in-White.is (sym (late-run _ c.if-byte-gt44.true)) c.white.invariant.found

@@ -4,10 +4,10 @@ use Rattle.wkt_read.proofs.tokenizer.scan.first_class.Given as goal
 
 abbrev pub invariant-white : goal.invariant-white
 invariant-white l = record {
-  text : l.cursor.text ≡ l.fn.bytes.text;
-  grows : taken_in l.fn.bytes ≤ taken_in l.cursor;
-  found : FoundClass (coming_at l.fn.bytes.text.now (meant l.fn.ahead) (taken_in l.fn.bytes)) l.cursor.text.now l.class (taken_in l.cursor);
+  text : l.bytes.text ≡ l.fn.bytes.text;
+  grows : taken_in l.fn.bytes ≤ taken_in l.bytes;
+  found : FoundClass (coming_at l.fn.bytes.text.now (meant l.fn.ahead) (taken_in l.fn.bytes)) l.bytes.text.now l.class (taken_in l.bytes);
 }
 
 abbrev pub decreases-white : goal.decreases-white
-decreases-white l = length l.fn.bytes.text.now - taken_in l.cursor
+decreases-white l = length l.fn.bytes.text.now - taken_in l.bytes

@@ -1,7 +1,6 @@
 -- A run goes on by each byte of it, and ends at any other.
-use Rattle.std.proofs.Common.{ap, sym, refl, subst, length, ◌<◌, arith}
-use Rattle.wkt_read.proofs.Placings.{run-step, run-end, run-end-text, late-run}
-use Rattle.wkt_read.specs.declared.tokenizer.scan.ByteClass.TheVariants as class
+use Rattle.std.proofs.Common.{ap, sym, subst, length, ◌<◌, arith}
+use Rattle.wkt_read.proofs.Placings.{run-step, run-end, run-end-text}
 use Rattle.wkt_read.specs.Streams.{taken_in, IsRunSoFar}
 use Rattle.wkt_read.proofs.tokenizer.scan.run_ends.Goals as goal
 
@@ -12,15 +11,6 @@ returns-in-Run-clause-cases c =
       inside = subst (λ t. taken_in c.args.bytes.now < length t) (sym (ap (λ t. t.now) e.text)) e.cases.1;
       next = e.cases.0;
       run = λ from so_far. run-step _ _ _ _ _ _ _ (ap (λ t. t.now) e.text) e.cases.0 e.cases.1 e.cases.2 e.utf8 c.class_of.ensures c.in-Run.is (subst (λ t. IsRunSoFar t.now from (taken_in c.args.bytes.now)) e.text so_far);
-    }
-
-pub returns-then-byte-gt44-clause-cases : goal.returns-then-byte-gt44-clause-cases
-returns-then-byte-gt44-clause-cases c =
-    let e = c.in-Some.ensures in
-    record {
-      inside = subst (λ t. taken_in c.args.bytes.now < length t) (sym (ap (λ t. t.now) e.text)) e.cases.1;
-      next = e.cases.0;
-      run = λ from so_far. run-step _ _ _ _ _ _ class.Run (ap (λ t. t.now) e.text) e.cases.0 e.cases.1 e.cases.2 e.utf8 (sym (late-run _ c.if-byte-gt44.true)) refl (subst (λ t. IsRunSoFar t.now from (taken_in c.args.bytes.now)) e.text so_far);
     }
 
 pub returns-in_default-clause-cases : goal.returns-in_default-clause-cases

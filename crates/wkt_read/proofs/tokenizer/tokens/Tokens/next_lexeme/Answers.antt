@@ -11,12 +11,12 @@ pub returns-in-Run : goal.returns-in-Run
 returns-in-Run g c =
     let r = c.end_of_run-end.ensures in
     let s = c.first_class-class.ensures in
-    let lexeme : found c.lexeme_of.result ≡ Some (lexeme_of (slice_range c.end_of_run-end.result.0.text.now (c.taken-from.result - 1) c.end_of_run-end.result.1)) = c.lexeme_of.ensures ∙ ap (λ l. Some (lexeme_of l)) c.part.ensures in
+    let lexeme : found c.lexeme_of.result ≡ Some (lexeme_of (slice_range c.end_of_run-end.new.bytes.text.now (c.taken-from.result - 1) c.end_of_run-end.result.0)) = c.lexeme_of.ensures ∙ ap (λ l. Some (lexeme_of l)) c.part.ensures in
     let f = run-found _ _ _ _ c.in-Run.is s.found in
     let e : f.0 ≡ c.taken-from.result - 1 = omega (arith, f.1, c.taken-from.ensures) in
-    let order : c.taken-from.result - 1 < c.end_of_run-end.result.1 = omega (arith, f.1, c.taken-from.ensures, r.on) in
+    let order : c.taken-from.result - 1 < c.end_of_run-end.result.0 = omega (arith, f.1, c.taken-from.ensures, r.on) in
     rw (← c.self.view_is, lexeme) (
-      gives-run _ _ _ _ _ _ _ _ (f.2 ∙ ap (λ n. spanned_from n (drop n c.first_class-class.result.0.text.now)) e) (ap (λ t. t.now) r.text) order r.ends refl,
+      gives-run _ _ _ _ _ _ _ _ (f.2 ∙ ap (λ n. spanned_from n (drop n c.first_class-class.new.bytes.text.now)) e) (ap (λ t. t.now) r.text) order r.ends refl,
       r.ends.taken,
       r.ends.near,
       omega (arith, r.grows, s.grows),
