@@ -1,9 +1,9 @@
 -- What a pen writes: numbers, text that is UTF-8, and what bytes hold when it wrote there.
 use Rattle.std.proofs.Common.{◌≡◌, ℕ, ◌≤◌, List, [], ◌∷◌, ◌++◌, length, take, refl, sym, ap, subst, ◌∙◌, arith, length-append, Bool, true, false, IsUtf8, Option, Some, IfSome, ◌+◌, drop, None, Result, Ok, Err, inl, inr, ◌-◌, ◌*◌, ◌<◌, get_or, slice_range, ap₂, append_assoc}
-use Rattle.std.specs.Prelude.{codes}
+use Rattle.std.specs.Prelude.{codes, IfNone}
 use Rattle.std.proofs.lemmas.Str.{IsUtf8-nil, IsUtf8-append}
 use Rattle.std.proofs.Math.Seq.{take-append_seam, take-append-add}
-use Rattle.std.proofs.lemmas.List.{take-append-le, length-take-le, take-take, length-drop, take_rest}
+use Rattle.std.proofs.lemmas.List.{append-nil, take-append-le, length-take-le, take-take, length-drop, take_rest}
 use Rattle.std.proofs.lemmas.Simd.{take_more_put_chunk}
 use Rattle.std.proofs.lemmas.Bool.{cases_lt}
 use lib.Utf8.{encode}
@@ -44,8 +44,8 @@ use Rattle.wkt_canonical.proofs.Texts.{events_write}
 use Rattle.wkt_num.specs.Number.{KeepsText, BeginsNumber}
 use Rattle.wkt_read.specs.Lexemes.{without_plus}
 use Rattle.wkt_events.proofs.Runs.{kept-there}
-use Rattle.wkt_machine.specs.Makers.{MakesNumber}
-use Rattle.wkt_machine.specs.Room.{shortest, number_cost, LeavesBehind}
+use Rattle.wkt_machine.specs.Makers.{MakesBareNumber, MakesNumber}
+use Rattle.wkt_machine.specs.Room.{shortest, number_cost, LeavesBehind, LeavesBehindBare}
 use Rattle.wkt_machine.proofs.ByteViews.{padded-shows}
 use Rattle.wkt_canonical.proofs.ShortTexts.{shortest-longer, plain, without-shortest, shortest-some}
 
@@ -341,6 +341,46 @@ module _ {N : Type 0} (read : List ℕ → Option N) (num : N → List ℕ) (tex
   pub leaves-number : (made : Pen N) (r : Option ℕ) → IfSome r (Numbered read num text at pen made) → IfSome r (LeavesBehind (pen_maker read num) self text at made)
   leaves-number made None h = tt
   leaves-number made (Some end) h = λ m most fits. h.room m most (omega (arith, fits, before.len, before.whole, separator-short a))
+
+-- What was written is taken back: no event made it.
+pub taken-back : {N : Type 0} (read : List ℕ → Option N) (num : N → List ℕ) (self pen : Pen N) (text : List ℕ) → Extends self text pen → self.len ≤ length self.out.now → Made read num self [] (record pen { len = self.len })
+taken-back read num self pen text h within =
+    let low : self.len ≤ pen.len = omega (arith, h.len) in
+    let long : length (take self.len self.out.now) ≡ self.len = length-take-le self.len self.out.now within in
+    let bytes : take self.len pen.out.now ≡ take self.len self.out.now =
+    sym (take-take self.len pen.len pen.out.now low) ∙ ap (take self.len) h.written
+    ∙ ap (λ (k : ℕ). take k (take self.len self.out.now ++ text)) (sym long) ∙ take-append_seam (take self.len self.out.now) text in
+    record {
+      shorter = omega (arith, h.whole);
+      wrote = λ _. record { origin = h.origin; whole = h.whole; written = ap₂ (λ (l : List ℕ) (n : ℕ). record { bytes = l; polygon = n }) bytes h.polygon };
+      texts = λ _. tt;
+      stuck = λ less. absurd (omega (arith, less, h.whole));
+    }
+
+-- where the last polygon stands was as it is
+pub same-polygon : {N : Type 0} (self made : Pen N) (r : Option ℕ) → IfNone r (made ≡ self) → IfNone r (record made { polygon = self.polygon } ≡ self)
+same-polygon {N} self made None h = ap (λ (p : Pen N). record p { polygon = self.polygon }) h
+same-polygon self made (Some end) h = tt
+
+extends-none : {N : Type 0} (p : Pen N) → Extends p [] p
+extends-none p = record { origin = refl; whole = refl; len = omega arith; polygon = refl; written = sym (append-nil (take p.len p.out.now)) }
+
+-- the pen has written the parenthesis of a point without parentheses, and then its first number
+module _ {N : Type 0} (read : List ℕ → Option N) (num : N → List ℕ) (text : List ℕ) (at : ℕ) (self pen made : Pen N) (before : Extends self (40 ∷ []) pen) (end : ℕ) (h : Numbered read num text at pen made end) where
+  pub makes-bare : MakesBareNumber read (pen_maker read num) self text at made end
+  makes-bare = record {
+    opened = pen;
+    opens = record {
+      shorter = omega (arith, before.whole);
+      wrote = λ _. becomes_of self pen (40 ∷ []) before;
+      texts = λ _. (tt, tt);
+      stuck = λ less. absurd (omega (arith, less, before.whole));
+    };
+    number = makes-number read num text at axis.X pen pen (extends-none pen) made (Some end) h;
+  }
+
+  pub leaves-bare : LeavesBehindBare (pen_maker read num) self text at made end
+  leaves-bare = λ m most fits. h.room m most (omega (arith, fits, before.len, before.whole))
 
 module _ {N : Type 0} (read : List ℕ → Option N) (num : N → List ℕ) (text : List ℕ) (at end : ℕ) (x : N) (there : IsNumberAt read text at end x) (self pen : Pen N) where
   -- a number whose text left room for what follows

@@ -64,6 +64,7 @@ impl<'a, T: WktNum> Pen<'a, T> {
         requires room { HasSpace self text.now at }
         ensures some { IfSome result.1 (Numbered T.read T.num text.now at self.entry result.0) }
         ensures none { IfNone result.1 (NoNumber T.read text.now at) }
+        ensures nothing { IfNone result.1 (result.0 ≡ self.entry) }
     {
         let Some((number, end)) = number_there::<T>(text, at) else {
             return (self, None);
@@ -107,6 +108,7 @@ impl<'a, T: WktNum> Pen<'a, T> {
         requires room { HasSpace self text.now at }
         ensures some { IfSome result.1 (Numbered T.read T.num text.now at self.entry result.0) }
         ensures none { IfNone result.1 (NoNumber T.read text.now at) }
+        ensures nothing { IfNone result.1 (result.0 ≡ self.entry) }
     {
         // Of these types it isn't known that a text that is kept is UTF-8.
         if !T::reads_texts() {
@@ -129,6 +131,7 @@ impl<'a, T: WktNum> Pen<'a, T> {
         requires room { HasSpace self text.now at }
         ensures some { IfSome result.1 (Numbered T.read T.num text.now at self.entry result.0) }
         ensures none { IfNone result.1 (NoNumber T.read text.now at) }
+        ensures nothing { IfNone result.1 (result.0 ≡ self.entry) }
     {
         let polygon = self.polygon;
         let (pen, end) = self.slow_number_outlined(text, at);
@@ -155,6 +158,7 @@ impl<'a, T: WktNum> Pen<'a, T> {
         requires room { HasSpace self text.now at }
         ensures some { IfSome result.1 (Numbered T.read T.num text.now at self.entry result.0) }
         ensures none { IfNone result.1 (NoNumber T.read text.now at) }
+        ensures nothing { IfNone result.1 (result.0 ≡ self.entry) }
     {
         // No number stands where a parenthesis closes, or the text ends.
         if !is_of_run(byte_at(text, at)) {

@@ -160,6 +160,25 @@ impl<'a, T> Pen<'a, T> {
         }
     }
 
+    /// What was written as far as there.
+    #[inline(always)]
+    fn back_to(self, len: usize) -> Self
+        ensures { result ≡ record self.entry { len = len } }
+    {
+        let Pen {
+            out,
+            len: _,
+            polygon,
+            of,
+        } = self;
+        Pen {
+            out,
+            len,
+            polygon,
+            of,
+        }
+    }
+
     /// What stands before a number of a coordinate.
     #[inline(always)]
     pub(crate) fn put_separator(self, axis: Axis) -> Self
@@ -315,6 +334,21 @@ impl<T: WktNum> Builder<T> for Pen<'_, T> {
 
     #[inline(always)]
     fn number_in(self, text: &[u8], at: usize, axis: Axis) -> (Self, Option<usize>) {
-        self.put_separator(axis).put_number(text, at)
+        let len = self.len;
+        let (made, end) = self.put_separator(axis).put_number(text, at);
+        match end {
+            Some(end) => (made, Some(end)),
+            None => (made.back_to(len), None),
+        }
+    }
+
+    #[inline(always)]
+    fn bare_in(self, text: &[u8], at: usize) -> (Self, Option<usize>) {
+        let len = self.len;
+        let (made, end) = self.put(b'(').put_number(text, at);
+        match end {
+            Some(end) => (made, Some(end)),
+            None => (made.back_to(len), None),
+        }
     }
 }

@@ -279,6 +279,8 @@ pub record IsCollected (v : Value ℤ) (w : Headed) : Type 0 where
   pub none : parts_of v ≡ None
   pub some : is_collection w.kind ≡ true
   pub empty : w.flat.numbers ≡ []
+  pub one_ring : w.flat.rings ≡ 0 ∷ []
+  pub one_polygon : w.flat.polygons ≡ 0 ∷ []
 
 begin : Holds nothing [] [] []
 begin = record { numbers = refl; rings = refl; polygons = refl; coordinates = refl; ring_count = refl }
@@ -349,4 +351,4 @@ outcome P (Value.multi_polygon d ps) fit =
       holds = polygons-hold P kind.MultiPolygon refl d ps fit nothing [] begin;
     }))
 outcome P (Value.collection d vs) fit =
-    inr (subst (IsCollected (Value.collection d vs)) (sym (collected (geometries vs) (from kind.GeometryCollection (Value.collection d vs)) refl)) (record { none = refl; some = refl; empty = refl }))
+    inr (subst (IsCollected (Value.collection d vs)) (sym (collected (geometries vs) (from kind.GeometryCollection (Value.collection d vs)) refl)) (record { none = refl; some = refl; empty = refl; one_ring = refl; one_polygon = refl }))

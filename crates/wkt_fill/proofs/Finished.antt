@@ -1,5 +1,5 @@
 -- The arrays of the front of a text, and a number that stands there.
-use Rattle.std.proofs.Common.{ℕ, ℤ, ◌+◌, ◌-◌, ◌≤◌, List, [], length, take, drop, refl, sym, subst, ◌∙◌, to_z, of_z, w64, ◌≡◌, ◌≢◌, ◌⊎◌, inl, inr, ◌++◌, suc, zero, ap, arith, Option, Some, Bool, true, false, IfSome}
+use Rattle.std.proofs.Common.{ℕ, ℤ, ◌+◌, ◌-◌, ◌≤◌, ◌<◌, List, [], length, take, drop, refl, sym, subst, ◌∙◌, to_z, of_z, w64, ◌≡◌, ◌≢◌, ◌⊎◌, inl, inr, ◌++◌, suc, zero, ap, arith, Option, Some, Bool, true, false, IfSome}
 use Rattle.std.specs.Prelude.{IsUtf8}
 use Rattle.std.proofs.lemmas.List.{take_rest, append-nil}
 use Rattle.std.specs.List.{Contains}
@@ -9,8 +9,9 @@ use Rattle.wkt_num.proofs.NumberInWindow.{held-is}
 use Rattle.wkt_events.proofs.Runs.{kept-there}
 use Rattle.wkt_machine.specs.Makers.{MakesNumber}
 use Rattle.wkt_machine.specs.declared.part.Axis.{Axis}
-use Rattle.wkt_fill.specs.Filled.{put, on, Headed, is_collection, steps, arrays_of, FillerBecomes, filler_maker, view, Fills, FillerBegins, RefusesCollection, HoldsAll, FillsFront}
+use Rattle.wkt_fill.specs.Filled.{put, on, Headed, is_collection, steps, arrays_of, unheaded, Lacks, lacks_on, FillerBecomes, filler_maker, view, Fills, FillerBegins, RefusesCollection, HoldsAll, FillsFront}
 use Rattle.wkt_fill.specs.declared.filler.Filler.{Filler}
+use Rattle.wkt_fill.specs.declared.filler.Room.{Room}
 use Rattle.wkt_num.specs.DecimalLaws.{decimal_reads_values}
 use Rattle.wkt_num.proofs.ReadNumbers.{decimal_utf8}
 use Rattle.wkt_access.specs.Values.{Value}
@@ -18,7 +19,7 @@ use Rattle.wkt_read.specs.Front.{Front}
 use Rattle.wkt_read.proofs.OneForm.{geometry_fits}
 use Rattle.wkt_events.proofs.Utf8Lines.{text-with-front, text-behind-front}
 use Rattle.wkt_machine.specs.Events.{events}
-use Rattle.wkt_fill.specs.Arrays.{joined, numbers_in, offsets, HasLarge, IsUnheld}
+use Rattle.wkt_fill.specs.Arrays.{joined, numbers_in, offsets, HasLarge, LackPlaces, IsUnheld}
 use Rattle.wkt_fill.proofs.EventsToArrays.{IsHeld, IsCollected, outcome}
 
 -- A number that is read from its first bytes stands there.
@@ -39,7 +40,7 @@ is-zero : (n : ℕ) → (n ≡ 0) ⊎ (n ≢ 0)
 is-zero zero = inl refl
 is-zero (suc n) = inr (λ e. absurd (omega (arith, e)))
 
-module _ (v : Value ℤ) (s0 s t : Filler) (begins : FillerBegins s0) (fills : Fills s0 (events v) s) (reports : RefusesCollection s t) (out : IsHeld v (arrays_of (events v)) ⊎ IsCollected v (arrays_of (events v))) where
+module _ (v : Value ℤ) (r : Room) (s0 s t : Filler) (begins : FillerBegins r s0) (fills : Fills s0 (events v) s) (reports : RefusesCollection s t) (out : IsHeld v (arrays_of (events v)) ⊎ IsCollected v (arrays_of (events v))) where
   made-is : s.status ≡ 0 → view s ≡ arrays_of (events v)
   made-is z = elim (is-zero s0.status) [
     | inl z0 ↦ fills.does z0 z ∙ ap (steps (events v)) (begins.fresh z0)
@@ -75,22 +76,48 @@ module _ (v : Value ℤ) (s0 s t : Filler) (begins : FillerBegins s0) (fills : F
       no-element : Contains [] h.number → ⊥
       no-element (i, lt, e) = omega (arith, lt)
 
-  large-value : HasLarge (arrays_of (events v)).flat.numbers → t.status ≡ 25 → IsUnheld v t.status
+  abbrev Unheld : Type 0
+  Unheld = IsUnheld (length r.numbers.now) (length r.rings.now) (length r.polygons.now) v t.status
+
+  -- what has no room is the value's arrays, or a first offset
+  lack-places : Lacks s0 (arrays_of (events v)).flat → LackPlaces (length r.numbers.now) (length r.rings.now) (length r.polygons.now) v
+  lack-places l = elim out [
+    | inl h ↦ inr (inr (
+      h.parts,
+      h.flat,
+      elim l [
+        | inl few ↦ inl (omega (arith, few, begins.room.numbers, ap length (h.holds.numbers ∙ all-of h.parts)))
+        | inr k ↦ inr (elim k [
+          | inl few ↦ inl (omega (arith, few, begins.room.rings, ap length (h.holds.rings ∙ ap (offsets 0) (append-nil (joined h.parts)))))
+          | inr few ↦ inr (omega (arith, few, begins.room.polygons, ap length h.holds.polygons))
+        ])
+      ],
+    ))
+    | inr c ↦ elim l [
+      | inl few ↦ absurd (omega (arith, few, ap length c.empty))
+      | inr k ↦ elim k [
+        | inl few ↦ inl (omega (arith, few, begins.room.rings, ap length c.one_ring))
+        | inr few ↦ inr (inl (omega (arith, few, begins.room.polygons, ap length c.one_polygon)))
+      ]
+    ]
+  ]
+
+  large-value : HasLarge (arrays_of (events v)).flat.numbers → t.status ≡ 25 → Unheld
   large-value l e = elim out [
     | inl h ↦ inr (inr (e, (h.parts, h.flat, subst HasLarge (h.holds.numbers ∙ all-of h.parts) l)))
     | inr c ↦ absurd (none-large (arrays_of (events v)).flat.numbers c.empty l)
   ]
 
-  failed : t.status ≡ s.status → s.status ≢ 0 → IsUnheld v t.status
+  failed : t.status ≡ s.status → s.status ≢ 0 → Unheld
   failed same sn = elim (is-zero s0.status) [
     | inl z0 ↦ elim (fills.fails z0 sn) [
-      | inl m ↦ inl (same ∙ m)
+      | inl m ↦ inl (same ∙ m.0, lack-places (subst (λ (w : Headed). Lacks s0 w.flat) (ap (steps (events v)) (begins.fresh z0)) (m.1 begins.orderly)))
       | inr l ↦ large-value (subst (λ (w : Headed). HasLarge w.flat.numbers) (ap (steps (events v)) (begins.fresh z0)) l.1) (same ∙ l.0)
     ]
-    | inr n0 ↦ inl (same ∙ fills.stays n0 ∙ begins.or_full n0)
+    | inr n0 ↦ inl (same ∙ fills.stays n0 ∙ (begins.or_full n0).0, lack-places (lacks_on s0 (events v) unheaded (begins.or_full n0).1))
   ]
 
-  pub is-unheld : t.status ≢ 0 → IsUnheld v t.status
+  pub is-unheld : t.status ≢ 0 → Unheld
   is-unheld n = elim (reports.unheld n) [
     | inl f ↦ failed f.0 f.1
     | inr k ↦ elim out [
@@ -107,8 +134,8 @@ module _ (places : ℕ) (text : List ℕ) where
   run-text : (run : List ℕ) (x : ℤ) → read run ≡ Some x → IsUtf8 run
   run-text run x e = subst (λ (o : Option ℤ). IfSome o (λ u. IsUtf8 run)) e (decimal_utf8 places run)
 
-  pub filled : (s0 s t : Filler) (v : Value ℤ) (to : ℕ) → FillerBegins s0 → Front read text v to → Fills s0 (events v) s → RefusesCollection s t → FillsFront places text t to
-  filled s0 s t v to begins front fills reports =
+  pub filled : (r : Room) (s0 s t : Filler) (v : Value ℤ) (to : ℕ) → FillerBegins r s0 → Front read text v to → Fills s0 (events v) s → RefusesCollection s t → FillsFront places text r t to
+  filled r s0 s t v to begins front fills reports =
       let fits = geometry_fits (IsUnits places) read (decimal_reads_values places) v front.lexemes front.reads in
       let out = outcome (IsUnits places) v fits in
       record {
@@ -117,6 +144,6 @@ module _ (places : ℕ) (text : List ℕ) where
         within = let ends = front.ends in omega (arith, ends);
         utf8 = (text-behind-front read run-text text v to front, text-with-front read run-text text v to front);
         fits = fits;
-        holds = holds-all v s0 s t begins fills reports out;
-        unheld = is-unheld v s0 s t begins fills reports out;
+        holds = holds-all v r s0 s t begins fills reports out;
+        unheld = is-unheld v r s0 s t begins fills reports out;
       }

@@ -51,9 +51,16 @@ pub record HasLarge (numbers : List ℤ) : Type 0 where
 abbrev pub HasLargeNumber : Value ℤ → Type 0
 HasLargeNumber value = (parts : List (List (List (List ℤ)))) × (parts_of value ≡ Some parts) × HasLarge (numbers_in (joined parts))
 
--- Why a value has no arrays: there was no room, it is a collection, or a number is too large.
-abbrev pub IsUnheld : Value ℤ → ℕ → Type 0
-IsUnheld value status = (status ≡ 22) ⊎ (((status ≡ 24) × (parts_of value ≡ None)) ⊎ ((status ≡ 25) × HasLargeNumber value))
+-- The arrays of a value don't fit into so many places for numbers, rings and polygons; each of the last two takes one for any value.
+abbrev pub LackPlaces : ℕ → ℕ → ℕ → Value ℤ → Type 0
+LackPlaces numbers rings polygons value =
+    (rings ≡ 0) ⊎ ((polygons ≡ 0) ⊎ ((parts : List (List (List (List ℤ)))) × (parts_of value ≡ Some parts)
+    × ((numbers < length (numbers_in (joined parts))) ⊎ ((rings < length (offsets 0 (joined parts))) ⊎ (polygons < length (offsets 0 parts))))))
+
+-- Why a value has no arrays in so many places: they don't fit, it is a collection, or a number is too large.
+abbrev pub IsUnheld : ℕ → ℕ → ℕ → Value ℤ → ℕ → Type 0
+IsUnheld numbers rings polygons value status =
+    ((status ≡ 22) × LackPlaces numbers rings polygons value) ⊎ (((status ≡ 24) × (parts_of value ≡ None)) ⊎ ((status ≡ 25) × HasLargeNumber value))
 
 -- Flat arrays that are given, and what a builder is told of them.
 

@@ -1,6 +1,6 @@
 -- Flat arrays, as the events of a geometry fill them, and those of the front of a text.
-use Rattle.std.proofs.Common.{refl, sym, subst, inl, inr, ◌∙◌, ap, arith, zero, suc}
-use Rattle.std.specs.Prelude.{ℕ, ℤ, ◌+◌, List, [], ◌∷◌, ◌++◌, Bool, true, false, if◌then◌else◌, ◌≡◌, ◌≢◌, ◌⊎◌, take, ◌↔◌, ◌≤◌, length, drop, Option, Some, None, IsUtf8}
+use Rattle.std.proofs.Common.{refl, sym, subst, inl, inr, ◌∙◌, ap, arith, zero, suc, length-append}
+use Rattle.std.specs.Prelude.{ℕ, ℤ, ◌+◌, List, [], ◌∷◌, ◌++◌, Bool, true, false, if◌then◌else◌, ◌≡◌, ◌≢◌, ◌⊎◌, take, ◌↔◌, ◌≤◌, ◌<◌, length, drop, Option, Some, None, IsUtf8}
 use Rattle.std.specs.List.{Contains}
 use Rattle.std.proofs.lemmas.List.Elements.{Contains-append_left}
 use Rattle.wkt_access.specs.declared.dimensions.Dimension.{Dimension}
@@ -15,6 +15,7 @@ use Rattle.wkt_machine.specs.declared.part.Part.TheVariants as part
 use Rattle.wkt_fill.specs.Arrays.{HasLarge, parts_of, joined, offsets, numbers_in, IsUnheld}
 use Rattle.wkt_machine.specs.Makers.{Maker}
 use Rattle.wkt_fill.specs.declared.filler.Filler.{Filler}
+use Rattle.wkt_fill.specs.declared.filler.Room.{Room}
 use Rattle.wkt_num.specs.Decimal.{read_decimal, IsUnits}
 use Rattle.wkt_access.specs.Values.{Value}
 use Rattle.wkt_access.specs.WellFormed.{IsWellFormed}
@@ -176,17 +177,111 @@ steps-keep (e ∷ es) w x c = steps-keep es (step e w) x (step-keeps e w x c)
 pub large-on : (es : List (Event ℤ)) (w : Headed) → HasLarge w.flat.numbers → HasLarge (steps es w).flat.numbers
 large-on es w h = record { number = h.number; held = steps-keep es w h.number h.held; large = h.large }
 
+-- Each list is as long as it was, or longer.
+record Grows (a b : FlatArrays) : Type 0 where
+  numbers : length a.numbers ≤ length b.numbers
+  rings : length a.rings ≤ length b.rings
+  polygons : length a.polygons ≤ length b.polygons
+
+grows-same : (a : FlatArrays) → Grows a a
+grows-same a = record { numbers = omega arith; rings = omega arith; polygons = omega arith }
+
+grows-both : (a b c : FlatArrays) → Grows a b → Grows b c → Grows a c
+grows-both a b c h k = record {
+  numbers = omega (arith, h.numbers, k.numbers);
+  rings = omega (arith, h.rings, k.rings);
+  polygons = omega (arith, h.polygons, k.polygons);
+}
+
+push-grows : (place : Axis) (y : ℤ) (a : FlatArrays) → Grows a (push place y a)
+push-grows place y a = record { numbers = omega (arith, length-append a.numbers (y ∷ [])); rings = omega arith; polygons = omega arith }
+
+ring-grows : (a : FlatArrays) → Grows a (end_ring a)
+ring-grows a = record { numbers = omega arith; rings = omega (arith, length-append a.rings (a.coordinates ∷ [])); polygons = omega arith }
+
+polygon-grows : (a : FlatArrays) → Grows a (end_polygon a)
+polygon-grows a = record { numbers = omega arith; rings = omega arith; polygons = omega (arith, length-append a.polygons (a.ring_count ∷ [])) }
+
+both-grow : (a : FlatArrays) → Grows a (end_polygon (end_ring a))
+both-grow a = grows-both a (end_ring a) (end_polygon (end_ring a)) (ring-grows a) (polygon-grows (end_ring a))
+
+either-grows : (t : Bool) (a b : FlatArrays) → Grows a b → Grows a (if t then a else b)
+either-grows true a b h = grows-same a
+either-grows false a b h = h
+
+part-grows : (p : Part) (a : FlatArrays) → Grows a (end_part p a)
+part-grows part.Point a = both-grow a
+part-grows part.LineString a = both-grow a
+part-grows part.Polygon a = polygon-grows a
+part-grows part.MultiPoint a = polygon-grows a
+part-grows part.MultiLineString a = polygon-grows a
+part-grows part.MultiPolygon a = grows-same a
+part-grows part.Collection a = grows-same a
+part-grows part.Area a = polygon-grows a
+part-grows p a = ring-grows a
+
+ended-grows : (k : GeometryType) (p : Part) (a : FlatArrays) → Grows a (ended k p a)
+ended-grows k p a = either-grows (is_collection k) a (end_part p a) (part-grows p a)
+
+headed-grows : (t : Bool) (w v : Headed) → v.flat ≡ w.flat → Grows w.flat (if t then w else v).flat
+headed-grows true w v e = grows-same w.flat
+headed-grows false w v e = subst (Grows w.flat) (sym e) (grows-same w.flat)
+
+step-grows : (e : Event ℤ) (w : Headed) → Grows w.flat (step e w).flat
+step-grows (Event.Header p d) w = headed-grows (is_collection w.kind) w (record { kind = kind_of_part p; dimension = d; flat = w.flat }) refl
+step-grows (Event.Open p) w = grows-same w.flat
+step-grows (Event.Comma p) w = grows-same w.flat
+step-grows (Event.Close p) w = ended-grows w.kind p w.flat
+step-grows (Event.Empty p) w = ended-grows w.kind p w.flat
+step-grows (Event.Number a y) w = either-grows (is_collection w.kind) w.flat (push a y w.flat) (push-grows a y w.flat)
+
+steps-grow : (es : List (Event ℤ)) (w : Headed) → Grows w.flat (steps es w).flat
+steps-grow [] w = grows-same w.flat
+steps-grow (e ∷ es) w = grows-both w.flat (step e w).flat (steps es (step e w)).flat (step-grows e w) (steps-grow es (step e w))
+
 -- What a filler has filled.
 
 -- The arrays of a filler: the first places of its room.
 abbrev pub view : Filler → Headed
 view f = record { kind = f.kind; dimension = f.dimension; flat = record { numbers = take f.number_count f.numbers.now; rings = take (f.ring_count + 1) f.rings.now; polygons = take (f.polygon_count + 1) f.polygons.now; coordinates = f.coordinates; ring_count = f.ring_count } }
 
--- The arrays became these, unless the room was full or a number of theirs was too large; then the filler's status says so, and stays.
+-- A list of these arrays is longer than its place in the filler's room.
+abbrev pub Lacks : Filler → FlatArrays → Type 0
+Lacks f a = (length f.numbers.now < length a.numbers) ⊎ ((length f.rings.now < length a.rings) ⊎ (length f.polygons.now < length a.polygons))
+
+-- The room is as large as it was.
+pub record KeepsRoom (s t : Filler) : Type 0 where
+  pub numbers : length t.numbers.now ≡ length s.numbers.now
+  pub rings : length t.rings.now ≡ length s.rings.now
+  pub polygons : length t.polygons.now ≡ length s.polygons.now
+
+-- Each coordinate has a number.
+abbrev pub IsOrderly : Filler → Type 0
+IsOrderly f = f.coordinates ≤ f.number_count
+
+-- The arrays became these, unless they have no room or a number of theirs was too large; then the filler's status says so, and stays.
 pub record FillerBecomes (s : Filler) (w : Headed) (t : Filler) : Type 0 where
+  pub room : KeepsRoom s t
+  pub orderly : IsOrderly s → IsOrderly t
   pub stays : s.status ≢ 0 → t.status ≡ s.status
   pub does : s.status ≡ 0 → t.status ≡ 0 → view t ≡ w
-  pub fails : s.status ≡ 0 → t.status ≢ 0 → (t.status ≡ 22) ⊎ ((t.status ≡ 25) × HasLarge w.flat.numbers)
+  pub fails : s.status ≡ 0 → t.status ≢ 0 → ((t.status ≡ 22) × (IsOrderly s → Lacks s w.flat)) ⊎ ((t.status ≡ 25) × HasLarge w.flat.numbers)
+
+-- What had no room has none after more.
+lacks-more : (f : Filler) (a b : FlatArrays) → Grows a b → Lacks f a → Lacks f b
+lacks-more f a b g l = elim l [
+  | inl h ↦ inl (omega (arith, h, g.numbers))
+  | inr k ↦ elim k [ inl h ↦ inr (inl (omega (arith, h, g.rings))) | inr h ↦ inr (inr (omega (arith, h, g.polygons))) ]
+]
+
+pub lacks_on : (f : Filler) (es : List (Event ℤ)) (w : Headed) → Lacks f w.flat → Lacks f (steps es w).flat
+lacks_on f es w l = lacks-more f w.flat (steps es w).flat (steps-grow es w) l
+
+lacks-before : (s t : Filler) (a : FlatArrays) → KeepsRoom s t → Lacks t a → Lacks s a
+lacks-before s t a r l = elim l [
+  | inl h ↦ inl (omega (arith, h, r.numbers))
+  | inr k ↦ elim k [ inl h ↦ inr (inl (omega (arith, h, r.rings))) | inr h ↦ inr (inr (omega (arith, h, r.polygons))) ]
+]
 
 abbrev pub Fills : Filler → List (Event ℤ) → Filler → Type 0
 Fills s es t = FillerBecomes s (steps es (view s)) t
@@ -196,10 +291,16 @@ is-zero zero = inl refl
 is-zero (suc n) = inr (λ e. absurd (omega (arith, e)))
 
 pub fills_none : (s : Filler) → Fills s [] s
-fills_none s = record { stays = λ n. refl; does = λ z e. refl; fails = λ z n. absurd (n z) }
+fills_none s = record { room = record { numbers = refl; rings = refl; polygons = refl }; orderly = λ h. h; stays = λ n. refl; does = λ z e. refl; fails = λ z n. absurd (n z) }
 
 pub fills_more : (s t u : Filler) (es fs : List (Event ℤ)) → Fills s es t → Fills t fs u → Fills s (es ++ fs) u
 fills_more s t u es fs h k = record {
+  room = record {
+    numbers = k.room.numbers ∙ h.room.numbers;
+    rings = k.room.rings ∙ h.room.rings;
+    polygons = k.room.polygons ∙ h.room.polygons;
+  };
+  orderly = λ o. k.orderly (h.orderly o);
   stays = λ n. k.stays (λ e. n (sym (h.stays n) ∙ e)) ∙ h.stays n;
   does = λ z e. elim (is-zero t.status) [
     | inl tz ↦ k.does tz e ∙ ap (steps fs) (h.does z tz) ∙ sym (steps-append es fs (view s))
@@ -207,11 +308,11 @@ fills_more s t u es fs h k = record {
   ];
   fails = λ z n. elim (is-zero t.status) [
     | inl tz ↦ elim (k.fails tz n) [
-      | inl m ↦ inl m
+      | inl m ↦ inl (m.0, λ o. lacks-before s t (steps (es ++ fs) (view s)).flat h.room (subst (λ (w : Headed). Lacks t w.flat) (ap (steps fs) (h.does z tz) ∙ sym (steps-append es fs (view s))) (m.1 (h.orderly o))))
       | inr l ↦ inr (l.0, subst (λ (w : Headed). HasLarge w.flat.numbers) (ap (steps fs) (h.does z tz) ∙ sym (steps-append es fs (view s))) l.1)
     ]
     | inr tn ↦ elim (h.fails z tn) [
-      | inl m ↦ inl (k.stays tn ∙ m)
+      | inl m ↦ inl (k.stays tn ∙ m.0, λ o. subst (λ (w : Headed). Lacks s w.flat) (sym (steps-append es fs (view s))) (lacks_on s fs (steps es (view s)) (m.1 o)))
       | inr l ↦ inr (k.stays tn ∙ l.0, subst (λ (w : Headed). HasLarge w.flat.numbers) (sym (steps-append es fs (view s))) (large-on fs (steps es (view s)) l.1))
     ]
   ];
@@ -231,10 +332,18 @@ filler_maker = record {
 abbrev pub with_flat : Filler → (FlatArrays → FlatArrays) → Headed
 with_flat f g = record { kind = f.kind; dimension = f.dimension; flat = g (view f).flat }
 
+-- The filler has this room.
+pub record HasPlaces (r : Room) (f : Filler) : Type 0 where
+  pub numbers : length f.numbers.now ≡ length r.numbers.now
+  pub rings : length f.rings.now ≡ length r.rings.now
+  pub polygons : length f.polygons.now ≡ length r.polygons.now
+
 -- Nothing yet, unless there is no room.
-pub record FillerBegins (f : Filler) : Type 0 where
+pub record FillerBegins (r : Room) (f : Filler) : Type 0 where
+  pub room : HasPlaces r f
+  pub orderly : IsOrderly f
   pub fresh : f.status ≡ 0 → view f ≡ unheaded
-  pub or_full : f.status ≢ 0 → f.status ≡ 22
+  pub or_full : f.status ≢ 0 → (f.status ≡ 22) × Lacks f nothing
 
 -- The arrays stay; the status is that of a collection, if nothing was wrong before.
 pub record RefusesCollection (s t : Filler) : Type 0 where
@@ -255,15 +364,15 @@ pub record HoldsAll (f : Filler) (value : Value ℤ) : Type 0 where
   pub polygons_are : (view f).flat.polygons ≡ offsets 0 parts
 
 -- The bytes have a front that ends there, and are UTF-8 if and only if those behind it are; each of its coordinates has as many numbers as its dimension says; and the arrays are those of its value, or the status says why it has none.
-pub record FillsFront (places : ℕ) (text : List ℕ) (f : Filler) (end : ℕ) : Type 0 where
+pub record FillsFront (places : ℕ) (text : List ℕ) (r : Room) (f : Filler) (end : ℕ) : Type 0 where
   pub value : Value ℤ
   pub front : Front (read_decimal 127 36 places) text value end
   pub within : end ≤ length text
   pub utf8 : IsUtf8 text ↔ IsUtf8 (drop end text)
   pub fits : IsWellFormed (IsUnits places) value
   pub holds : f.status ≡ 0 → HoldsAll f value
-  pub unheld : f.status ≢ 0 → IsUnheld value f.status
+  pub unheld : f.status ≢ 0 → IsUnheld (length r.numbers.now) (length r.rings.now) (length r.polygons.now) value f.status
 
-abbrev pub FillsFrontIfAny : ℕ → List ℕ → Option Filled → Type 0
-FillsFrontIfAny places text (Some r) = FillsFront places text r.arrays r.end
-FillsFrontIfAny places text None = IsUtf8 text → HasNoFront (read_decimal 127 36 places) text
+abbrev pub FillsFrontIfAny : ℕ → List ℕ → Room → Option Filled → Type 0
+FillsFrontIfAny places text room (Some r) = FillsFront places text room r.arrays r.end
+FillsFrontIfAny places text room None = IsUtf8 text → HasNoFront (read_decimal 127 36 places) text

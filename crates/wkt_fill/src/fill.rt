@@ -14,9 +14,9 @@ pub struct Filled<'a> {
 }
 
 /// The arrays of the geometry that the bytes begin with; `None` where they begin with none. That what follows the geometry
-/// is text isn't looked at. The status is 22 where the room is too small.
+/// is text isn't looked at. The status is 22 only where the room is too small for them.
 pub fn fill_arrays<'a, const D: u32>(text: &[u8], room: Room<'a>) -> Option<Filled<'a>>
-    ensures { FillsFrontIfAny D text.now result }
+    ensures { FillsFrontIfAny D text.now room.entry result }
 {
     let source = Bytes::<'_, false>::new(text, 0);
     match drive::<Decimal<D>, Bytes<'_, false>, Filler<'a>>(source, Filler::new(room)) {

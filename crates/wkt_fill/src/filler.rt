@@ -7,7 +7,7 @@ ghost use Rattle.wkt_fill.specs.Filled.{is_collection, kind_of_part, end_ring, e
 
 use crate::status::{FILLER_NOT_FLAT, FILLER_TOO_LARGE, FULL};
 use wkt_events::number_there;
-use wkt_machine::{Axis, Builder, Part};
+use wkt_machine::{Axis, Builder, Part, read_at};
 use wkt_num::{Decimal, fast_units};
 use wkt_types::{Dimension, GeometryType};
 
@@ -71,7 +71,8 @@ fn kind_of(whole: Part) -> GeometryType
 fn begin(offsets: &mut [usize], status: u32) -> u32
     requires { (status ≡ 0) ⊎ (status ≡ 22) }
     ensures begun { result ≡ 0 → (status ≡ 0) × (take 1 offsets.new ≡ 0 ∷ []) }
-    ensures full { result ≢ 0 → result ≡ 22 }
+    ensures full { result ≢ 0 → (result ≡ 22) × ((status ≢ 0) ⊎ (length offsets.old ≡ 0)) }
+    ensures whole { length offsets.new ≡ length offsets.old }
 {
     if offsets.is_empty() {
         return FULL;
@@ -96,7 +97,7 @@ impl<'a> Filler<'a> {
     /// Arrays of nothing.
     #[inline(always)]
     pub fn new(room: Room<'a>) -> Filler<'a>
-        ensures { FillerBegins result }
+        ensures { FillerBegins room.entry result }
     {
         let Room {
             numbers,
@@ -250,6 +251,7 @@ impl<'a> Filler<'a> {
         requires { at ≤ length text.now }
         ensures some { IfSome result.1 (λ end. MakesNumber (read_decimal 127 36 D) filler_maker self.entry text.now at axis result.0 end) }
         ensures none { IfNone result.1 (NoNumber (read_decimal 127 36 D) text.now at) }
+        ensures nothing { IfNone result.1 (result.0 ≡ self.entry) }
     {
         self.slow_number_outlined::<D>(text, at, axis)
     }
@@ -265,6 +267,7 @@ impl<'a> Filler<'a> {
         requires { at ≤ length text.now }
         ensures some { IfSome result.1 (λ end. MakesNumber (read_decimal 127 36 D) filler_maker self.entry text.now at axis result.0 end) }
         ensures none { IfNone result.1 (NoNumber (read_decimal 127 36 D) text.now at) }
+        ensures nothing { IfNone result.1 (result.0 ≡ self.entry) }
     {
         let mut made = self;
         match number_there::<Decimal<D>>(text, at) {
@@ -349,6 +352,17 @@ impl<const D: u32> Builder<Decimal<D>> for Filler<'_> {
                 (made, Some(at + end))
             }
             None => self.slow_number::<D>(text, at, axis),
+        }
+    }
+
+    #[inline(always)]
+    fn bare_in(self, text: &[u8], at: usize) -> (Self, Option<usize>) {
+        match read_at::<Decimal<D>>(text, at) {
+            Some((number, end)) => {
+                let opened = Builder::<Decimal<D>>::open(self, Part::Member);
+                (opened.number(number, Axis::X), Some(end))
+            }
+            None => (self, None),
         }
     }
 }

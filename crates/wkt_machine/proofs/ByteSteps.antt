@@ -1,7 +1,7 @@
 -- Kind words, numbers, commas and parentheses in bytes, as steps of the machine.
 use Rattle.std.proofs.Common.{◌≡◌, ℕ, ◌+◌, ◌-◌, ◌<◌, List, [], ◌∷◌, length, length-append, get_or, Option, Some, None, Bool, true, false, refl, sym, ap, ◌∙◌, subst, arith, ◌≢◌, ◌≤◌, take, drop, slice_range, if◌then◌else◌, IfSome, codes, ℤ, ◌++◌, inl, IsUtf8, to_z, of_z}
 use Rattle.std.specs.Prelude.{Ok}
-use Rattle.std.specs.Int.{w64, to_le_bytes}
+use Rattle.std.specs.Int.{w64}
 use Rattle.std.proofs.lemmas.List.{take_rest}
 use Rattle.wkt_num.specs.Bytes.{Lexeme, Open, Close, Comma, Word, Num, Mark, class_of, Run, AllRun}
 use Rattle.wkt_access.specs.declared.dimensions.Dimension.{Dimension}
@@ -23,12 +23,11 @@ use Rattle.wkt_machine.specs.declared.part.Part.{Part}
 use Rattle.wkt_machine.specs.declared.source.At.{At}
 use Rattle.wkt_machine.proofs.WaysJoin.{goes_on_to}
 use Rattle.wkt_machine.proofs.NextLexeme.{over_number, inner_number, closes_number}
-use Rattle.wkt_machine.proofs.Stepping.{skipped, several, goes_one}
+use Rattle.wkt_machine.proofs.Stepping.{skipped, several}
 use Rattle.wkt_machine.specs.declared.machine.Seen.TheVariants as seen
 use Rattle.wkt_machine.specs.declared.machine.State.TheVariants as next
 use Rattle.wkt_machine.specs.declared.part.Axis.TheVariants as axis
 use Rattle.wkt_machine.specs.declared.part.Part.TheVariants as part
-use Rattle.wkt_machine.specs.declared.other_heads.Then.TheVariants as then
 use Rattle.wkt_machine.proofs.ByteViews.{close_mark}
 use Rattle.wkt_machine.proofs.ByteViews as bytes
 use Rattle.wkt_access.specs.declared.dimensions.Dimension.TheVariants.{XY}
@@ -36,8 +35,8 @@ use Rattle.wkt_read.specs.Grammar.{is_empty_word, kind_word, kind_words, DimPart
 use Rattle.wkt_read.specs.Lexemes.{lexeme_of, starts_number, without_plus}
 use Rattle.wkt_events.proofs.RemainingLexemes.{space, spanned-white, takes-mark, takes-run, takes-after, mark-in, remaining-all, takes-number}
 use Rattle.wkt_events.proofs.RemainingLexemes as classes
-use Rattle.wkt_events.proofs.Utf8Lines.{legible-one, text-with-front, text-behind-front}
-use Rattle.wkt_machine.specs.LexemesAhead.{StandsHeader, EndsWords, IsKindName, EndsWord, StandsHead}
+use Rattle.wkt_events.proofs.Utf8Lines.{text-with-front, text-behind-front}
+use Rattle.wkt_machine.specs.LexemesAhead.{IsKindName, EndsWord, StandsHead}
 use Rattle.wkt_num.specs.Decimal.{read_decimal}
 use Rattle.wkt_num.specs.DigitParts.{BeginsUnits}
 use Rattle.wkt_num.specs.Whole.{IsSigned}
@@ -49,7 +48,7 @@ use Rattle.wkt_read.specs.Front.{Front}
 use Rattle.wkt_read.proofs.HeaderPlaces.{front-of-lexemes}
 use Rattle.wkt_read.proofs.Placings.{spanned-ends}
 use Rattle.wkt_events.proofs.Runs.{kept-there}
-use Rattle.wkt_machine.specs.Lones.{IsPointFront}
+use Rattle.wkt_machine.specs.Values.{IsPointFront}
 use Rattle.wkt_types.specs.declared.geometry_type.GeometryType.TheVariants as kind
 
 -- Numbers, commas and parentheses of coordinates in bytes, as steps of the machine.
@@ -128,14 +127,15 @@ module _ {N B : Type 0} (read : List ℕ → Option N) (maker : Maker N B) {n : 
       go next.Geometry e = inner (λ i. let clash : next.Geometry ≡ next.Item = sym e ∙ i in cc)
 
   -- none is
-  pub number_stays : (m : Machine) (s t : Bytes n) (b c : B) (a : Axis) → m.state ≡ state_for a → Stays (bytes_view feed) s t → IsDark feed t.text.now t.at → NoNumber read t.text.now t.at
+  pub number_stays : (m : Machine) (s t : Bytes n) (b c : B) (a : Axis) → m.state ≡ state_for a → Stays (bytes_view feed) s t → IsDark feed t.text.now t.at → NoNumber read t.text.now t.at → maker.makes b [] c
       → Refuses read (bytes_view feed) maker m s b (record { source = t; machine = m; builder = c })
-  number_stays m s t b c a at_a stays dark none = record {
+  number_stays m s t b c a at_a stays dark none nothing = record {
     taken = [];
     events = [];
     split = sym stays.remaining;
     behind = stays.behind;
     ran = refl;
+    makes = nothing;
     is_open = over_number read (bytes_view {n = n} feed) maker m a at_a;
     keeps = stays.keeps;
     stuck = λ j k. unread_stuck read m a at_a (remaining_spanned feed t.text.now t.at) (bytes.none_unread feed t.text.now t.at read (stays.keeps j k).1 dark none);
@@ -143,14 +143,14 @@ module _ {N B : Type 0} (read : List ℕ → Option N) (maker : Maker N B) {n : 
 
   -- the same, past white space
   pub number_stays_at : (m : Machine) (s t : Bytes n) (b c : B) (a : Axis) (start : ℕ) → m.state ≡ state_for a → IsBetween feed s.text.now s.at start
-      → (Legible feed s.text.now s.at → Legible feed s.text.now start) → IsDark feed s.text.now start → NoNumber read s.text.now start → t.text ≡ s.text → t.at ≡ start
+      → (Legible feed s.text.now s.at → Legible feed s.text.now start) → IsDark feed s.text.now start → NoNumber read s.text.now start → t.text ≡ s.text → t.at ≡ start → maker.makes b [] c
       → Refuses read (bytes_view feed) maker m s b (record { source = t; machine = m; builder = c })
-  number_stays_at m s t b c a start at_a between further dark none text at =
+  number_stays_at m s t b c a start at_a between further dark none text at nothing =
       let stays : Stays (bytes_view {n = n} feed) s t = bytes.stays_on feed s t (sym text) (subst (IsBetween feed s.text.now s.at) (sym at) between)
       (λ k. subst (λ x. Legible feed x.now t.at) (sym text) (subst (Legible feed s.text.now) (sym at) (further k))) in
       number_stays m s t b c a at_a stays
       (subst (λ x. IsDark feed x.now t.at) (sym text) (subst (IsDark feed s.text.now) (sym at) dark))
-      (subst (λ x. NoNumber read x.now t.at) (sym text) (subst (NoNumber read s.text.now) (sym at) none))
+      (subst (λ x. NoNumber read x.now t.at) (sym text) (subst (NoNumber read s.text.now) (sym at) none)) nothing
 
   sees_mark : (s : Bytes n) (l : Lexeme) → class_of (get_or s.text.now s.at 0) ≡ Mark l → seen_of l ≡ sight (remaining_spanned feed s.text.now s.at)
   sees_mark s l mark = (bytes.sees_mark feed s.text.now s.at (get_or s.text.now s.at 0) l (seen_of l) refl mark refl).sees
@@ -202,26 +202,6 @@ pub point_name : IsKindName part.Point (codes "POINT")
 unfolding kind_word kind_words class_of
 point_name = record { row = _; names = refl; kind = refl; joined = refl; letters = (refl, (refl, (refl, (refl, (refl, tt))))); begins = refl }
 
-pub polygon_name : IsKindName part.Polygon (codes "POLYGON")
-unfolding kind_word kind_words class_of
-polygon_name = record { row = _; names = refl; kind = refl; joined = refl; letters = (refl, (refl, (refl, (refl, (refl, (refl, (refl, tt))))))); begins = refl }
-
-pub line_string_name : IsKindName part.LineString (codes "LINESTRING")
-unfolding kind_word kind_words class_of
-line_string_name = record { row = _; names = refl; kind = refl; joined = refl; letters = (refl, (refl, (refl, (refl, (refl, (refl, (refl, (refl, (refl, (refl, tt)))))))))); begins = refl }
-
-pub multi_point_name : IsKindName part.MultiPoint (codes "MULTIPOINT")
-unfolding kind_word kind_words class_of
-multi_point_name = record { row = _; names = refl; kind = refl; joined = refl; letters = (refl, (refl, (refl, (refl, (refl, (refl, (refl, (refl, (refl, (refl, tt)))))))))); begins = refl }
-
-pub multi_polygon_name : IsKindName part.MultiPolygon (codes "MULTIPOLYGON")
-unfolding kind_word kind_words class_of
-multi_polygon_name = record { row = _; names = refl; kind = refl; joined = refl; letters = (refl, (refl, (refl, (refl, (refl, (refl, (refl, (refl, (refl, (refl, (refl, (refl, tt)))))))))))); begins = refl }
-
-pub multi_line_string_name : IsKindName part.MultiLineString (codes "MULTILINESTRING")
-unfolding kind_word kind_words class_of
-multi_line_string_name = record { row = _; names = refl; kind = refl; joined = refl; letters = (refl, (refl, (refl, (refl, (refl, (refl, (refl, (refl, (refl, (refl, (refl, (refl, (refl, (refl, (refl, tt))))))))))))))); begins = refl }
-
 pub collection_name : IsKindName part.Collection (codes "GEOMETRYCOLLECTION")
 unfolding kind_word kind_words class_of
 collection_name = record { row = _; names = refl; kind = refl; joined = refl; letters = (refl, (refl, (refl, (refl, (refl, (refl, (refl, (refl, (refl, (refl, (refl, (refl, (refl, (refl, (refl, (refl, (refl, (refl, tt)))))))))))))))))); begins = refl }
@@ -246,10 +226,6 @@ module _ (feed : Bool) (text : List ℕ) (at : ℕ) where
   -- EMPTY behind white space or none
   pub empty_after : (start end : ℕ) → at ≤ start → remaining_spanned feed text at ≡ remaining_spanned feed text start → ((w : List ℕ) × TakesOne feed text start (Word w) end × (is_empty_word w ≡ true)) → (w : List ℕ) × TakesOne feed text at (Word w) end × (is_empty_word w ≡ true)
   empty_after start end order same (w, takes, says) = (w, takes-after feed text at start (Word w) end order same takes, says)
-
-  -- EMPTY behind a space
-  empty_spaced : (end : ℕ) → get_or text at 0 ≡ 32 → ((w : List ℕ) × TakesOne feed text (at + 1) (Word w) end × (is_empty_word w ≡ true)) → (w : List ℕ) × TakesOne feed text at (Word w) end × (is_empty_word w ≡ true)
-  empty_spaced end e there = empty_after (at + 1) end (omega arith) (spanned-white feed text at (space feed (get_or text at 0) e)) there
 
   -- a parenthesis behind a word
   pub ends_open : get_or text at 0 ≡ 40 → EndsWord feed text at (at + 1)
@@ -289,57 +265,6 @@ module _ (feed : Bool) (text : List ℕ) (at : ℕ) where
     takes = word_takes word n name.letters name.begins inside is some ends.stops;
     opens = ends.opens;
   }
-
-  pub stands_if : (part : Part) (word : List ℕ) (n : ℕ) (end : Option ℕ) → IsKindName part word → at + n ≤ length text → take n (drop at text) ≡ word → 0 < n → IfSome end (EndsWord feed text (at + n)) → IfSome end (StandsHead feed text at part)
-  stands_if part word n None name inside is some ends = tt
-  stands_if part word n (Some end) name inside is some ends = head_stands part word n end name inside is some ends
-
--- The word POINT, a space and EMPTY.
-pub point_empty : (feed : Bool) (text : List ℕ) (at end : ℕ) → at + 5 ≤ length text → take 5 (drop at text) ≡ codes "POINT" → get_or text (at + 5) 0 ≡ 32 → ((w : List ℕ) × TakesOne feed text (at + 6) (Word w) end × (is_empty_word w ≡ true)) → StandsHeader feed text at part.Point XY then.Outside end
-point_empty feed text at end inside is e there =
-    let six : at + 6 ≡ at + 5 + 1 = omega arith in
-    record {
-      word = codes "POINT";
-      row = point_name.row;
-      mid = at + 5;
-      names = point_name.names;
-      kind = point_name.kind;
-      takes = word_takes feed text at (codes "POINT") 5 point_name.letters point_name.begins inside is (omega arith) (λ r. space_no_run (ap class_of (sym e) ∙ r));
-      ends = subst (λ j. EndsWords feed text (at + 5) j XY then.Outside end) (sym point_name.joined) (inl (refl, empty_spaced feed text (at + 5) end e (subst (λ a. (w : List ℕ) × TakesOne feed text a (Word w) end × (is_empty_word w ≡ true)) six there)));
-    }
-
--- A lexeme that is left is one that a place counts.
-pub head_room : (feed : Bool) (text : List ℕ) (from at : ℕ) (part : Part) (end depth most : ℕ) → remaining_spanned feed text from ≡ remaining_spanned feed text at → StandsHead feed text at part end → depth + length (remaining_spanned feed text from) ≤ most → depth < most
-head_room feed text from at part end depth most same head room =
-    let count = ap length (same ∙ head.takes.next) in
-    omega (arith, count, room)
-
-module _ {N B : Type 0} (read : List ℕ → Option N) (maker : Maker N B) {n : ℕ} (feed : Bool) where
-  -- The machine behind a header and its parenthesis.
-  pub head_goes : (m k : Machine) (s t : Bytes n) (b c : B) (p : Part) (start : ℕ) → m.state ≡ next.Kind → IsBetween feed s.text.now s.at start → (Legible feed s.text.now s.at → Legible feed s.text.now start) → StandsHead feed s.text.now start p t.at → t.text ≡ s.text
-      → state_of k ≡ inside p XY m.depth → IsSound k → maker.makes b (Event.Header p XY ∷ Event.Open p ∷ []) c → Goes read (bytes_view feed) maker m s b (record { source = t; machine = k; builder = c })
-  head_goes m k s t b c p start at_kind between further head text there sound makes =
-      let alone : Machine = record { state = next.Dimension; part = p; dim = m.dim; depth = m.depth } in
-      let mid : Bytes n = record { text = s.text; at = head.mid; end = head.mid } in
-      let word : Spanned = record { lexeme = Word head.word; end = head.mid } in
-      let opens : Spanned = record { lexeme = Open; end = t.at } in
-      let first : move read (state_of m) (Word head.word) ≡ Some (state_of alone, []) =
-      ap (λ x. move read (at m.depth (place_of x m.part m.dim)) (Word head.word)) at_kind
-      ∙ ap (λ o. moved read (kind_step o m.depth) (Some None)) head.name.names
-      ∙ ap (λ q. moved read (Some (joined_step q head.name.row.joined m.depth)) (Some None)) head.name.kind
-      ∙ ap (λ j. moved read (Some (joined_step p j m.depth)) (Some None)) head.name.joined in
-      let second : move read (state_of alone) Open ≡ Some (state_of k, Event.Header p XY ∷ Event.Open p ∷ []) =
-      ap (λ x. Some (x, Event.Header p XY ∷ Event.Open p ∷ [])) (sym there) in
-      let here : remaining_spanned feed s.text.now s.at ≡ word ∷ remaining_spanned feed s.text.now head.mid = between.same ∙ head.takes.next in
-      let behind : remaining_spanned feed s.text.now head.mid ≡ opens ∷ remaining_spanned feed t.text.now t.at = head.opens.next ∙ ap (λ x. opens ∷ remaining_spanned feed x.now t.at) (sym text) in
-      goes_on_to read (bytes_view feed) maker m s b (record { source = mid; machine = alone; builder = b }) (record { source = t; machine = k; builder = c })
-      (goes_one read (bytes_view feed) maker m alone s mid b b word [] here refl (λ j l. (l.0, legible-one feed s.text.now start (Word head.word) head.mid head.takes (further l.1))) first (maker.none b) tt)
-      (goes_one read (bytes_view feed) maker alone k mid t b c opens (Event.Header p XY ∷ Event.Open p ∷ []) behind refl
-      (λ j l. (ap (λ x. x.now) text ∙ l.0, subst (λ x. Legible feed x.now t.at) (sym text) (legible-one feed s.text.now head.mid Open t.at head.opens l.1))) second makes sound)
-
--- The first eight bytes of a word stand there, as one number.
-pub eight_stand : (text : List ℕ) (at n word : ℕ) → n ≡ word → to_le_bytes w64 n ≡ take 8 (take (length text - at) (drop at text)) → take 8 (drop at text) ≡ to_le_bytes w64 word
-eight_stand text at n word is same = ap (take 8) (sym (take_rest text at)) ∙ sym same ∙ ap (to_le_bytes w64) is
 
 -- A point whose numbers are read in place is the front of its text.
 

@@ -3,12 +3,11 @@
 use Rattle.std.proofs.Common.{◌≡◌, ℕ, List, [], ◌∷◌, ◌++◌, sym, refl, ap, ◌∙◌, subst, append_assoc, append-nil, Option, Some, None, false, true, ◌⊎◌, inl, inr, Result, Ok, Err, IfOk, IfSome, ◌||◌, option_map}
 use Rattle.std.specs.Borrow.{MutBor}
 use Rattle.std.specs.declared.alloc.AllocError.{AllocError}
-use Rattle.std.specs.Result.{IsOk}
 use Rattle.wkt_num.specs.Bytes.{Lexeme}
 use Rattle.wkt_access.specs.Values.{Value}
 use Rattle.wkt_read.specs.Begun.{NoneBegins}
 use Rattle.wkt_read.specs.Front.{Front, HasNoFront, NeedsNoMemory}
-use Rattle.wkt_read.specs.Spanned.{Spanned, lexemes_of, end_after, AreEnds, spanned, Standing}
+use Rattle.wkt_read.specs.Spanned.{Spanned, lexemes_of, end_after, AreEnds, spanned}
 use Rattle.wkt_read.proofs.Begun.{CutIn, Later, Earlier, cut_in}
 use Rattle.wkt_read.proofs.OneForm.{taken_begin, geometry_fits, front_one}
 use Rattle.wkt_read.proofs.HeaderPlaces.{front-of-lexemes}
@@ -20,7 +19,7 @@ use Rattle.wkt_machine.specs.Events.{Event, events, numbers}
 use Rattle.wkt_machine.specs.Goes.{GoesFrom, RefusesFrom, IsStuck}
 use Rattle.wkt_machine.specs.Machines.{state_of}
 use Rattle.wkt_machine.specs.Makers.{Maker}
-use Rattle.wkt_machine.specs.View.{View, tokens_view}
+use Rattle.wkt_machine.specs.View.{View}
 use Rattle.wkt_machine.specs.declared.source.At.{At}
 use Rattle.wkt_machine.proofs.Complete.{value_run}
 use Rattle.wkt_machine.proofs.WholeRuns.{exact, goes_on, front_run, stuck, no_front}
@@ -28,29 +27,22 @@ use Rattle.wkt_access.specs.declared.dimensions.Dimension.{Dimension}
 use Rattle.wkt_types.specs.Tree.{tree, wkt_step, collection_step, Tree as Kept}
 use Rattle.wkt_types.specs.declared.geometry.Wkt.{Wkt}
 use Rattle.wkt_machine.specs.Trees.{lists_append, tree_maker, tree_of, Grew, Holds, HoldsWhole, IsLost, HoldsEnded, IsPair, coord_by, coord_of}
-use Rattle.wkt_machine.specs.Growing.{Growing, rest, lists_any, rest as nothing}
+use Rattle.wkt_machine.specs.Growing.{Growing, rest, lists_any}
 use Rattle.wkt_machine.specs.Values.{AnswersTree, IsRead, MachineRefuses, OnMemory, OnRefused, TakesValue, WantsMemory, AnswersReader}
 use Rattle.wkt_machine.specs.declared.machine.Machine.{Machine}
 use Rattle.wkt_machine.specs.declared.tree.Tree.{Tree}
 use Rattle.wkt_machine.specs.declared.value.Unread.{Unread}
 use Rattle.wkt_machine.specs.declared.value.Unread.TheVariants.{Refused, Memory}
 use Rattle.wkt_machine.proofs.ValueFromEvents.{value_grows}
-use Rattle.wkt_read.specs.Answered.{IsFrontTo, HasBadNumber, IsFront, OnText, OnMessage}
+use Rattle.wkt_read.specs.Answered.{IsFrontTo}
 use Rattle.wkt_access.specs.declared.dimensions.Dimension.TheVariants.{XY}
 use Rattle.wkt_types.specs.Held.{numbers_of, HeldPoint}
 use Rattle.wkt_types.specs.Values.{HasDimIfAny, IsWktOf}
 use Rattle.wkt_types.specs.declared.coord.Coord.{Coord}
-use Rattle.wkt_read.specs.Stream.{remaining, rest as rest_of, end_of}
-use Rattle.wkt_read.specs.Items.{bad_number}
-use Rattle.wkt_read.specs.Messages.{message_text}
-use Rattle.wkt_read.specs.Refusal.{IsTextRefused, IfText}
+use Rattle.wkt_read.specs.Stream.{remaining}
 use Rattle.wkt_read.specs.declared.error.ReadError.{ReadError}
-use Rattle.wkt_read.specs.declared.messages.Message.{Message}
-use Rattle.wkt_read.proofs.Answering.{from-front, no-front, split-of}
-use Rattle.wkt_machine.specs.Refusing.{refused as refusal}
-use Rattle.wkt_machine.specs.declared.tokens.OneByOne.{OneByOne}
 use Rattle.wkt_machine.specs.declared.tree.Grower.{Grower}
-use Rattle.wkt_machine.proofs.Reading.{front, memory_free, ok_advances, ok_found, stuck_bad, stuck_none, stuck_refusal}
+use Rattle.wkt_machine.proofs.Reading.{front}
 use Rattle.wkt_machine.specs.declared.part.Part.TheVariants as part
 use Rattle.wkt_machine.specs.declared.machine.State.TheVariants as state
 use Rattle.wkt_types.specs.declared.geometry.Wkt.TheVariants as variants
@@ -198,7 +190,7 @@ lent {N} b c w e h = subst (λ (b : MutBor (Tree N)). Holds b.now w) (sym e) h
 -- What is read from the place where a text begins is its front, or it has none.
 
 -- nothing is made
-made_none : {N : Type 0} → Maker N (Unit {0})
+abbrev made_none : {N : Type 0} → Maker N (Unit {0})
 made_none = record { makes = λ s es t. Unit {0}; fits = λ s n. Unit {0}; takes = λ x. 0; none = λ s. tt; more = λ s t u es fs h k. tt; less = λ s m n order h. tt }
 
 abbrev begin : Machine
@@ -230,6 +222,7 @@ module _ {N S : Type 0} (read : List ℕ → Option N) (view : View S) (text : L
           split = h.split;
           behind = h.behind;
           ran = h.ran;
+          makes = tt;
           is_open = h.is_open;
           keeps = h.keeps;
           stuck = h.stuck;
@@ -252,7 +245,7 @@ module _ {N S : Type 0} (read : List ℕ → Option N) (view : View S) (text : L
   refused_in t m u a e is h j keeps =
       no_front_refused j keeps m t (subst (λ u. OnRefused {X = Wkt N} (Err u) (λ m. MachineRefuses read view s m t)) is (subst (λ a. OnRefused a (λ m. MachineRefuses read view s m t)) e h))
 
--- What is answered where the machine was driven over all tokens of a text.
+-- What is answered where the machine was driven over the text that a source begins with.
 
 -- a point of two numbers that ended is what its parts make
 pair_answers : {N : Type 0} (t : Tree N) (x y : N) → IsPair t x y → (w : Wkt N) → tree w ≡ Kept.point (record { coord = Some (record { x = x; y = y; z = None; m = None }); dim = t.dim }) → AnswersTree t (Ok w)
@@ -270,7 +263,7 @@ pair_answers {N} t x y p w made = (p.kept, λ v h. go v (subst (λ l. HoldsEnded
       uniform = (refl, subst (HasDimIfAny t.dim) same dim);
     })
 
-pub tree_point : {T : Type 0} (x : HeldPoint (Coord T)) → tree (variants.Point x) ≡ Kept.point x
+tree_point : {T : Type 0} (x : HeldPoint (Coord T)) → tree (variants.Point x) ≡ Kept.point x
 tree_point {T} x =
     ap tree (sym (variants.rolls-Point x))
     ∙ folds.fold-roll-Wkt T (Kept T) (Kept T) wkt_step collection_step (opened.Wkt-F.Point x)
@@ -279,71 +272,6 @@ pub pair_made : {N : Type 0} (t : Tree N) (x y : N) → IsPair t x y → (p : He
 pair_made t x y is p coord dim =
     pair_answers t x y is (variants.Point p)
     (tree_point p ∙ ap (λ o. Kept.point (record { coord = o; dim = p.dim })) coord ∙ ap (λ d. Kept.point (record { coord = Some (record { x = x; y = y; z = None; m = None }); dim = d })) dim)
-
--- Tokens of a text are a source, and a tree grows over it that holds nothing yet.
-module _ {N : Type 0} (is_value : N → Type 0) (read : List ℕ → Option N) (values : (bs : List ℕ) → IfSome (read bs) is_value)
-    (text : List ℕ) (s : Standing) (start : remaining s ≡ spanned text) (are : AreEnds text (remaining s)) (zero : end_of s ≡ 0)
-    (a : OneByOne N) (before : a.tokens.now ≡ s) (b : Grower N) (to : At (OneByOne N) (Grower N)) where
-  -- A value ended.
-  module _ (on : GoesFrom read tokens_view tree_maker a b to) (over : is_over (state_of to.machine) ≡ true) (begins : Holds (tree_of b).now (nothing [] None)) (u : Tree N) (same : u ≡ (tree_of to.builder).now) where
-    grew_by : (v : Value N) × TakesValue read tokens_view a v to.source × Grew (tree_of b).now (events v) u
-    grew_by =
-        let (v, takes, grew) = taken read tokens_view tree_maker a b to on over in
-        (v, takes, subst (Grew (tree_of b).now (events v)) (sym same) grew)
-
-    pub ended_found : (w : Wkt N) → AnswersTree u (Ok w) → IsFront read text (tree w)
-    ended_found w k =
-        let is = read_off is_value read values tokens_view (tree_of b).now u a to.source begins grew_by (Ok w) k in
-        front read text s to.source.tokens.now (Ok w) are zero
-        (ok_advances read a to.source s to.source.tokens.now before refl (Ok w) w refl is)
-        (ok_found read a to.source s to.source.tokens.now before refl (Ok w) w refl is)
-
-    lost_free : (e : AllocError) → AnswersTree u (Err (Memory e)) → (v : Value N) (end : ℕ) → Front read text v end → NeedsNoMemory v → ⊥
-    lost_free e k v end there free =
-        let is = wants_memory is_value read values tokens_view (tree_of b).now u a to.source begins grew_by (Err (Memory e)) k in
-        let (after, first) = from-front read text s v end start there in
-        memory_free read a to.source s to.source.tokens.now before refl (Err (Memory e)) (Memory e) refl e refl is v after first free
-
-    pub answer_found : (r : Result (Wkt N) ReadError) → AnswersReader u r → IfOk r (λ w. IsFront read text (tree w))
-    answer_found (Ok w) k = ended_found w k
-    answer_found (Err e) k = tt
-
-    pub answer_free : (r : Result (Wkt N) ReadError) → AnswersReader u r → (v : Value N) (end : ℕ) → Front read text v end → NeedsNoMemory v → IsOk r
-    answer_free (Ok w) k v end there free = refl
-    answer_free (Err (reader.Text m)) k v end there free = absurd k
-    answer_free (Err (reader.Memory e)) k v end there free = absurd (lost_free e k v end there free)
-
-  -- None comes first: the message, and what is left behind it.
-  module _ (on : RefusesFrom read tokens_view tree_maker a b to) (t : Standing) (behind : t ≡ to.source.tokens.now) (k : Message) (after : Standing) (says : (k, rest_of after) ≡ refusal read (state_of to.machine) (rest_of t)) where
-    pub stuck_no_front : HasNoFront read text
-    stuck_no_front = no-front read text s start (stuck_none read a to.source s t before behind (Err (Refused to.machine)) (Refused to.machine) refl to.machine refl (refused read tokens_view tree_maker a b to on) k after says)
-
-    pub stuck_bad_number : (said : List ℕ) → said ≡ message_text k → said ≡ bad_number → HasBadNumber read text
-    stuck_bad_number said is bad =
-        (rest_of s, split-of read text s start, stuck_bad read a to.source s t before behind (Err (Refused to.machine)) (Refused to.machine) refl to.machine refl (refused read tokens_view tree_maker a b to on) k after says said is bad)
-
-    pub stuck_refused : (said : List ℕ) → said ≡ message_text k → IsTextRefused read text said
-    stuck_refused said is =
-        let (m, is_text, e) = stuck_refusal read a to.source s t before behind (Err (Refused to.machine)) (Refused to.machine) refl to.machine refl (refused read tokens_view tree_maker a b to on) k after says said is in
-        (m, is_text, (rest_of s, rest_of after, split-of read text s start, e))
-
--- what has grown isn't refused
-pub answer_text : {N : Type 0} (u : Tree N) (P : Type 0) (r : Result (Wkt N) ReadError) → AnswersReader u r → OnText r P
-answer_text u P (Ok w) k = tt
-answer_text u P (Err (reader.Text m)) k = absurd k
-answer_text u P (Err (reader.Memory e)) k = tt
-
-pub answer_message : {N : Type 0} (u : Tree N) (m : List ℕ) (P : Type 0) (r : Result (Wkt N) ReadError) → AnswersReader u r → OnMessage r m P
-answer_message u m P (Ok w) k = tt
-answer_message u m P (Err (reader.Text t)) k = absurd k
-answer_message u m P (Err (reader.Memory e)) k = tt
-
-pub answer_refusal : {N : Type 0} (u : Tree N) (P : List ℕ → Type 0) (r : Result (Wkt N) ReadError) → AnswersReader u r → IfText r P
-answer_refusal u P (Ok w) k = tt
-answer_refusal u P (Err (reader.Text m)) k = absurd k
-answer_refusal u P (Err (reader.Memory e)) k = tt
-
--- What is answered where the machine was driven over the text that a source begins with.
 
 -- A tree that holds nothing yet grows over the source, and a value ends.
 module _ {N S : Type 0} (is_value : N → Type 0) (read : List ℕ → Option N) (values : (bs : List ℕ) → IfSome (read bs) is_value) (view : View S)

@@ -17,4 +17,3 @@ pub mod NextLexeme
 pub mod Reading
 pub mod ByteSteps
 pub mod FrontValues
-mod Lones

@@ -286,13 +286,14 @@ module _ {N S B : Type 0} (read : List ℕ → Option N) (view : View S) (maker 
 
   -- A number that isn't read stays.
   pub unread : (m : Machine) (s t : S) (b c : B) (r : Result (At S B) (At S B)) → r ≡ Err (record { source = t; machine = m; builder = c }) → seen.Number ≡ sight (view.remaining s) → is_over (state_of m) ≡ false
-      → Stays view s t → ((k : view.Known) → view.keeps s k → IsUnread read (view.remaining s)) → IfErr r (Refuses read view maker m s b)
-  unread m s t b c r is sees o stays never = subst (λ r. IfErr r (Refuses read view maker m s b)) (sym is) (record {
+      → Stays view s t → ((k : view.Known) → view.keeps s k → IsUnread read (view.remaining s)) → maker.makes b [] c → IfErr r (Refuses read view maker m s b)
+  unread m s t b c r is sees o stays never nothing = subst (λ r. IfErr r (Refuses read view maker m s b)) (sym is) (record {
     taken = [];
     events = [];
     split = sym stays.remaining;
     behind = stays.behind;
     ran = refl;
+    makes = nothing;
     is_open = o;
     keeps = stays.keeps;
     stuck = λ j k. subst (IsStuck read m) (sym stays.remaining) (unread_stuck m (view.remaining s) sees (never j k));

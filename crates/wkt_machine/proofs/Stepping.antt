@@ -256,6 +256,7 @@ module _ {N S B : Type 0} (read : List ℕ → Option N) (view : View S) (maker 
     split = sym stays.remaining ∙ h.split;
     behind = λ end k. h.behind end (stays.behind end k);
     ran = h.ran;
+    makes = h.makes;
     is_open = h.is_open;
     keeps = λ j k. h.keeps j (stays.keeps j k);
     stuck = λ j k. h.stuck j (stays.keeps j k);
@@ -287,13 +288,14 @@ module _ {N S B : Type 0} (read : List ℕ → Option N) (view : View S) (maker 
       (ap (λ o. moved read o (number_of read skips.lexeme.lexeme)) step ∙ ap (λ x. moved read (Some (state_of n, a)) x) none) makes sound
 
   -- No lexeme is taken.
-  pub stands : (m : Machine) (s : S) (b : B) (c : B) → is_over (state_of m) ≡ false → ((k : view.Known) → view.keeps s k → IsStuck read m (view.remaining s)) → Refuses read view maker m s b (record { source = s; machine = m; builder = c })
-  stands m s b c o stuck = record {
+  stands : (m : Machine) (s : S) (b : B) → is_over (state_of m) ≡ false → ((k : view.Known) → view.keeps s k → IsStuck read m (view.remaining s)) → Refuses read view maker m s b (record { source = s; machine = m; builder = b })
+  stands m s b o stuck = record {
     taken = [];
     events = [];
     split = refl;
     behind = λ end k. k;
     ran = refl;
+    makes = maker.none b;
     is_open = o;
     keeps = λ j k. k;
     stuck = stuck;
@@ -305,7 +307,7 @@ module _ {N S B : Type 0} (read : List ℕ → Option N) (view : View S) (maker 
 
   -- A lexeme that is seen isn't taken.
   pub stands_at : (m : Machine) (s : S) (b : B) (k : Seen) → k ≡ sight (view.remaining s) → is_over (state_of m) ≡ false → seen_at (state_of m).place m.depth k ≡ None → Refuses read view maker m s b (record { source = s; machine = m; builder = b })
-  stands_at m s b k is o e = stands m s b b o (λ j h. unmoved m (view.remaining s) (ap (seen_at (state_of m).place m.depth) (sym is) ∙ e))
+  stands_at m s b k is o e = stands m s b o (λ j h. unmoved m (view.remaining s) (ap (seen_at (state_of m).place m.depth) (sym is) ∙ e))
 
   -- The same where the code has it: it is seen as j, at the state x.
   pub taken : (m n : Machine) (s t : S) (b c : B) (r : Result (At S B) (At S B)) (to : State) (a : Action) (k j : Seen) (x : Next) → r ≡ Ok (record { source = t; machine = n; builder = c })

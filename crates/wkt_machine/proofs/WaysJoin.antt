@@ -1,6 +1,6 @@
 -- Ways: one after another, those that may be none, those behind a look, and those between the states of one part.
-use Rattle.std.proofs.Common.{◌≡◌, ℕ, List, [], ◌∷◌, ◌++◌, sym, refl, ap, ◌∙◌, subst, append_assoc, Option, Some, Bool, true, false}
-use Rattle.std.specs.Prelude.{Result, Ok, Err, IfErr, IfOk}
+use Rattle.std.proofs.Common.{◌≡◌, ℕ, List, [], ◌∷◌, ◌++◌, sym, refl, ap, ◌∙◌, subst, append_assoc, Option, Some, None, Bool, true, false}
+use Rattle.std.specs.Prelude.{Result, Ok, Err, IfErr, IfNone, IfOk}
 use Rattle.std.specs.Bool.{OnTrue, OnFalse}
 use Rattle.wkt_read.specs.Spanned.{Spanned, lexemes_of, end_after}
 use Rattle.wkt_machine.specs.Events.{Event}
@@ -15,6 +15,11 @@ use Rattle.wkt_machine.proofs.Stepping.{from_goes, from_refuses}
 use Rattle.wkt_machine.proofs.WholeRuns.{run_append}
 use Rattle.wkt_machine.specs.declared.machine.State.{State as Next}
 use Rattle.wkt_machine.specs.declared.part.Part.{Part}
+
+-- What is left as it was is made of no event.
+pub nothing_made : {N B : Type 0} (maker : Maker N B) (b c : B) (o : Option ℕ) → IfNone o (c ≡ b) → IfNone o (maker.makes b [] c)
+nothing_made maker b c None h = subst (maker.makes b []) (sym h) (maker.none b)
+nothing_made maker b c (Some end) h = tt
 
 -- A way after another.
 
@@ -57,6 +62,7 @@ module _ {N S B : Type 0} (read : List ℕ → Option N) (view : View S) (maker 
         subst (view.behind c.source) (ap (λ n. end_after n k.taken) (sym (end_last end h.given h.last)) ∙ sym (end_append end (h.given ++ (h.last ∷ [])) k.taken))
         (k.behind h.last.end (view.here a.source h.last.end h.place));
     ran = runs (h.given ++ (h.last ∷ [])) k.taken (state_of m) (state_of a.machine) (state_of c.machine) h.events k.events h.ran k.ran;
+    makes = maker.more b a.builder c.builder h.events k.events h.makes k.makes;
     is_open = k.is_open;
     keeps = λ j l. k.keeps j (h.keeps j l);
     stuck = λ j l. k.stuck j (h.keeps j l);
@@ -122,6 +128,7 @@ module _ {N S B : Type 0} (read : List ℕ → Option N) (view : View S) (maker 
     split = l.split ∙ ap (λ ps. l.taken ++ ps) h.split ∙ sym (append_assoc l.taken h.taken (view.remaining to.source));
     behind = λ end k. subst (view.behind to.source) (sym (end_append end l.taken h.taken)) (h.behind (end_after end l.taken) (l.behind end k));
     ran = runs read view maker l.taken h.taken (state_of m) (state_of n) (state_of to.machine) l.events h.events l.ran h.ran;
+    makes = maker.more b c to.builder l.events h.events l.makes h.makes;
     is_open = h.is_open;
     keeps = λ j k. h.keeps j (l.keeps j k);
     stuck = λ j k. h.stuck j (l.keeps j k);

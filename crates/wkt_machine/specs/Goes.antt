@@ -12,6 +12,7 @@ use Rattle.wkt_machine.specs.declared.part.Axis.{Axis}
 use Rattle.wkt_machine.specs.declared.part.Part.{Part}
 use Rattle.wkt_machine.specs.declared.source.At.{At}
 use Rattle.wkt_num.specs.Bytes as lex
+use Rattle.wkt_machine.specs.declared.part.Axis.TheVariants as axis
 use Rattle.wkt_machine.specs.declared.part.Part.TheVariants as part
 use Rattle.wkt_machine.specs.declared.machine.State.{State as Next}
 use Rattle.wkt_events.specs.Remaining.{remaining_spanned}
@@ -52,6 +53,12 @@ module _ {N S B : Type 0} (read : List ℕ → Option N) (view : View S) (maker 
     pub reads : read run ≡ Some number
     pub makes : maker.makes b (Event.Number axis number ∷ []) c
 
+  -- The first number of a point without parentheses is taken, and made in a parenthesis that is opened.
+  pub record MakesBare (s : S) (b : B) (t : S) (c : B) : Type 0 where
+    pub opened : B
+    pub opens : maker.makes b (Event.Open part.Member ∷ []) opened
+    pub number : MakesOneNumber s opened axis.X t c
+
   -- Some lexemes are taken, the machine goes over them, and what they say is made.
   pub record Goes (m : Machine) (s : S) (b : B) (to : At S B) : Type 0 where
     pub given : List Spanned
@@ -64,13 +71,14 @@ module _ {N S B : Type 0} (read : List ℕ → Option N) (view : View S) (maker 
     pub sound : IsSound to.machine
     pub keeps : (k : view.Known) → view.keeps s k → view.keeps to.source k
 
-  -- The machine goes over some lexemes, or none, up to one with which it doesn't move, or that lacks.
+  -- The machine goes over some lexemes, or none, up to one with which it doesn't move, or that lacks. What they say is made, and no more.
   pub record Refuses (m : Machine) (s : S) (b : B) (to : At S B) : Type 0 where
     pub taken : List Spanned
     pub events : List (Event N)
     pub split : view.remaining s ≡ taken ++ view.remaining to.source
     pub behind : (end : ℕ) → view.behind s end → view.behind to.source (end_after end taken)
     pub ran : run read (state_of m) (lexemes_of taken) ≡ Some (state_of to.machine, events)
+    pub makes : maker.makes b events to.builder
     pub is_open : is_over (state_of to.machine) ≡ false
     pub keeps : (k : view.Known) → view.keeps s k → view.keeps to.source k
     pub stuck : (k : view.Known) → view.keeps s k → IsStuck read to.machine (view.remaining to.source)

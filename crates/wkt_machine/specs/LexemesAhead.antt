@@ -5,18 +5,14 @@ use Rattle.wkt_num.specs.Bytes as lex
 use Rattle.wkt_events.specs.Remaining.{remaining_spanned, TakesOne}
 use Rattle.wkt_machine.specs.declared.message.Given.{Given}
 use Rattle.wkt_machine.specs.declared.message.Given.TheVariants as given
-use Rattle.wkt_read.specs.Spanned.{Standing}
 use Rattle.wkt_machine.specs.declared.machine.Seen.{Seen}
 use Rattle.wkt_machine.specs.declared.machine.State.{State}
-use Rattle.wkt_machine.specs.declared.pairs.Mark.{Mark}
-use Rattle.wkt_machine.specs.declared.pairs.Mark.TheVariants.{Comma, Close, None as NoMark}
-use Rattle.wkt_read.specs.Stream as ahead
 use Rattle.wkt_machine.specs.declared.machine.Seen.TheVariants as seen
 use Rattle.wkt_machine.specs.declared.machine.State.TheVariants as next
 use Rattle.wkt_access.specs.declared.dimensions.Dimension.{Dimension}
 use Rattle.wkt_access.specs.declared.dimensions.Dimension.TheVariants.{XY}
-use Rattle.wkt_machine.specs.declared.other_heads.Then.{Then}
-use Rattle.wkt_machine.specs.declared.other_heads.Then.TheVariants as then
+use Rattle.wkt_machine.specs.declared.header.Then.{Then}
+use Rattle.wkt_machine.specs.declared.header.Then.TheVariants as then
 use Rattle.wkt_read.specs.Grammar.{KindWord, kind_word, dim_word, is_empty_word}
 use Rattle.wkt_read.specs.Lexemes.{starts_number}
 use Rattle.wkt_machine.specs.Machine.{part_of}
@@ -38,13 +34,7 @@ abbrev pub GivesNext : {T : Type 0} → (List ℕ → Option T) → List ℕ →
 GivesNext read text at None = remaining_spanned false text at ≡ []
 GivesNext read text at (Some g) = (l : Lexeme) × TakesOne false text at l g.1 × ShowsLexeme read g.0 l
 
--- Marks: those behind a coordinate in tokens, and those that are taken in a row. Only private contracts cite this file.
-
--- a mark is taken, or nothing is
-abbrev pub TakesMark : Bool → Standing → Mark → Standing → Type 0
-TakesMark single s Comma t = (single ≡ false) × ahead.Moves s (Some lex.Comma) t
-TakesMark single s Close t = ahead.Moves s (Some lex.Close) t
-TakesMark single s NoMark t = t ≡ s
+-- Marks that are taken in a row. Only private contracts cite this file.
 
 -- whether a lexeme is a mark where one comes next, or is refused in place of one
 abbrev pub is_mark : State → Seen → Bool

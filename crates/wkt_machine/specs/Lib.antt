@@ -12,4 +12,3 @@ pub mod Values
 pub mod Refusing
 pub mod Goes
 pub mod LexemesAhead
-pub mod Lones

@@ -4,6 +4,8 @@ use Rattle.wkt_events.specs.Remaining.{IsNumberAt}
 use Rattle.wkt_machine.specs.Events.{Event}
 use Rattle.wkt_machine.specs.declared.part.Axis.{Axis}
 use Rattle.wkt_machine.specs.declared.nothing.Nothing.{Nothing}
+use Rattle.wkt_machine.specs.declared.part.Axis.TheVariants as axis
+use Rattle.wkt_machine.specs.declared.part.Part.TheVariants as part
 
 -- What is known of what is made.
 
@@ -27,6 +29,12 @@ pub record MakesNumber {N S : Type 0} (read : List ℕ → Option N) (maker : Ma
   pub number : N
   pub there : IsNumberAt read text at end number
   pub makes : maker.makes before (Event.Number axis number ∷ []) after
+
+-- The same in a parenthesis of a member, which is opened before it.
+pub record MakesBareNumber {N S : Type 0} (read : List ℕ → Option N) (maker : Maker N S) (before : S) (text : List ℕ) (at : ℕ) (after : S) (end : ℕ) : Type 0 where
+  pub opened : S
+  pub opens : maker.makes before (Event.Open part.Member ∷ []) opened
+  pub number : MakesNumber read maker opened text at axis.X after end
 
 -- What is made where nothing is kept.
 

@@ -68,9 +68,18 @@ module _ {N B : Type 0} (maker : Maker N B) where
     pub some : maker.fits b 0
     pub run : (end : ℕ) → IsRunEnd text at end → at < end → IsTrue (starts_number (get_or text at 0)) → maker.fits b (number_cost (without_plus (slice_range text at end)))
 
+  -- There is room for it and for a parenthesis before it.
+  pub record FitsBare (b : B) (text : List ℕ) (at : ℕ) : Type 0 where
+    pub some : maker.fits b 1
+    pub run : (end : ℕ) → IsRunEnd text at end → at < end → IsTrue (starts_number (get_or text at 0)) → maker.fits b (number_cost (without_plus (slice_range text at end)) + 1)
+
   -- A number was made that ends there; what is left for the text behind it.
   abbrev pub LeavesBehind : B → List ℕ → ℕ → B → ℕ → Type 0
   LeavesBehind b text at c end = (m : ℕ) → m ≤ 2 * (length text - end) + 1 → maker.fits b (m + number_cost (without_plus (slice_range text at end))) → maker.fits c m
+
+  -- The same with a parenthesis before it.
+  abbrev pub LeavesBehindBare : B → List ℕ → ℕ → B → ℕ → Type 0
+  LeavesBehindBare b text at c end = (m : ℕ) → m ≤ 2 * (length text - end) + 1 → maker.fits b (m + number_cost (without_plus (slice_range text at end)) + 1) → maker.fits c m
 
 module _ {N S B : Type 0} (view : View S) (maker : Maker N B) where
   -- There is room for so much, and for the lexemes that are left. Numbers that are given by value take none.

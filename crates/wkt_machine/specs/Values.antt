@@ -1,10 +1,12 @@
--- What a source is read as.
-use Rattle.std.specs.Prelude.{◌≡◌, ℕ, List, [], ◌∷◌, ◌++◌, Option, Some, Result, Ok, Err, false}
+-- What a source is read as, and a point that a text begins with.
+use Rattle.std.specs.Prelude.{◌≡◌, ◌↔◌, ◌≤◌, ℕ, ℤ, List, [], ◌∷◌, ◌++◌, length, drop, Option, Some, Result, Ok, Err, IsUtf8, false}
+use Rattle.wkt_num.specs.Decimal.{read_decimal}
+use Rattle.wkt_access.specs.declared.dimensions.Dimension.TheVariants.{XY}
 use Rattle.wkt_access.specs.Values.{Value}
 use Rattle.wkt_types.specs.Tree.{Tree as Kept, tree}
 use Rattle.wkt_types.specs.Values.{IsWktOf}
 use Rattle.wkt_types.specs.declared.geometry.Wkt.{Wkt}
-use Rattle.wkt_read.specs.Front.{NeedsNoMemory}
+use Rattle.wkt_read.specs.Front.{Front, NeedsNoMemory}
 use Rattle.wkt_read.specs.Grammar.{StandFor}
 use Rattle.wkt_read.specs.Spanned.{Spanned, lexemes_of, end_after}
 use Rattle.wkt_machine.specs.Machine.{start, is_over, run}
@@ -72,3 +74,9 @@ module _ {N S : Type 0} (read : List ℕ → Option N) (view : View S) where
     pub is_open : is_over (state_of m) ≡ false
     pub keeps : (k : view.Known) → view.keeps s k → view.keeps t k
     pub stuck : (k : view.Known) → view.keeps s k → IsStuck read m (view.remaining t)
+
+-- The bytes have a front that ends there, which is the point of these two numbers, in units; and they are UTF-8 if and only if those behind it are.
+pub record IsPointFront (places : ℕ) (text : List ℕ) (x y : ℤ) (end : ℕ) : Type 0 where
+  pub front : Front (read_decimal 127 36 places) text (Value.point XY (Some (x ∷ y ∷ []))) end
+  pub within : end ≤ length text
+  pub utf8 : IsUtf8 text ↔ IsUtf8 (drop end text)

@@ -15,7 +15,6 @@ use Rattle.wkt_events.specs.Remaining.{Legible, class_in, remaining_spanned, Tak
 use Rattle.wkt_machine.specs.declared.bytes.Bytes.{Bytes}
 use Rattle.wkt_machine.specs.declared.part.Part.{Part}
 use Rattle.wkt_machine.specs.declared.part.Part.TheVariants as part
-use Rattle.wkt_types.specs.declared.geometry_type.GeometryType.{GeometryType}
 use Rattle.wkt_machine.specs.declared.tokens.OneByOne.{OneByOne}
 use Rattle.wkt_read.specs.Stream as ahead
 
@@ -125,10 +124,6 @@ has_coordinates p = false
 abbrev pub seen_found : Option Lexeme → Seen
 seen_found None = seen.Other
 seen_found (Some l) = seen_of l
-
--- no kind word comes first
-abbrev pub NoKind : Option Lexeme → Type 0
-NoKind o = (k : GeometryType) (d : Option Dimension) → seen_found o ≡ seen.Kind k d → ⊥
 
 -- the tokens that are lent
 abbrev pub tokens_of : {T : Type 0} → OneByOne T → MutBor Standing

@@ -1,8 +1,8 @@
 //! What is made of the parts of a geometry, as they come.
 ghost use Rattle.std.specs.Prelude.{[], ◌∷◌, ◌≤◌, length, IfSome, IfNone};
 ghost use Rattle.wkt_machine.specs.Events.{Event};
-ghost use Rattle.wkt_machine.specs.Makers.{Maker, MakesNumber};
-ghost use Rattle.wkt_machine.specs.Room.{header_cost, Leaves, FitsNumber, LeavesBehind};
+ghost use Rattle.wkt_machine.specs.Makers.{Maker, MakesBareNumber, MakesNumber};
+ghost use Rattle.wkt_machine.specs.Room.{header_cost, Leaves, FitsBare, FitsNumber, LeavesBehind, LeavesBehindBare};
 ghost use Rattle.wkt_events.specs.Remaining.{NoNumber};
 
 use crate::part::{Axis, Part};
@@ -55,5 +55,15 @@ pub trait Builder<T: WktNum>: Sized + Drop {
         requires room { FitsNumber maker self text.now at }
         ensures some { IfSome result.1 (λ end. MakesNumber T.read maker self text.now at axis result.0 end) }
         ensures none { IfNone result.1 (NoNumber T.read text.now at) }
-        ensures leaves { IfSome result.1 (LeavesBehind maker self text.now at result.0) };
+        ensures leaves { IfSome result.1 (LeavesBehind maker self text.now at result.0) }
+        ensures nothing { IfNone result.1 (maker.makes self [] result.0) };
+
+    /// The same of the first number of a point without parentheses: the parenthesis is opened before it, if it is read.
+    fn bare_in(self, text: &[u8], at: usize) -> (Self, Option<usize>)
+        requires inside { at ≤ length text.now }
+        requires room { FitsBare maker self text.now at }
+        ensures some { IfSome result.1 (λ end. MakesBareNumber T.read maker self text.now at result.0 end) }
+        ensures none { IfNone result.1 (NoNumber T.read text.now at) }
+        ensures leaves { IfSome result.1 (LeavesBehindBare maker self text.now at result.0) }
+        ensures nothing { IfNone result.1 (maker.makes self [] result.0) };
 }

@@ -5,8 +5,7 @@ ghost use Rattle.wkt_machine.specs.View.{IsDark, IsUnmarked, Sees, seen_word};
 
 use crate::builder::Builder;
 use crate::coordinates::{coordinates, has_coordinates};
-use crate::heads::header;
-use crate::inner_heads::inner_header;
+use crate::header::header;
 use crate::machine::{Machine, Seen};
 use crate::part::Axis;
 use crate::source::{Source, Walk, Walked};
@@ -116,6 +115,15 @@ impl<'a, T: WktNum, const FEED_ENDS: bool> Source<T> for Bytes<'a, FEED_ENDS> {
             None => Err((self, made)),
         }
     }
+
+    #[inline(always)]
+    fn bare<B: Builder<T>>(self, builder: B) -> Result<(Self, B), (Self, B)> {
+        let (made, end) = builder.bare_in(self.text, self.at);
+        match end {
+            Some(end) => Ok((Bytes::new(self.text, end), made)),
+            None => Err((self, made)),
+        }
+    }
 }
 
 impl<'a, T: WktNum, const FEED_ENDS: bool> Walk<T> for Bytes<'a, FEED_ENDS> {
@@ -125,7 +133,7 @@ impl<'a, T: WktNum, const FEED_ENDS: bool> Walk<T> for Bytes<'a, FEED_ENDS> {
         if self.at > self.text.len() {
             return machine.step(self, builder);
         }
-        inner_header::<T, B, FEED_ENDS>(machine, self, builder)
+        header::<T, B, FEED_ENDS, true>(machine, self, builder)
     }
 
     #[inline(always)]
@@ -134,7 +142,7 @@ impl<'a, T: WktNum, const FEED_ENDS: bool> Walk<T> for Bytes<'a, FEED_ENDS> {
         if self.at > self.text.len() {
             return machine.step(self, builder);
         }
-        header::<T, B, FEED_ENDS>(machine, self, builder)
+        header::<T, B, FEED_ENDS, false>(machine, self, builder)
     }
 
     #[inline(always)]

@@ -1,49 +1,23 @@
 //! Types that are read from well-known text.
-ghost use Rattle.std.specs.Prelude.{◌≡◌, ◌≤◌, ◌<◌, ℕ, length, OnOk, IfOk};
+ghost use Rattle.std.specs.Prelude.{◌≤◌, ◌<◌, length, OnOk, IfOk};
 ghost use Rattle.std.specs.Result.{IsOk};
 ghost use Rattle.std.specs.Str.{IsCharBoundary};
-ghost use Rattle.wkt_access.specs.Values.{Value};
 ghost use Rattle.wkt_types.specs.Tree.{Tree, tree};
 ghost use Rattle.wkt_read.specs.Items.{bad_number, HasBad};
-ghost use Rattle.wkt_machine.specs.Values.{AnswersReader};
 ghost use Rattle.wkt_read.specs.Front.{Front, HasNoFront, NeedsNoMemory};
 ghost use Rattle.wkt_read.specs.Begun.{NoneBegins, StopsEarly};
 ghost use Rattle.wkt_read.specs.Stream.{rest, Advances, IsNear};
 ghost use Rattle.wkt_read.specs.Refusal.{IsRefused, IsTextRefused, IfText};
 ghost use Rattle.wkt_read.specs.Answered.{IsFront, IsFrontTo, Begins, IsReadOff, HasBadNumber, OnText, OnMessage};
 
-use crate::drive::drive;
-use crate::lone::{Keeper, Lone, first_point, may_be_lone};
 use crate::refused::refused;
 use crate::tokens::OneByOne;
-use crate::tree::{Grower, Tree};
 use crate::value::{Unread, read};
-use std::alloc::{AllocError, Global};
+use std::alloc::Global;
 use std::mem;
-use wkt_access::Dimension;
 use wkt_num::WktNum;
-use wkt_read::{Message, PeekableTokens, ReadError, Tokens};
-use wkt_types::{Coord, Point, Wkt};
-
-/// What has grown.
-///
-/// It comes through memory, whose place is cleared here, away from the ways that don't need it.
-#[inline(always)]
-pub(crate) fn answer<T: WktNum>(grown: &mut Tree<T>) -> Result<Wkt<T>, ReadError>
-    ensures { AnswersReader grown.old result }
-{
-    answer_outlined(grown)
-}
-
-#[inline(never)]
-fn answer_outlined<T: WktNum>(grown: &mut Tree<T>) -> Result<Wkt<T>, ReadError>
-    ensures { AnswersReader grown.old result }
-{
-    if grown.is_lost() {
-        return Err(ReadError::Memory(AllocError));
-    }
-    Ok(grown.geometry())
-}
+use wkt_read::{PeekableTokens, ReadError, Tokens};
+use wkt_types::Wkt;
 
 /// The geometry at the front of the tokens, which come back.
 #[inline(always)]
@@ -75,115 +49,6 @@ fn read_off<'t, 'a, T: WktNum>(
                 (Err(ReadError::Text(said)), remaining)
             }
         },
-    }
-}
-
-/// The geometry at the front of a text, as a tree grows.
-///
-/// What it returns comes through memory, whose place is cleared here, away from the ways that don't need it.
-#[inline(always)]
-fn grown<T: WktNum>(alloc: Global, text: &str) -> Result<Wkt<T>, ReadError>
-    ensures found { IfOk result (λ w. IsFront T.read text.now (tree w)) }
-    ensures no_front { OnText result (HasNoFront T.read text.now) }
-    ensures bad { OnMessage result bad_number (HasBadNumber T.read text.now) }
-    ensures refusal { IfText result (λ said. IsTextRefused T.read text.now said) }
-    ensures free { (v end : _) → Front T.read text.now v end → NeedsNoMemory v → IsOk result }
-{
-    grown_outlined(alloc, text)
-}
-
-#[inline(never)]
-fn grown_outlined<T: WktNum>(alloc: Global, text: &str) -> Result<Wkt<T>, ReadError>
-    ensures found { IfOk result (λ w. IsFront T.read text.now (tree w)) }
-    ensures no_front { OnText result (HasNoFront T.read text.now) }
-    ensures bad { OnMessage result bad_number (HasBadNumber T.read text.now) }
-    ensures refusal { IfText result (λ said. IsTextRefused T.read text.now said) }
-    ensures free { (v end : _) → Front T.read text.now v end → NeedsNoMemory v → IsOk result }
-{
-    let mut tokens = PeekableTokens::new(Tokens::from_str(text));
-    // The machine counts open collections, of which there are no more than tokens.
-    let _ = tokens.most_left();
-    let mut tree = Tree::new(alloc);
-    let source = OneByOne::new(&mut tokens);
-    match drive::<T, OneByOne<'_, '_, T>, Grower<'_, T>>(source, Grower::new(&mut tree)) {
-        Ok(over) => {
-            let grown = over.builder.into_tree();
-            // Most geometries are points of two numbers: their parts are written where they stay.
-            if let Some((x, y)) = grown.pair() {
-                let coord = Coord {
-                    x,
-                    y,
-                    z: None,
-                    m: None,
-                };
-                return Ok(Wkt::Point(Point::new(Some(coord), grown.dim())));
-            }
-            answer(grown)
-        }
-        Err(at) => {
-            let said = refused(at.machine, at.source.into_tokens()).text();
-            Err(ReadError::Text(said))
-        }
-    }
-}
-
-/// The geometry at the front of a text. Most are points of two numbers, which need no tree: what theirs is made of is
-/// cleared here, behind the look for an empty text.
-#[inline(never)]
-fn of_text<T: WktNum>(alloc: Global, text: &str) -> Result<Wkt<T>, ReadError>
-    ensures found { IfOk result (λ w. IsFront T.read text.now (tree w)) }
-    ensures no_front { OnText result (HasNoFront T.read text.now) }
-    ensures bad { OnMessage result bad_number (HasBadNumber T.read text.now) }
-    ensures refusal { IfText result (λ said. IsTextRefused T.read text.now said) }
-    ensures free { (v end : _) → Front T.read text.now v end → NeedsNoMemory v → IsOk result }
-{
-    let mut tokens = PeekableTokens::new(Tokens::from_str(text));
-    // The machine counts open collections, of which there are no more than tokens.
-    let _ = tokens.most_left();
-    let mut kept = Lone::new();
-    // Behind what is cleared at the entry, so that it is cleared once.
-    if !may_be_lone(text) {
-        return grown(alloc, text);
-    }
-    let source = OneByOne::new(&mut tokens);
-    match first_point::<T, OneByOne<'_, '_, T>>(source, Keeper::new(&mut kept)) {
-        Ok(begun) => {
-            if begun.machine.is_over() {
-                if let Some((x, y)) = begun.builder.into_lone().pair() {
-                    let coord = Coord {
-                        x,
-                        y,
-                        z: None,
-                        m: None,
-                    };
-                    return Ok(Wkt::Point(Point::new(Some(coord), Dimension::XY)));
-                }
-            }
-        }
-        Err(at) => {
-            let said = refused(at.machine, at.source.into_tokens()).text();
-            return Err(ReadError::Text(said));
-        }
-    }
-    grown(alloc, text)
-}
-
-/// The geometry at the front of the text, and where its last token ends.
-fn front_of<T: WktNum>(alloc: Global, text: &str) -> Result<(Wkt<T>, usize), ReadError>
-    ensures found { IfOk result (λ r. IsFrontTo T.read text.now (tree r.0) r.1) }
-    ensures some { IfOk result (λ r. 0 < r.1) }
-    ensures within { IfOk result (λ r. r.1 ≤ length text.now) }
-    ensures boundary { IfOk result (λ r. IsCharBoundary text.now r.1) }
-    ensures no_front { OnText result (HasNoFront T.read text.now) }
-    ensures bad { OnMessage result bad_number (HasBadNumber T.read text.now) }
-    ensures refusal { IfText result (λ said. IsTextRefused T.read text.now said) }
-    ensures free { (v end : _) → Front T.read text.now v end → NeedsNoMemory v → IsOk result }
-{
-    let mut tokens = PeekableTokens::new(Tokens::from_str(text));
-    let (answer, remaining) = read_off(alloc, &mut tokens);
-    match answer {
-        Ok(geometry) => Ok((geometry, remaining.end())),
-        Err(error) => Err(error),
     }
 }
 
@@ -259,21 +124,20 @@ impl<T: WktNum> FromWktStr for Wkt<T> {
 
     ghost tree = { tree };
 
-    // A text of no bytes, as of a blank cell, is refused where the call stands.
-    #[inline(always)]
     fn from_str(alloc: Global, text: &str) -> Result<Self, ReadError> {
-        if text.is_empty() {
-            return Err(ReadError::Text(Message::Format.text()));
-        }
-        // Each way hands out its answer by itself, so that a refused text doesn't carry the parts of a geometry.
-        match of_text(alloc, text) {
-            Ok(geometry) => return Ok(geometry),
-            Err(error) => return Err(error),
+        match Self::read_front(alloc, text) {
+            Ok((geometry, _)) => Ok(geometry),
+            Err(error) => Err(error),
         }
     }
 
     fn read_front(alloc: Global, text: &str) -> Result<(Self, usize), ReadError> {
-        front_of(alloc, text)
+        let mut tokens = PeekableTokens::new(Tokens::from_str(text));
+        let (answer, remaining) = read_off(alloc, &mut tokens);
+        match answer {
+            Ok(geometry) => Ok((geometry, remaining.end())),
+            Err(error) => Err(error),
+        }
     }
 
     // Taken out and put back, so that what is left is known.

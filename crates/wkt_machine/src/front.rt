@@ -11,8 +11,8 @@ use crate::tokens::OneByOne;
 use wkt_num::WktNum;
 use wkt_read::{PeekableTokens, Tokens};
 
-/// Where the geometry at the front of the text ends, in bytes; `None` where the text has none there. What follows it is
-/// not looked at. It takes no memory, and no stack for nesting.
+/// Where the geometry at the front of the text ends, in bytes; `None` where the text has none there. What follows it
+/// doesn't change the answer. It takes no memory, and no stack for nesting.
 pub fn front_end<T: WktNum>(text: &str) -> Option<usize>
     ensures front { MatchOption result (HasNoFront T.read text.now) (λ end. EndsFront T.read text.now end) }
     ensures some { IfSome result (λ end. 0 < end) }

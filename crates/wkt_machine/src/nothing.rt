@@ -49,4 +49,9 @@ impl<T: WktNum> Builder<T> for Nothing {
     fn number_in(self, text: &[u8], at: usize, _axis: Axis) -> (Self, Option<usize>) {
         (self, end_at::<T>(text, at))
     }
+
+    #[inline(always)]
+    fn bare_in(self, text: &[u8], at: usize) -> (Self, Option<usize>) {
+        (self, end_at::<T>(text, at))
+    }
 }

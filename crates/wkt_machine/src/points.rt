@@ -4,9 +4,10 @@ ghost use Rattle.wkt_num.specs.Bytes.{Num};
 ghost use Rattle.wkt_num.specs.Decimal.{read_decimal};
 ghost use Rattle.wkt_num.specs.Whole.{IsSigned};
 ghost use Rattle.wkt_events.specs.Remaining.{TakesOne};
-ghost use Rattle.wkt_machine.specs.Lones.{IsPointFront};
+ghost use Rattle.wkt_machine.specs.Values.{IsPointFront};
 
-use crate::heads::point_head;
+use crate::header::{is_point, plain};
+use crate::part::Part;
 use wkt_events::{byte_at, skip_white};
 use wkt_num::fast_units;
 
@@ -25,7 +26,7 @@ pub struct FastPoint {
 pub fn fast_point<const D: u32>(text: &[u8]) -> Option<FastPoint>
     ensures { IfSome result (λ p. IsPointFront D text.now p.x p.y p.end) }
 {
-    let opened = point_head::<false>(text, 0)?;
+    let opened = plain::<5, false>(Part::Point, b"POINT", is_point(text), text, 0)?.end;
     let (x, between) = fast_number::<D>(text, opened)?;
     let (y, behind) = fast_number::<D>(text, between)?;
     let close = skip_white::<false>(text, behind);

@@ -1,6 +1,6 @@
 //! Where lexemes come from.
 ghost use Rattle.std.specs.Prelude.{◌≡◌, ◌≢◌, ◌+◌, ◌≤◌, ℕ, [], length, IfOk, IfErr, false};
-ghost use Rattle.wkt_machine.specs.Goes.{Stays, Skips, MakesOneNumber, IsUnread, Goes, Refuses};
+ghost use Rattle.wkt_machine.specs.Goes.{Stays, Skips, MakesBare, MakesOneNumber, IsUnread, Goes, Refuses};
 ghost use Rattle.wkt_machine.specs.Machines.{state_of, IsSound};
 ghost use Rattle.wkt_machine.specs.Room.{HasRoom, RoomAt, HasNumberRoom, LeavesNumber};
 ghost use Rattle.wkt_machine.specs.View.{sight, View};
@@ -49,7 +49,19 @@ pub trait Source<T: WktNum>: Sized + Drop {
         ensures takes { IfOk result (λ r. MakesOneNumber T.read view B.maker self builder axis r.0 r.1) }
         ensures leaves { IfOk result (λ r. LeavesNumber view B.maker self builder r.0 r.1) }
         ensures stays { IfErr result (λ r. Stays view self r.0) }
-        ensures unread { IfErr result (λ r. (k : view.Known) → view.keeps self k → IsUnread T.read (view.remaining self)) };
+        ensures unread { IfErr result (λ r. (k : view.Known) → view.keeps self k → IsUnread T.read (view.remaining self)) }
+        ensures nothing { IfErr result (λ r. B.maker.makes builder [] r.1) };
+
+    /// The same of the first number of a point without parentheses: the parenthesis is opened before it, if it is read.
+    fn bare<B: Builder<T>>(self, builder: B) -> Result<(Self, B), (Self, B)>
+        requires looked { view.looked self }
+        requires seen { sight (view.remaining self) ≡ seen.Number }
+        requires room { HasRoom view B.maker 0 self builder }
+        ensures takes { IfOk result (λ r. MakesBare T.read view B.maker self builder r.0 r.1) }
+        ensures room { IfOk result (λ r. HasRoom view B.maker 0 r.0 r.1) }
+        ensures stays { IfErr result (λ r. Stays view self r.0) }
+        ensures unread { IfErr result (λ r. (k : view.Known) → view.keeps self k → IsUnread T.read (view.remaining self)) }
+        ensures nothing { IfErr result (λ r. B.maker.makes builder [] r.1) };
 }
 
 /// A source that takes in one go what begins in it.

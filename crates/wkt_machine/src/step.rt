@@ -254,7 +254,7 @@ impl Machine {
         ensures room { IfOk result (RoomAt S.view B.maker) }
         ensures refused { IfErr result (Refuses T.read S.view B.maker self source builder) }
     {
-        match source.number(builder.open(Part::Member), Axis::X) {
+        match source.bare(builder) {
             Ok((behind, made)) => on(behind, self.begun(State::Y, Part::Bare, self.dim), made),
             Err((before, made)) => refused(before, self, made),
         }

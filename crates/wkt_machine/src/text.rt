@@ -7,13 +7,13 @@ ghost use Rattle.wkt_read.specs.Answered.{IsFrontTo, HasBadNumber, OnText, OnMes
 ghost use Rattle.wkt_read.specs.Front.{Front, HasNoFront, NeedsNoMemory};
 ghost use Rattle.wkt_read.specs.Items.{bad_number};
 ghost use Rattle.wkt_read.specs.Refusal.{IsTextRefused, IfText};
+ghost use Rattle.wkt_machine.specs.Values.{AnswersReader};
 
 use crate::bytes::Bytes;
 use crate::drive::drive;
-use crate::from_str::answer;
 use crate::message::message_at;
 use crate::tree::{Grower, Tree};
-use std::alloc::Global;
+use std::alloc::{AllocError, Global};
 use wkt_num::WktNum;
 use wkt_read::{Message, ReadError};
 use wkt_types::{Coord, Point, Wkt};
@@ -84,4 +84,24 @@ fn front_of<T: WktNum>(alloc: Global, text: &str) -> Result<(Wkt<T>, usize), Rea
             Err(ReadError::Text(said.text()))
         }
     }
+}
+
+/// What has grown.
+///
+/// It comes through memory, whose place is cleared here, away from the ways that don't need it.
+#[inline(always)]
+fn answer<T: WktNum>(grown: &mut Tree<T>) -> Result<Wkt<T>, ReadError>
+    ensures { AnswersReader grown.old result }
+{
+    answer_outlined(grown)
+}
+
+#[inline(never)]
+fn answer_outlined<T: WktNum>(grown: &mut Tree<T>) -> Result<Wkt<T>, ReadError>
+    ensures { AnswersReader grown.old result }
+{
+    if grown.is_lost() {
+        return Err(ReadError::Memory(AllocError));
+    }
+    Ok(grown.geometry())
 }

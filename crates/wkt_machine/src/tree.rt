@@ -431,4 +431,12 @@ impl<T: WktNum> Builder<T> for Grower<'_, T> {
             None => (self, None),
         }
     }
+
+    #[inline(always)]
+    fn bare_in(self, text: &[u8], at: usize) -> (Self, Option<usize>) {
+        match read_at::<T>(text, at) {
+            Some((number, end)) => (self.open(Part::Member).number(number, Axis::X), Some(end)),
+            None => (self, None),
+        }
+    }
 }

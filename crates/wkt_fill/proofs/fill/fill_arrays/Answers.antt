@@ -21,7 +21,7 @@ returns-in-Ok g c =
     let (v, front, made) =
     front_made (read_decimal 127 36 g.row.D) (bytes_view false) filler_maker c.args.text.now c.new-source.result c.new.result c.in-Ok.over
     (whole_left c.args.text.now c.new-source.result (ap (λ x. x.now) c.new-source.ensures.text) c.new-source.ensures.at) c.in-Ok.over.source.at (λ end e. e) c.in-Ok.ensures.on c.in-Ok.ensures.over in
-    filled g.row.D c.args.text.now c.new.result c.in-Ok.over.builder c.refuse_collection.new.self v c.in-Ok.over.source.at c.new.ensures front made c.refuse_collection.ensures
+    filled g.row.D c.args.text.now c.args.room c.new.result c.in-Ok.over.builder c.refuse_collection.new.self v c.in-Ok.over.source.at c.new.ensures front made c.refuse_collection.ensures
 
 pub returns-in-Err : goal.returns-in-Err
 returns-in-Err g c = λ utf8.

@@ -1,5 +1,5 @@
 -- A number is taken, or isn't read.
-use Rattle.std.proofs.Common.{sym, refl, subst}
+use Rattle.std.proofs.Common.{[], sym, refl, subst}
 use Rattle.std.specs.Prelude.{IfSome, IfNone}
 use Rattle.wkt_events.specs.Remaining.{NoNumber}
 use Rattle.wkt_machine.specs.Goes.{standing}
@@ -25,7 +25,7 @@ returns-in-None-clause-refused g c =
     number_stays_at g.T.WktNum.read g.B.Builder.maker _ (standing c.args.machine (state_for c.args.axis)) c.args.source c.new-in-None.result c.args.builder c.number_in-made.result.0 c.args.axis c.skip_white-at.result refl
     (record { order = c.skip_white-at.ensures.order; same = c.skip_white-at.ensures.same; white = c.skip_white-at.ensures.white }) (λ k. (k.0, c.skip_white-at.ensures.line k.1)) c.skip_white-at.ensures.stops
     (subst (λ o. IfNone o (NoNumber g.T.WktNum.read c.args.source.text.now c.skip_white-at.result)) c.in-None.is c.number_in-made.ensures.none)
-    c.new-in-None.ensures.text c.new-in-None.ensures.at
+    c.new-in-None.ensures.text c.new-in-None.ensures.at (subst (λ o. IfNone o (g.B.Builder.maker.makes c.args.builder [] c.number_in-made.result.0)) c.in-None.is c.number_in-made.ensures.nothing)
 
 pub number_in-made-requires-clause-room : goal.number_in-made-requires-clause-room
 number_in-made-requires-clause-room g c = fits_number g.B.Builder.maker _ c.args.source c.args.builder c.skip_white-at.result c.skip_white-at.ensures.same (number_room (bytes_view _) g.B.Builder.maker c.args.source c.args.builder c.requires.room)

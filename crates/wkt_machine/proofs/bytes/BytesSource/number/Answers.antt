@@ -1,5 +1,5 @@
 -- A number is taken, or isn't read.
-use Rattle.std.proofs.Common.{refl, subst, sym}
+use Rattle.std.proofs.Common.{[], refl, subst, sym}
 use Rattle.std.specs.Prelude.{IfSome, IfNone}
 use Rattle.wkt_events.specs.Remaining.{NoNumber}
 use Rattle.wkt_machine.specs.Makers.{MakesNumber}
@@ -29,3 +29,6 @@ returns-in-Some-clause-leaves g c =
     leaves_number g.B.Builder.maker _ g.T.WktNum.read c.args.axis c.args.self c.new.result c.args.builder c.number_in-made.result.0 c.args.self.at refl
     (subst made (sym c.new.ensures.at) (subst (λ o. IfSome o made) c.in-Some.is c.number_in-made.ensures.some)) c.new.ensures.text
     (subst leaves (sym c.new.ensures.at) (subst (λ o. IfSome o leaves) c.in-Some.is c.number_in-made.ensures.leaves))
+
+pub returns-in-None-clause-nothing : goal.returns-in-None-clause-nothing
+returns-in-None-clause-nothing g c = subst (λ o. IfNone o (g.B.Builder.maker.makes c.args.builder [] c.number_in-made.result.0)) c.in-None.is c.number_in-made.ensures.nothing

@@ -1,28 +1,21 @@
 -- A number is taken, or stays.
-use Rattle.std.proofs.Common.{ap, arith}
+use Rattle.std.proofs.Common.{ap}
 use Rattle.wkt_machine.specs.Machine.{over_at}
 use Rattle.wkt_machine.specs.Machines.{place_of, state_of}
 use Rattle.wkt_machine.proofs.NextLexeme.{bare_number, unread}
 use Rattle.wkt_machine.specs.Room.{owed}
-use Rattle.wkt_machine.specs.declared.machine.Seen.TheVariants as sees
-use Rattle.wkt_machine.proofs.RoomForRest.{fits_seen, room_at, bare_room, bare_after}
+use Rattle.wkt_machine.proofs.RoomForRest.{room_at}
 use Rattle.wkt_machine.proofs.machine.Machine.bare.Goals as goal
 
 pub returns-in-Ok-clause-on : goal.returns-in-Ok-clause-on
 returns-in-Ok-clause-on g c =
-    bare_number g.T.WktNum.read g.S.Source.view g.B.Builder.maker c.args.self c.begun.result c.args.source c.in-Ok.behind c.args.builder c.open.result c.in-Ok.made c.on.result c.on.ensures c.requires.state c.requires.part c.begun.ensures c.open.ensures.makes c.in-Ok.ensures.takes
+    let takes = c.in-Ok.ensures.takes in
+    bare_number g.T.WktNum.read g.S.Source.view g.B.Builder.maker c.args.self c.begun.result c.args.source c.in-Ok.behind c.args.builder takes.opened c.in-Ok.made c.on.result c.on.ensures c.requires.state c.requires.part c.begun.ensures takes.opens takes.number
 
 pub returns-in-Err-clause-refused : goal.returns-in-Err-clause-refused
 returns-in-Err-clause-refused g c =
-    unread g.T.WktNum.read g.S.Source.view g.B.Builder.maker c.args.self c.args.source c.in-Err.before c.args.builder c.in-Err.made c.refused.result c.refused.ensures c.requires.seen (ap (λ s. over_at (place_of s c.args.self.part c.args.self.dim) c.args.self.depth) c.requires.state) c.in-Err.ensures.stays c.in-Err.ensures.unread
-
-pub open-requires : goal.open-requires
-open-requires g c = record { room = fits_seen g.S.Source.view g.B.Builder.maker 0 1 sees.Number c.args.source c.args.builder c.requires.seen (omega arith) c.requires.room }
-
-pub number-requires-clause-room : goal.number-requires-clause-room
-number-requires-clause-room g c = bare_room g.S.Source.view g.B.Builder.maker c.args.source c.args.builder c.open.result c.requires.seen c.open.ensures.leaves c.requires.room
+    unread g.T.WktNum.read g.S.Source.view g.B.Builder.maker c.args.self c.args.source c.in-Err.before c.args.builder c.in-Err.made c.refused.result c.refused.ensures c.requires.seen (ap (λ s. over_at (place_of s c.args.self.part c.args.self.dim) c.args.self.depth) c.requires.state) c.in-Err.ensures.stays c.in-Err.ensures.unread c.in-Err.ensures.nothing
 
 pub returns-in-Ok-clause-room : goal.returns-in-Ok-clause-room
 returns-in-Ok-clause-room g c =
-    room_at g.S.Source.view g.B.Builder.maker c.in-Ok.behind c.in-Ok.made c.begun.result c.on.result c.on.ensures (ap (λ m. owed (state_of m)) c.begun.ensures)
-    (bare_after g.S.Source.view g.B.Builder.maker c.args.source c.in-Ok.behind c.open.result c.in-Ok.made (bare_room g.S.Source.view g.B.Builder.maker c.args.source c.args.builder c.open.result c.requires.seen c.open.ensures.leaves c.requires.room) c.in-Ok.ensures.leaves)
+    room_at g.S.Source.view g.B.Builder.maker c.in-Ok.behind c.in-Ok.made c.begun.result c.on.result c.on.ensures (ap (λ m. owed (state_of m)) c.begun.ensures) c.in-Ok.ensures.room

@@ -17,7 +17,7 @@ returns-in_default-clause-on g c =
 
 pub returns-in-Err-clause-refused : goal.returns-in-Err-clause-refused
 returns-in-Err-clause-refused g c =
-    unread g.T.WktNum.read g.S.Source.view g.B.Builder.maker c.args.self c.args.source c.in-Err.before c.args.builder c.in-Err.made c.refused.result c.refused.ensures c.requires.seen (over_number g.T.WktNum.read g.S.Source.view g.B.Builder.maker c.args.self c.args.axis c.requires.axis) c.in-Err.ensures.stays c.in-Err.ensures.unread
+    unread g.T.WktNum.read g.S.Source.view g.B.Builder.maker c.args.self c.args.source c.in-Err.before c.args.builder c.in-Err.made c.refused.result c.refused.ensures c.requires.seen (over_number g.T.WktNum.read g.S.Source.view g.B.Builder.maker c.args.self c.args.axis c.requires.axis) c.in-Err.ensures.stays c.in-Err.ensures.unread c.in-Err.ensures.nothing
 
 pub number-requires-clause-room : goal.number-requires-clause-room
 number-requires-clause-room g c = number_room g.S.Source.view g.B.Builder.maker c.args.source c.args.builder c.requires.room
