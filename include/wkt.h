@@ -13,9 +13,12 @@
  * - with WKT_TOO_LONG, a buffer or text of more than PTRDIFF_MAX bytes. A size counts items, of 1, 4 or 8 bytes each.
  * Of the last two, the first parameter that is wrong decides.
  *
+ * Of the other statuses, where two hold, the first of these is returned: 27, 23, 26, 20, 1 to 14, 24, 25, 30, 21. Of two
+ * texts, each decides for 20, and then the first. 22 may come in the place of each of them but 27 and 23.
+ *
  * Each function from wkt_canonical on is proved to do what its comment says, in crates/wkt_c/src/exports*.rt. Only tested,
  * and not proved, are the first three functions, those three statuses, what a call costs, and that memory suffices: a call
- * that always returned WKT_NO_MEMORY would be proved.
+ * that returned WKT_NO_MEMORY wherever it may come would be proved.
  *
  * What a call costs: it checks its whole text for UTF-8, also behind the geometry. wkt_canonical, wkt_same and
  * wkt_same_ends take memory for twice the text, and none for texts of up to 200 bytes. So a reader that goes on from
@@ -173,12 +176,13 @@ const char *wkt_message(wkt_status status);
 /* The canonical text of the geometry that the text begins with. *end: where the geometry ends in the text; what
  * follows may be anything that is UTF-8, or, with WKT_WHOLE, white space. WKT_OK: the text is in out, and *needed is its
  * length, at most 2 * text_len + 65. WKT_TOO_SMALL: *needed is its length, and *end is set too. WKT_NOT_WHOLE: *end is
- * set. 1..14, 20, 22, 23. */
+ * set. 1..14, 20, 23; 22 only of a text of more than 200 bytes. */
 wkt_status wkt_canonical(const uint8_t *text, size_t text_len, uint32_t places,
                          uint8_t *out, size_t out_len, size_t *needed, size_t *end);
 
 /* Whether two texts begin with one geometry: *same is 1 exactly if their canonical texts are equal, and else 0.
- * 1..14, 20 (of one of the texts), 22, 23, and WKT_NOT_WHOLE of one of the texts, with WKT_WHOLE. */
+ * 1..14, 20 (of one of the texts), 23, and WKT_NOT_WHOLE of one of the texts, with WKT_WHOLE; 22 only if one has more
+ * than 200 bytes. */
 wkt_status wkt_same(const uint8_t *one, size_t one_len, const uint8_t *other, size_t other_len, uint32_t places,
                     uint32_t *same);
 
@@ -214,7 +218,10 @@ wkt_status wkt_lines(const uint8_t *input, size_t input_len, uint32_t places, ui
  * input ends here, so that what is left behind its last line feed is a line too; else 0, and the caller puts more behind
  * what is left. The answers of successive calls, one after the other, are those of wkt_lines to all of the input. *taken is
  * 0 only where there is no whole line. WKT_TOO_SMALL: the answer to the first line doesn't fit. 22, 23. After any but WKT_OK
- * out means nothing, and nothing is taken. */
+ * out means nothing, and nothing is taken.
+ * A call may look at all of its input. So a caller that gets a line in pieces calls once its line feed has come, or the
+ * end: a call for each piece would take the square of the line's length. Both buffers grow by doubling: the input's where
+ * it is full without a line feed, out after WKT_TOO_SMALL. capi/examples/stream.c does so. */
 wkt_status wkt_lines_some(const uint8_t *input, size_t input_len, uint32_t places, uint32_t last,
                           uint8_t *out, size_t out_len, size_t *taken, size_t *written);
 
@@ -244,8 +251,10 @@ typedef struct {
  * of the last. A line string, a line and a point (of one coordinate, or none if it is empty) count as a ring, and the
  * rings of each kind but MultiPolygon as one polygon. So a Point has rings {0, 1} and polygons {0, 1}, and
  * POLYGON EMPTY has rings {0} and polygons {0, 0}. (GeoArrow: numbers are the interleaved coordinates, rings and
- * polygons its offsets.) WKT_TOO_SMALL: *sizes has all sizes. 1..14, 20, 22, 23, 24, 25, and WKT_NOT_WHOLE, with
- * WKT_WHOLE. */
+ * polygons its offsets.) WKT_TOO_SMALL: *sizes has all sizes. 1..14, 20, 23, 24, 25, and WKT_NOT_WHOLE, with
+ * WKT_WHOLE; 22 only of a text of more than 64 bytes, or of more than 18 numbers, 10 offsets of rings or 7 of polygons.
+ * The arrays are those of the value as it is read. So POLYGON(EMPTY,(1 2)) has other arrays than POLYGON EMPTY, which is its
+ * canonical text. For the same arrays of the same canonical text, pass that text. */
 wkt_status wkt_arrays(const uint8_t *text, size_t text_len, uint32_t places, WktSizes *sizes,
                       int64_t *numbers, size_t numbers_len, size_t *rings, size_t rings_len,
                       size_t *polygons, size_t polygons_len);

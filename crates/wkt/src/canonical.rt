@@ -47,8 +47,8 @@ fn message_of<T: WktNum>(text: &str) -> Message
 /// ```
 ///
 /// # Errors
-/// `Text` where no beginning of the text is a geometry, with the message of `from_str`, which takes no memory; `Memory`
-/// where the string couldn't grow.
+/// `Text` only where no beginning of the text is a geometry, with the message of `from_str`; `Memory` where memory ran out.
+/// The text is written as it is read, so a refused text of more than 64 bytes can be `Memory` too.
 pub fn canonical_text<T: WktNum>(alloc: Global, text: &str) -> Result<String, ReadError>
     ensures text { IfOk result (λ s. IsCanonical T.read T.num text.now (string_bytes s)) }
     ensures no_front { OnText result (HasNoFront T.read text.now) }

@@ -31,11 +31,11 @@ pub trait TryFromWkt<T>: Sized {
     /// What an error comes from: the source, memory, bytes that are no text, or the text.
     ghost cause: { Self.Error → Cause };
 
-    /// The value of the geometry at the front of the text. What follows the front isn't looked at.
+    /// The value of the geometry at the front of the text. What follows the front doesn't change the answer.
     ///
     /// # Errors
     /// `InvalidWKT` with the reader's message where the text doesn't begin with a geometry; then the
-    /// error of the conversion; `Memory` when out of memory.
+    /// error of the conversion; `Memory` when out of memory, which a text of no geometry can return too.
     fn try_from_wkt_str(alloc: Global, text: &str) -> Result<Self, Self::Error>
         ensures { answers text.now result };
 

@@ -37,7 +37,7 @@ pub enum ValueError<E> {
     Fault(E),
 }
 
-/// The geometry at the front of a JSON string; what follows it in the string is not looked at.
+/// The geometry at the front of a JSON string; what follows it in the string doesn't change the value.
 ///
 /// ```text
 /// let value = Value::from_str(alloc, "\"POINT (42 3.14)\"")?;
@@ -46,8 +46,8 @@ pub enum ValueError<E> {
 ///
 /// # Errors
 /// `NotAString` where the value is no string (a number, a float among them, is none). `Fault` with
-/// what `from_str` returns where it refuses the text: `Text` where no beginning of it is a geometry,
-/// `Memory` when out of memory.
+/// the error of `from_str` for the text: `Text` only where no beginning of it is a geometry, `Memory`
+/// when out of memory, which a text without a geometry can return too.
 pub fn wkt_from_value<T: WktNum>(
     alloc: Global,
     value: &Value,

@@ -283,7 +283,7 @@ module _ (places : ℕ) (whole null : Bool) (text : List ℕ) (a b : ArrayRows) 
   pub longer-arrays : (end kind dimension : ℕ) (ns : List ℤ) (rs ps : List ℕ) → null ≡ false → AreOf places text end kind dimension ns rs ps → whole ≡ true → (AllWhite (drop end text) → ⊥) →
       AddsArrays (row_of 0 0 [] [] []) 30 a b → AddsRowArrays places whole null text a b
   longer-arrays end kind dimension ns rs ps n are asked more adds =
-      refused-arrays 30 n (inr (refl, (end, record { asked = asked; utf8 = are.utf8; value = are.value; front = are.front; more = more }))) adds
+      refused-arrays 30 n (inr (refl, record { end = end; row = row_of kind dimension ns rs ps; arrays = are; more = (asked, more) })) adds
 
 -- The texts of a column of arrays, row after row.
 

@@ -58,7 +58,7 @@ module _ {N : Type 0} (whole : Bool) (read : List ℕ → Option N) (num : N →
 
   -- Why a text has none: it is refused, or there is more in it than is asked for.
   abbrev pub HasNoAnswer : List ℕ → ℕ → Type 0
-  HasNoAnswer text status = ((status ≢ 22) × RefusesText read text status) ⊎ ((status ≡ 30) × ((end : ℕ) × HasMore read whole text end))
+  HasNoAnswer text status = RefusesText read text status ⊎ ((status ≡ 30) × ((end : ℕ) × HasMore read whole text end))
 
   -- A text is answered with 0 and its canonical text, or with no byte and why it has none.
   abbrev pub IsTextAnswer : List ℕ → List ℕ → ℕ → Type 0

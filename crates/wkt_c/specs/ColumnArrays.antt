@@ -8,8 +8,8 @@ use Rattle.wkt_access.specs.WellFormed.{IsWellFormed}
 use Rattle.wkt_access.specs.Shapes.{shape_of, canon}
 use Rattle.wkt_access.specs.Texts.{shape_text}
 use Rattle.wkt_read.specs.Front.{Front}
-use Rattle.wkt_calls.specs.Answer.{read_at, print_at, HasNoPlaces, places_in, asks_whole, EndsAsAsked, with_front}
-use Rattle.wkt_calls.specs.Arrays.{AreArrays, AreOf, HasMoreAt, IsNotFlat}
+use Rattle.wkt_calls.specs.Answer.{read_at, print_at, HasNoPlaces, places_in, asks_whole, EndsAsAsked, IsMore, with_front}
+use Rattle.wkt_calls.specs.Arrays.{AreArrays, AreOf, IsNotFlat}
 use Rattle.wkt_c.specs.Column.{row_count, row, is_null, AreOffsets, AreJoined, AreRows, HasBits, IsColumn}
 use Rattle.wkt_c.specs.declared.sizes.WktColumnSizes.{WktColumnSizes}
 
@@ -91,9 +91,16 @@ pub record HasRowArrays (places : ℕ) (whole : Bool) (text : List ℕ) (r : Row
   pub arrays : AreOf places text end r.kind r.dimension r.numbers r.rings r.polygons
   pub as_asked : EndsAsAsked whole text end
 
+-- A text has arrays, and more than white space behind the geometry, where whole texts are asked for.
+pub record HasMoreArrays (places : ℕ) (whole : Bool) (text : List ℕ) : Type 0 where
+  pub end : ℕ
+  pub row : RowArrays
+  pub arrays : AreOf places text end row.kind row.dimension row.numbers row.rings row.polygons
+  pub more : IsMore whole text end
+
 -- Why a text has none: as it has none alone, or there is more in it than is asked for.
 abbrev pub HasNoRowArrays : ℕ → Bool → List ℕ → ℕ → Type 0
-HasNoRowArrays places whole text status = ((status ≢ 22) × IsNotFlat places text status) ⊎ ((status ≡ 30) × ((end : ℕ) × HasMoreAt places whole text end))
+HasNoRowArrays places whole text status = IsNotFlat places text status ⊎ ((status ≡ 30) × HasMoreArrays places whole text)
 
 -- A text is answered with 0 and with its arrays, or with nothing and why it has none.
 abbrev pub IsTextArrays : ℕ → Bool → List ℕ → RowArrays → ℕ → Type 0

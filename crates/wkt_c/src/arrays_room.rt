@@ -1,6 +1,6 @@
 //! Room for the arrays of a text, which grows as longer ones come, and the arrays of one text of any length, for a caller's
 //! buffers.
-ghost use Rattle.std.specs.Prelude.{◌≡◌, MatchResult, ⊤, ◌≤◌};
+ghost use Rattle.std.specs.Prelude.{◌≡◌, MatchResult, ⊤, ◌≤◌, ◌<◌, length};
 ghost use Rattle.wkt_calls.specs.Answer.{places_in};
 ghost use Rattle.wkt_calls.specs.Arrays.{AnswersArrays};
 
@@ -99,7 +99,8 @@ pub(crate) fn arrays_long(
     rings: &mut [usize],
     polygons: &mut [usize],
 ) -> u32
-    requires { places_in places ≤ 18 }
+    requires places { places_in places ≤ 18 }
+    requires long { 64 < length text.now }
     ensures { AnswersArrays places text.now result sizes.old sizes.new numbers.old numbers.new rings.old rings.new
         polygons.old polygons.new }
 {

@@ -1,7 +1,7 @@
 //! The one text of what a text begins with, and texts compared by it, in rooms that are made for long ones.
-ghost use Rattle.std.specs.Prelude.{◌+◌, ◌*◌, ◌≤◌, MatchResult, IfOk, IsUtf8, length, vec_len};
-ghost use Rattle.wkt_calls.specs.Calls.{AnswersCanonical, AreCompared, WritesAsked};
-ghost use Rattle.wkt_calls.specs.Answer.{read_at, places_in, RefusesOne};
+ghost use Rattle.std.specs.Prelude.{◌≡◌, ◌+◌, ◌*◌, ◌≤◌, ◌<◌, ◌⊎◌, MatchResult, IfOk, IsUtf8, length, take, vec_len};
+ghost use Rattle.wkt_calls.specs.Calls.{AnswersCanonical, AreCompared};
+ghost use Rattle.wkt_calls.specs.Answer.{read_at, print_at, places_in, IsCanonicalOf, RefusesText, RefusesOne};
 
 use std::alloc::Global;
 use wkt_calls::canonical::{
@@ -15,7 +15,9 @@ use wkt_canonical::make_room;
 pub(crate) fn write_long(text: &str, asked: u32, room: &mut Vec<u8>) -> Result<(usize, usize), u32>
     requires places { places_in asked ≤ 18 }
     requires utf8 { IsUtf8 text.now }
-    ensures canonical { WritesAsked asked text.now room.new.items result }
+    ensures canonical { MatchResult result
+        (λ r. IsCanonicalOf (read_at (places_in asked)) (print_at (places_in asked)) text.now (take r.1 room.new.items) r.0)
+        (λ s. (s ≡ MEMORY) ⊎ RefusesText (read_at (places_in asked)) text.now s) }
     ensures within { IfOk result (λ r. r.1 ≤ vec_len room.new) }
     ensures bound { IfOk result (λ r. r.1 ≤ 2 * length text.now + 1) }
 {
@@ -58,7 +60,8 @@ fn canonical_long(
     needed: &mut usize,
     end: &mut usize,
 ) -> u32
-    requires { places_in asked ≤ 18 }
+    requires places { places_in asked ≤ 18 }
+    requires long { SHORT < length text.now }
     ensures { AnswersCanonical asked text.now result out.old out.new needed.old needed.new end.old end.new }
 {
     match str::from_utf8(text) {
@@ -77,6 +80,7 @@ fn canonical_in_room(
     end: &mut usize,
 ) -> u32
     requires places { places_in asked ≤ 18 }
+    requires long { SHORT < length text.now }
     requires utf8 { IsUtf8 text.now }
     ensures { AnswersCanonical asked text.now result out.old out.new needed.old needed.new end.old end.new }
 {
@@ -96,7 +100,8 @@ fn same_long(alloc: Global, one: &str, other: &str, asked: u32) -> Result<Compar
     requires places { places_in asked ≤ 18 }
     requires utf8 { IsUtf8 one.now }
     requires other_utf8 { IsUtf8 other.now }
-    ensures { MatchResult result (AreCompared asked one.now other.now) (RefusesOne (read_at (places_in asked)) one.now other.now) }
+    ensures { MatchResult result (AreCompared asked one.now other.now)
+        (λ s. (s ≡ MEMORY) ⊎ RefusesOne (read_at (places_in asked)) one.now other.now s) }
 {
     let mut first = Vec::new(alloc);
     let (end, n) = match write_long(one, asked, &mut first) {
@@ -127,7 +132,9 @@ fn same_long(alloc: Global, one: &str, other: &str, asked: u32) -> Result<Compar
 /// Whether two texts begin with one geometry: whether their canonical texts are equal.
 pub(crate) fn same(alloc: Global, one: &[u8], other: &[u8], asked: u32) -> Result<Compared, u32>
     requires places { places_in asked ≤ 18 }
-    ensures { MatchResult result (AreCompared asked one.now other.now) (RefusesOne (read_at (places_in asked)) one.now other.now) }
+    ensures { MatchResult result (AreCompared asked one.now other.now)
+        (λ s. ((s ≡ MEMORY) × ((SHORT < length one.now) ⊎ (SHORT < length other.now)))
+        ⊎ RefusesOne (read_at (places_in asked)) one.now other.now s) }
 {
     if one.len() <= SHORT && other.len() <= SHORT {
         return same_short(one, other, asked);
@@ -141,7 +148,8 @@ pub(crate) fn same(alloc: Global, one: &[u8], other: &[u8], asked: u32) -> Resul
 #[inline(never)]
 fn same_of_bytes(alloc: Global, one: &[u8], other: &[u8], asked: u32) -> Result<Compared, u32>
     requires places { places_in asked ≤ 18 }
-    ensures { MatchResult result (AreCompared asked one.now other.now) (RefusesOne (read_at (places_in asked)) one.now other.now) }
+    ensures { MatchResult result (AreCompared asked one.now other.now)
+        (λ s. (s ≡ MEMORY) ⊎ RefusesOne (read_at (places_in asked)) one.now other.now s) }
 {
     let Ok(one) = str::from_utf8(one) else {
         return Err(NOT_TEXT);

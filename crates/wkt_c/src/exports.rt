@@ -1,12 +1,12 @@
 //! The functions that C calls.
-ghost use Rattle.std.specs.Prelude.{◌≡◌, ◌≤◌, ◌≢◌, ◌+◌, ◌*◌, ◌⊎◌, ℕ, List, Bool, length};
+ghost use Rattle.std.specs.Prelude.{◌≡◌, ◌≤◌, ◌<◌, ◌≢◌, ◌+◌, ◌*◌, ◌⊎◌, ℕ, List, Bool, length};
 ghost use Rattle.wkt_lines.specs.Output.{IsOutput};
-ghost use Rattle.wkt_calls.specs.Answer.{read_at, print_at, places_in, asks_whole, EndsAsAsked, IsCanonicalOf, HasMore, Compares, RefusesAt, RefusesOneAt, IsHeaderOf, NamesNone, HasNoPlaces, IsHandedOut, HasNoRoom, same_number};
+ghost use Rattle.wkt_calls.specs.Answer.{read_at, print_at, places_in, asks_whole, EndsAsAsked, IsCanonicalOf, IsMore, HasMore, Compares, RefusesAt, RefusesOneAt, IsHeaderOf, NamesNone, HasNoPlaces, IsHandedOut, HasNoRoom, same_number};
 ghost use Rattle.wkt_c.specs.Chunks.{AnswersSome, AnswersNone};
 ghost use Rattle.wkt_calls.specs.Calls.{ends_here};
 ghost use Rattle.wkt_c.specs.Column.{AreColumnAnswers, IsColumn, IsNoColumn, row_count};
 ghost use Rattle.wkt_c.specs.ColumnArrays.{IsTextOf, IsNoTextAt};
-ghost use Rattle.wkt_calls.specs.Arrays.{IsNotFlat, HasMoreAt, AreHandedOut, HaveNoRoom};
+ghost use Rattle.wkt_calls.specs.Arrays.{IsNotFlat, HasMoreAt, HasNoPlaceFor, AreHandedOut, HaveNoRoom};
 
 use crate::arrays_room::arrays_long;
 use crate::canonical::canonical;
@@ -16,6 +16,7 @@ use crate::told::{GivenArrays, copy_out_text_at};
 use std::alloc::Global;
 use wkt_calls::arrays_call::{arrays_short, is_short};
 use wkt_calls::asked::{ends_as_asked, has_places};
+use wkt_calls::canonical::SHORT;
 use wkt_calls::fill::{copy_out, copy_whole};
 use wkt_calls::infer::infer;
 use wkt_calls::lines::is_last;
@@ -40,7 +41,10 @@ pub extern "C" fn wkt_canonical(
         end.new × EndsAsAsked (asks_whole places) text.now end.new × HasNoRoom answer needed.new out.old }
     ensures bound { (result ≡ DONE) ⊎ (result ≡ SMALL) → needed.new ≤ 2 * length text.now + 65 }
     ensures more { result ≡ NOT_WHOLE → HasMore (read_at (places_in places)) (asks_whole places) text.now end.new }
-    ensures others { 1 ≤ result → result ≢ SMALL → result ≢ NOT_WHOLE → RefusesAt (places_in places) text.now result }
+    ensures memory { result ≡ MEMORY → SHORT < length text.now }
+    ensures others { 1 ≤ result → result ≢ SMALL → result ≢ MEMORY → result ≢ NOT_WHOLE →
+        RefusesAt (places_in places) text.now result }
+    ensures no_places { 18 < places_in places → result ≡ NO_PLACES }
     ensures kept { 1 ≤ result → out.new ≡ out.old }
     ensures needed_kept { 1 ≤ result → result ≢ SMALL → needed.new ≡ needed.old }
     ensures end_kept { 1 ≤ result → result ≢ SMALL → result ≢ NOT_WHOLE → end.new ≡ end.old }
@@ -68,9 +72,13 @@ pub extern "C" fn wkt_same_ends(
         end.new other_end.new answer × (same.new ≡ same_number answer) }
     ensures as_asked { result ≡ DONE →
         EndsAsAsked (asks_whole places) one.now end.new × EndsAsAsked (asks_whole places) other.now other_end.new }
-    ensures more { result ≡ NOT_WHOLE → HasMore (read_at (places_in places)) (asks_whole places) one.now end.new
-        ⊎ HasMore (read_at (places_in places)) (asks_whole places) other.now other_end.new }
-    ensures others { 1 ≤ result → result ≢ NOT_WHOLE → RefusesOneAt (places_in places) one.now other.now result }
+    ensures more { result ≡ NOT_WHOLE → (answer : Bool) × Compares (read_at (places_in places)) (print_at (places_in places)) one.now other.now
+        end.new other_end.new answer
+        × (IsMore (asks_whole places) one.now end.new ⊎ IsMore (asks_whole places) other.now other_end.new) }
+    ensures memory { result ≡ MEMORY → (SHORT < length one.now) ⊎ (SHORT < length other.now) }
+    ensures others { 1 ≤ result → result ≢ MEMORY → result ≢ NOT_WHOLE →
+        RefusesOneAt (places_in places) one.now other.now result }
+    ensures no_places { 18 < places_in places → result ≡ NO_PLACES }
     ensures kept { 1 ≤ result → same.new ≡ same.old }
     ensures ends_kept { 1 ≤ result → result ≢ NOT_WHOLE → (end.new ≡ end.old) × (other_end.new ≡ other_end.old) }
 {
@@ -107,9 +115,13 @@ pub extern "C" fn wkt_same(
         × Compares (read_at (places_in places)) (print_at (places_in places)) one.now other.now end other_end answer
         × EndsAsAsked (asks_whole places) one.now end × EndsAsAsked (asks_whole places) other.now other_end
         × (same.new ≡ same_number answer) }
-    ensures more { result ≡ NOT_WHOLE → (end : ℕ) × (HasMore (read_at (places_in places)) (asks_whole places) one.now end
-        ⊎ HasMore (read_at (places_in places)) (asks_whole places) other.now end) }
-    ensures others { 1 ≤ result → result ≢ NOT_WHOLE → RefusesOneAt (places_in places) one.now other.now result }
+    ensures more { result ≡ NOT_WHOLE → (end : ℕ) × (other_end : ℕ) × (answer : Bool)
+        × Compares (read_at (places_in places)) (print_at (places_in places)) one.now other.now end other_end answer
+        × (IsMore (asks_whole places) one.now end ⊎ IsMore (asks_whole places) other.now other_end) }
+    ensures memory { result ≡ MEMORY → (SHORT < length one.now) ⊎ (SHORT < length other.now) }
+    ensures others { 1 ≤ result → result ≢ MEMORY → result ≢ NOT_WHOLE →
+        RefusesOneAt (places_in places) one.now other.now result }
+    ensures no_places { 18 < places_in places → result ≡ NO_PLACES }
     ensures kept { 1 ≤ result → same.new ≡ same.old }
 {
     let mut end = 0;
@@ -151,9 +163,13 @@ pub extern "C" fn wkt_lines(
     ensures small { result ≡ SMALL → (answers : List ℕ)
         × IsOutput (read_at places) (print_at places) input.now answers × HasNoRoom answers needed.new out.old }
     ensures others { 1 ≤ result → result ≢ SMALL → HasNoPlaces places result ⊎ (result ≡ MEMORY) }
+    ensures no_places { 18 < places → result ≡ NO_PLACES }
     ensures kept { 1 ≤ result → out.new ≡ out.old }
     ensures needed_kept { 1 ≤ result → result ≢ SMALL → needed.new ≡ needed.old }
 {
+    if places > 18 {
+        return NO_PLACES;
+    }
     match answers_at(alloc, input, places) {
         Ok(text) => copy_out(&text, out, needed),
         Err(status) => status,
@@ -178,6 +194,7 @@ pub extern "C" fn wkt_lines_some(
         AnswersSome (read_at places) (print_at places) (ends_here last) input.now taken.new written.new out.new }
     ensures others { 1 ≤ result → HasNoPlaces places result
         ⊎ AnswersNone (read_at places) (print_at places) (ends_here last) input.now out.old result }
+    ensures no_places { 18 < places → result ≡ NO_PLACES }
     ensures kept { 1 ≤ result → (taken.new ≡ taken.old) × (written.new ≡ written.old) }
 {
     if places > 18 {
@@ -247,6 +264,8 @@ pub extern "C" fn wkt_column_canonical(
     ensures no_column { (IsColumn texts.now offsets.now valid.now out_offsets.old statuses.old → ⊥) → result ≡ NOT_COLUMN }
     ensures others { 1 ≤ result → result ≢ SMALL →
         IsNoColumn places texts.now offsets.now valid.now out_offsets.old statuses.old result }
+    ensures no_places { IsColumn texts.now offsets.now valid.now out_offsets.old statuses.old → 18 < places_in places →
+        result ≡ NO_PLACES }
     ensures kept { 1 ≤ result →
         (out.new ≡ out.old) × (out_offsets.new ≡ out_offsets.old) × (statuses.new ≡ statuses.old) }
     ensures needed_kept { 1 ≤ result → result ≢ SMALL → needed.new ≡ needed.old }
@@ -285,8 +304,11 @@ pub extern "C" fn wkt_arrays(
         rings.new polygons.old polygons.new }
     ensures small { result ≡ SMALL → HaveNoRoom (places_in places) text.now sizes.new numbers.old rings.old polygons.old }
     ensures as_asked { (result ≡ DONE) ⊎ (result ≡ SMALL) → EndsAsAsked (asks_whole places) text.now sizes.new.end }
-    ensures more { result ≡ NOT_WHOLE → HasMoreAt (places_in places) (asks_whole places) text.now sizes.new.end }
-    ensures others { 1 ≤ result → result ≢ SMALL → result ≢ NOT_WHOLE → IsNotFlat (places_in places) text.now result }
+    ensures more { result ≡ NOT_WHOLE → HasMoreAt (places_in places) (asks_whole places) text.now sizes.new }
+    ensures memory { result ≡ MEMORY → (64 < length text.now) ⊎ HasNoPlaceFor (places_in places) text.now 18 10 7 }
+    ensures others { 1 ≤ result → result ≢ SMALL → result ≢ MEMORY → result ≢ NOT_WHOLE →
+        IsNotFlat (places_in places) text.now result }
+    ensures no_places { 18 < places_in places → result ≡ NO_PLACES }
     ensures kept { 1 ≤ result →
         (numbers.new ≡ numbers.old) × (rings.new ≡ rings.old) × (polygons.new ≡ polygons.old) }
     ensures sizes_kept { 1 ≤ result → result ≢ SMALL → result ≢ NOT_WHOLE → sizes.new ≡ sizes.old }

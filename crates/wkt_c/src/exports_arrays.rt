@@ -1,6 +1,6 @@
 //! A column to arrays at once, for C.
-ghost use Rattle.wkt_calls.specs.Answer.{IsHandedOut, HasNoRoom};
-ghost use Rattle.std.specs.Prelude.{◌≡◌, ◌≤◌, ◌≢◌, ◌⊎◌, ℕ, List, length};
+ghost use Rattle.wkt_calls.specs.Answer.{IsHandedOut, HasNoRoom, places_in};
+ghost use Rattle.std.specs.Prelude.{◌≡◌, ◌≤◌, ◌<◌, ◌≢◌, ◌⊎◌, ℕ, List, length};
 ghost use Rattle.wkt_c.specs.ColumnArrays.{ColumnArrays, AreColumnArrays, AreFilled, FillColumn, LackRoom, HasNoArrays, IsTextColumn, IsArrayColumn, AreColumnTexts, HasNoTexts, as_column};
 ghost use Rattle.wkt_c.specs.Rows.{held_arrays, statuses_of};
 
@@ -103,6 +103,9 @@ pub extern "C" fn wkt_column_arrays(
     ensures others { 1 ≤ result → result ≢ SMALL → HasNoArrays places texts.now offsets.now valid.now (as_column
         kinds.old dimensions.old numbers.old number_offsets.old rings.old ring_offsets.old polygons.old
         polygon_offsets.old) statuses.old result }
+    ensures no_places { IsTextColumn texts.now offsets.now valid.now (as_column kinds.old dimensions.old numbers.old
+        number_offsets.old rings.old ring_offsets.old polygons.old polygon_offsets.old) statuses.old →
+        18 < places_in places → result ≡ NO_PLACES }
     ensures kept { 1 ≤ result → (numbers.new ≡ numbers.old) × (rings.new ≡ rings.old) × (polygons.new ≡ polygons.old) }
     ensures offsets_kept { 1 ≤ result → (number_offsets.new ≡ number_offsets.old)
         × (ring_offsets.new ≡ ring_offsets.old) × (polygon_offsets.new ≡ polygon_offsets.old) }

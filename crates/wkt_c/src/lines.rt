@@ -73,7 +73,7 @@ pub(crate) fn answers<const D: u32>(alloc: Global, input: &[u8]) -> Result<Vec<u
 /// The answers to all lines of the input, with decimals of so many places.
 pub(crate) fn answers_at(alloc: Global, input: &[u8], places: u32) -> Result<Vec<u8>, u32>
     ensures { MatchResult result (λ v. IsOutput (read_at places) (print_at places) input.now v.items)
-        (λ s. HasNoPlaces places s ⊎ (s ≡ MEMORY)) }
+        (λ s. HasNoPlaces places s ⊎ ((s ≡ MEMORY) × (places ≤ 18))) }
 {
     at_places!(places, answers(alloc, input), Err(NO_PLACES))
 }

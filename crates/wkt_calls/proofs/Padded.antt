@@ -141,10 +141,11 @@ bad-number message.M e = absurd (omega (arith, e))
 bad-number message.Member e = absurd (omega (arith, e))
 bad-number message.BadNumber e = refl
 
-pub refused-with : {N : Type 0} (read : List ℕ → Option N) (text : List ℕ) (m : Message) (status : ℕ) → HasNoFront read text → IsRefusedWith read text m →
+pub refused-with : {N : Type 0} (read : List ℕ → Option N) (text : List ℕ) (m : Message) (status : ℕ) → IsUtf8 text → HasNoFront read text → IsRefusedWith read text m →
     status ≡ message_number m → 1 ≤ status → status ≤ 13 → RefusesText read text status
-refused-with read text m status none reported is least most =
+refused-with read text m status utf8 none reported is least most =
     record {
+      utf8 = λ _ _. utf8;
       no_front = λ _ _. none;
       message = λ _ _. (m, is, reported);
       bad = λ k. with_bad read text m reported (bad-number m (sym is ∙ k));

@@ -19,16 +19,17 @@ use Rattle.wkt_lines.specs.Lines.{input_lines, before_feed, after_feed}
 use Rattle.wkt_lines.specs.Replies.{AreReplies}
 use Rattle.wkt_lines.proofs.Outcomes.{lines_step}
 use Rattle.wkt_calls.specs.Calls.{AreWholeLines}
-use Rattle.wkt_calls.specs.Answer.{RefusesText, kind_number, dimension_number, read_at}
+use Rattle.wkt_calls.specs.Answer.{RefusesText, RefusesOne, HasFront, kind_number, dimension_number, read_at}
 use Rattle.wkt_fill.specs.Filled.{view, FillsFront, HoldsAll}
 use Rattle.wkt_fill.specs.declared.filler.Filler.{Filler}
-use Rattle.wkt_calls.specs.Arrays.{AreOf, IsNotFlat}
+use Rattle.wkt_fill.specs.declared.filler.Room.{Room}
+use Rattle.wkt_calls.specs.Arrays.{AreOf, IsNotFlatIn, HasNoPlaceFor}
 use Rattle.wkt_num.specs.Decimal.{read_decimal, IsUnits}
 use Rattle.wkt_num.specs.DecimalLaws.{decimal_reads_values}
 use Rattle.wkt_access.specs.declared.dimensions.Dimension.TheVariants.{XY}
 use Rattle.wkt_access.specs.Values.{Value}
 use Rattle.wkt_read.proofs.OneForm.{geometry_fits}
-use Rattle.wkt_machine.specs.Lones.{IsPointFront}
+use Rattle.wkt_machine.specs.Values.{IsPointFront}
 
 -- Bytes that are copied and lines that are answered piece by piece.
 
@@ -272,27 +273,42 @@ copied-piece at end list old out ys order within fits e f =
 
 -- What is handed out of what was read and written.
 
--- memory ran out
-pub out_of_memory : {N : Type 0} (read : List ℕ → Option N) (text : List ℕ) (status : ℕ) → status ≡ 22 → RefusesText read text status
-out_of_memory read text status e = record {
-  no_front = λ _ h. absurd (omega (arith, e, h));
-  message = λ _ h. absurd (omega (arith, e, h));
-  bad = λ h. absurd (omega (arith, e, h));
-  not_utf8 = λ h _. absurd (omega (arith, e, h));
-  others = inr (inr e);
-  some = omega (arith, e);
-}
-
 -- a text that isn't UTF-8
 pub no-text : {N : Type 0} (read : List ℕ → Option N) (text : List ℕ) (status : ℕ) → status ≡ 20 → (IsUtf8 text → ⊥) → RefusesText read text status
 no-text read text status e bad = record {
+  utf8 = λ _ h. absurd (omega (arith, e, h));
   no_front = λ _ h. absurd (omega (arith, e, h));
   message = λ _ h. absurd (omega (arith, e, h));
   bad = λ h. absurd (omega (arith, e, h));
   not_utf8 = λ _ u. bad u;
-  others = inr (inl e);
+  others = inr e;
   some = omega (arith, e);
 }
+
+-- why one of two texts is refused: the first, where the other is text or isn't; or the other, where the first has a front
+pub refused-first : {N : Type 0} (read : List ℕ → Option N) (one other : List ℕ) (status result : ℕ) → RefusesText read one status
+    → ((result ≡ status) × IsUtf8 other) ⊎ ((result ≡ 20) × (IsUtf8 other → ⊥)) → RefusesOne read one other result
+refused-first read one other status result h k = elim k [
+  | inl a ↦ record {
+    which = inl (subst (RefusesText read one) (sym a.0) h);
+    utf8 = λ l m. (h.utf8 (omega (arith, l, a.0)) (omega (arith, m, a.0)), a.1);
+  }
+  | inr b ↦ record {
+    which = inr (no-text read other result b.0 b.1, inl b.0);
+    utf8 = λ l m. absurd (omega (arith, m, b.0));
+  }
+]
+
+pub refused-other : {N : Type 0} (read : List ℕ → Option N) (one other : List ℕ) (status : ℕ) → IsUtf8 one → HasFront read one
+    → RefusesText read other status → RefusesOne read one other status
+refused-other read one other status utf8 front h = record { which = inr (h, inr front); utf8 = λ l m. (utf8, h.utf8 l m) }
+
+-- a text that isn't UTF-8 decides
+pub not-text-first : {N : Type 0} (read : List ℕ → Option N) (one other : List ℕ) (status : ℕ) → status ≡ 20 → (IsUtf8 one → ⊥) → RefusesOne read one other status
+not-text-first read one other status e bad = record { which = inl (no-text read one status e bad); utf8 = λ l m. absurd (omega (arith, m, e)) }
+
+pub not-text-other : {N : Type 0} (read : List ℕ → Option N) (one other : List ℕ) (status : ℕ) → status ≡ 20 → (IsUtf8 other → ⊥) → RefusesOne read one other status
+not-text-other read one other status e bad = record { which = inr (no-text read other status e bad, inl e); utf8 = λ l m. absurd (omega (arith, m, e)) }
 
 -- a comparison of two lists that are these
 pub same_lists : {B : Type 0} (x y a b : List ℕ) → B ↔ (x ≡ y) → x ≡ a → y ≡ b → B ↔ (a ≡ b)
@@ -303,7 +319,7 @@ iff-more h k = (λ a. k.0 (h.0 a), λ c. h.1 (k.1 c))
 
 -- The arrays of what was filled, or why there are none.
 
-module _ (places : ℕ) (text : List ℕ) (f : Filler) (end : ℕ) (h : FillsFront places text f end) where
+module _ (places : ℕ) (text : List ℕ) (r : Room) (f : Filler) (end : ℕ) (h : FillsFront places text r f end) where
   -- the arrays of the front
   pub arrays-of : IsUtf8 text → f.status ≡ 0 → (k d : ℕ) → k ≡ kind_number f.kind → d ≡ dimension_number f.dimension → AreOf places text end k d (view f).flat.numbers (view f).flat.rings (view f).flat.polygons
   arrays-of utf8 z k d is at =
@@ -325,20 +341,44 @@ module _ (places : ℕ) (text : List ℕ) (f : Filler) (end : ℕ) (h : FillsFro
       }
 
   -- why there are none
-  pub no-arrays : f.status ≢ 0 → IsNotFlat places text f.status
-  no-arrays n = elim (h.unheld n) [
-    | inl m ↦ inr (inr (out_of_memory (read_at places) text f.status m))
-    | inr k ↦ inr (inl (record { value = h.value; end = end; front = h.front; why = k }))
+  pub no-arrays : IsUtf8 text → f.status ≢ 0 → IsNotFlatIn places text r f.status
+  no-arrays utf8 n = elim (h.unheld n) [
+    | inl m ↦ inl (m.0, record { utf8 = utf8; value = h.value; end = end; front = h.front; lack = m.1 })
+    | inr k ↦ inr (inr (inl (record { utf8 = utf8; value = h.value; end = end; front = h.front; why = k })))
   ]
+
+-- What has no place in rooms of some sizes has none in smaller ones, and in the least room of a text that takes no memory.
+pub no-place-in-less : (places : ℕ) (text : List ℕ) (n r p n' r' p' : ℕ) → n' ≤ n → r' ≤ r → p' ≤ p → 1 ≤ r' → 1 ≤ p' → HasNoPlaceFor places text n r p → HasNoPlaceFor places text n' r' p'
+no-place-in-less places text n r p n' r' p' a b c some other h = record {
+  utf8 = h.utf8;
+  value = h.value;
+  end = h.end;
+  front = h.front;
+  lack = elim h.lack [
+    | inl z ↦ absurd (omega (arith, z, b, some))
+    | inr k ↦ elim k [
+      | inl z ↦ absurd (omega (arith, z, c, other))
+      | inr m ↦ inr (inr (
+        m.0,
+        m.1,
+        elim m.2 [
+          | inl l ↦ inl (omega (arith, l, a))
+          | inr q ↦ elim q [ inl l ↦ inr (inl (omega (arith, l, b))) | inr l ↦ inr (inr (omega (arith, l, c))) ]
+        ],
+      ))
+    ]
+  ];
+}
 
 -- The text isn't UTF-8.
 pub not-text : {N : Type 0} (read : List ℕ → Option N) (text : List ℕ) → (IsUtf8 text → ⊥) → RefusesText read text 20
 not-text read text n = record {
+  utf8 = λ _ h. absurd (omega (arith, h));
   no_front = λ _ h. absurd (omega (arith, h));
   message = λ _ h. absurd (omega (arith, h));
   bad = λ h. absurd (omega (arith, h));
   not_utf8 = λ _. n;
-  others = inr (inl refl);
+  others = inr refl;
   some = omega arith;
 }
 

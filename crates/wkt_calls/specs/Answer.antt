@@ -50,9 +50,15 @@ pub record HasNoRoom (answer : List ℕ) (needed : ℕ) (old : List ℕ) : Type 
   pub size : needed ≡ length answer
   pub small : length old < length answer
 
+-- Whole texts are asked for, and more than white space follows the geometry that ends here.
+abbrev pub IsMore : Bool → List ℕ → ℕ → Type 0
+IsMore whole text end = (whole ≡ true) × (AllWhite (drop end text) → ⊥)
+
 module _ {N : Type 0} (read : List ℕ → Option N) where
   -- What a status says of a text that has no answer.
   pub record RefusesText (text : List ℕ) (status : ℕ) : Type 0 where
+    -- 1 to 14: the text is UTF-8, so that 20 comes first.
+    pub utf8 : 1 ≤ status → status ≤ 14 → IsUtf8 text
     -- 1 to 14: no beginning of the text is a geometry.
     pub no_front : 1 ≤ status → status ≤ 14 → HasNoFront read text
     -- It is then the number of the message with which the text is refused, 1 to 13.
@@ -61,13 +67,17 @@ module _ {N : Type 0} (read : List ℕ → Option N) where
     pub bad : status ≡ 13 → HasBadNumber read text
     -- 20: the text isn't UTF-8.
     pub not_utf8 : status ≡ 20 → IsUtf8 text → ⊥
-    -- Otherwise it is 22: out of memory.
-    pub others : (status ≤ 14) ⊎ ((status ≡ 20) ⊎ (status ≡ 22))
+    pub others : (status ≤ 14) ⊎ (status ≡ 20)
     pub some : 1 ≤ status
 
-  -- One of two texts is refused with this status.
-  abbrev pub RefusesOne : List ℕ → List ℕ → ℕ → Type 0
-  RefusesOne one other status = RefusesText one status ⊎ RefusesText other status
+  -- The text begins with a geometry.
+  abbrev pub HasFront : List ℕ → Type 0
+  HasFront text = (value : Value N) × (end : ℕ) × Front read text value end
+
+  -- One of two texts is refused with this status: 20 comes first, for either; and then the first text's.
+  pub record RefusesOne (one other : List ℕ) (status : ℕ) : Type 0 where
+    pub which : RefusesText one status ⊎ (RefusesText other status × ((status ≡ 20) ⊎ HasFront one))
+    pub utf8 : 1 ≤ status → status ≤ 14 → IsUtf8 one × IsUtf8 other
 
   -- Whole texts are asked for, and the geometry that the text begins with ends here, and is followed by more than white space.
   pub record HasMore (whole : Bool) (text : List ℕ) (end : ℕ) : Type 0 where
@@ -140,6 +150,7 @@ pub record NamesNone (text : List ℕ) (status : ℕ) : Type 0 where
   pub no_kind : status ≡ 1 → IsUnsupported (header_rule text)
   pub no_space : status ≡ 2 → header_rule text ≡ NoSpace
   pub no_paren : status ≡ 3 → header_rule text ≡ NoParen
+  pub utf8 : status ≤ 3 → IsUtf8 text
   pub not_utf8 : status ≡ 20 → IsUtf8 text → ⊥
   pub others : (status ≤ 3) ⊎ (status ≡ 20)
   pub some : 1 ≤ status

@@ -5,12 +5,13 @@ use Rattle.wkt_access.specs.Values.{Value}
 use Rattle.wkt_access.specs.WellFormed.{IsWellFormed}
 use Rattle.wkt_read.specs.Front.{Front}
 use Rattle.wkt_read.specs.Header.{kind_of, dim_of}
-use Rattle.wkt_calls.specs.Answer.{read_at, kind_number, dimension_number, HasNoPlaces, RefusesText, HasMore, with_front, places_in, asks_whole, EndsAsAsked}
+use Rattle.wkt_calls.specs.Answer.{read_at, kind_number, dimension_number, HasNoPlaces, RefusesText, IsMore, with_front, places_in, asks_whole, EndsAsAsked}
 use Rattle.wkt_machine.specs.declared.points.FastPoint.{FastPoint}
 use Rattle.wkt_fill.specs.Filled.{view}
 use Rattle.wkt_calls.specs.declared.flat.Flat.{Flat}
 use Rattle.wkt_calls.specs.declared.sizes.WktSizes.{WktSizes}
-pub use Rattle.wkt_fill.specs.Arrays.{parts_of, joined, offsets, numbers_in, HasLarge, HasLargeNumber}
+use Rattle.wkt_fill.specs.declared.filler.Room.{Room}
+pub use Rattle.wkt_fill.specs.Arrays.{parts_of, joined, offsets, numbers_in, HasLarge, HasLargeNumber, LackPlaces}
 
 -- A value as flat arrays.
 
@@ -34,18 +35,28 @@ pub record AreOf (places : ℕ) (text : List ℕ) (end kind dimension : ℕ) (nu
 
 -- The front is a collection, or a number of it has more units than 64 bits hold.
 pub record IsNoArrays (places : ℕ) (text : List ℕ) (status : ℕ) : Type 0 where
+  pub utf8 : IsUtf8 text
   pub value : Value ℤ
   pub end : ℕ
   pub front : Front (read_at places) text value end
   pub why : ((status ≡ 24) × (parts_of value ≡ None)) ⊎ ((status ≡ 25) × HasLargeNumber value)
 
--- Whole texts are asked for, and more than white space follows the geometry that the text begins with, which ends here.
-abbrev pub HasMoreAt : ℕ → Bool → List ℕ → ℕ → Type 0
-HasMoreAt places whole text end = HasMore (read_at places) whole text end
+-- The arrays of the front don't fit into so many places for numbers, rings and polygons.
+pub record HasNoPlaceFor (places : ℕ) (text : List ℕ) (numbers rings polygons : ℕ) : Type 0 where
+  pub utf8 : IsUtf8 text
+  pub value : Value ℤ
+  pub end : ℕ
+  pub front : Front (read_at places) text value end
+  pub lack : LackPlaces numbers rings polygons value
 
 -- Why a text has no arrays: there are no numbers of so many places, its front is a collection, a number has more units than 64 bits hold, or the text is refused.
 abbrev pub IsNotFlat : ℕ → List ℕ → ℕ → Type 0
 IsNotFlat places text status = HasNoPlaces places status ⊎ (IsNoArrays places text status ⊎ RefusesText (read_at places) text status)
+
+-- Why there are no arrays in a room: that is too small for them, or there are none.
+abbrev pub IsNotFlatIn : ℕ → List ℕ → Room → ℕ → Type 0
+IsNotFlatIn places text r status =
+    ((status ≡ 22) × HasNoPlaceFor places text (length r.numbers.now) (length r.rings.now) (length r.polygons.now)) ⊎ IsNotFlat places text status
 
 -- What is known of flat arrays.
 
@@ -69,6 +80,11 @@ pub record AreReported (places : ℕ) (text : List ℕ) (s : WktSizes) : Type 0 
   pub rings : s.rings ≡ length rs
   pub polygons : s.polygons ≡ length ps
 
+-- Whole texts are asked for, and more than white space follows the front, which has these arrays.
+pub record HasMoreAt (places : ℕ) (whole : Bool) (text : List ℕ) (s : WktSizes) : Type 0 where
+  pub reported : AreReported places text s
+  pub more : IsMore whole text s.end
+
 -- They stand at the fronts of the buffers.
 pub record AreHandedOut (places : ℕ) (text : List ℕ) (s : WktSizes) (numbers numbers' : List ℤ) (rings rings' polygons polygons' : List ℕ) : Type 0 where
   pub reported : AreReported places text s
@@ -88,7 +104,9 @@ pub record AnswersArrays (asked : ℕ) (text : List ℕ) (status : ℕ) (sizes s
   pub filled : status ≡ 0 → AreHandedOut (places_in asked) text sizes' numbers numbers' rings rings' polygons polygons'
   pub small : status ≡ 21 → HaveNoRoom (places_in asked) text sizes' numbers rings polygons
   pub as_asked : (status ≡ 0) ⊎ (status ≡ 21) → EndsAsAsked (asks_whole asked) text sizes'.end
-  pub more : status ≡ 30 → HasMoreAt (places_in asked) (asks_whole asked) text sizes'.end
-  pub others : 1 ≤ status → status ≢ 21 → status ≢ 30 → IsNotFlat (places_in asked) text status
+  pub more : status ≡ 30 → HasMoreAt (places_in asked) (asks_whole asked) text sizes'
+  -- Memory is taken for texts of more than 64 bytes; the least room of a shorter one has so many places.
+  pub memory : status ≡ 22 → (64 < length text) ⊎ HasNoPlaceFor (places_in asked) text 18 10 7
+  pub others : 1 ≤ status → status ≢ 21 → status ≢ 22 → status ≢ 30 → IsNotFlat (places_in asked) text status
   pub kept : 1 ≤ status → (numbers' ≡ numbers) × (rings' ≡ rings) × (polygons' ≡ polygons)
   pub sizes_kept : 1 ≤ status → status ≢ 21 → status ≢ 30 → sizes' ≡ sizes

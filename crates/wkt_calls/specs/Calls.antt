@@ -37,7 +37,9 @@ pub record AnswersCanonical (asked : ℕ) (text : List ℕ) (status : ℕ) (out 
   pub small : status ≡ 21 → (answer : List ℕ) × IsCanonicalOf (read_at (places_in asked)) (print_at (places_in asked)) text answer end'
       × EndsAsAsked (asks_whole asked) text end' × HasNoRoom answer needed' out
   pub more : status ≡ 30 → HasMore (read_at (places_in asked)) (asks_whole asked) text end'
-  pub others : 1 ≤ status → status ≢ 21 → status ≢ 30 → RefusesText (read_at (places_in asked)) text status
+  -- Memory is taken for texts of more than 200 bytes.
+  pub memory : status ≡ 22 → 200 < length text
+  pub others : 1 ≤ status → status ≢ 21 → status ≢ 22 → status ≢ 30 → RefusesText (read_at (places_in asked)) text status
   pub kept : 1 ≤ status → out' ≡ out
   pub bound : (status ≡ 0) ⊎ (status ≡ 21) → needed' ≤ 2 * length text + 65
   pub needed_kept : 1 ≤ status → status ≢ 21 → needed' ≡ needed

@@ -1,13 +1,13 @@
 //! The arrays of one text, for a caller's buffers.
-ghost use Rattle.std.specs.Prelude.{◌≡◌, ◌≤◌, ◌≢◌, ◌⊎◌};
+ghost use Rattle.std.specs.Prelude.{◌≡◌, ◌≤◌, ◌<◌, ◌≢◌, ◌⊎◌, length, false};
 ghost use Rattle.wkt_calls.specs.Answer.{places_in, asks_whole, EndsAsAsked};
-ghost use Rattle.wkt_calls.specs.Arrays.{IsNotFlat, HasMoreAt, AnswersArrays, IsFlatPoint, AreHandedOut, HaveNoRoom};
+ghost use Rattle.wkt_calls.specs.Arrays.{IsNotFlat, HasMoreAt, HasNoPlaceFor, AnswersArrays, IsFlatPoint, AreHandedOut, HaveNoRoom};
 
 use crate::asked::ends_as_asked;
 use crate::fill::{copy_to_front, put_two};
 use crate::flat::{find_point, flat_asked};
 use crate::sizes::WktSizes;
-use crate::status::{DONE, NOT_WHOLE, SMALL};
+use crate::status::{DONE, MEMORY, NOT_WHOLE, SMALL};
 use wkt_fill::Room;
 use wkt_machine::FastPoint;
 
@@ -18,7 +18,9 @@ const FEWEST_ARRAYS: usize = 32;
 
 /// Whether the arrays of a text are made on the stack.
 #[inline(always)]
-pub fn is_short(text: &[u8]) -> bool {
+pub fn is_short(text: &[u8]) -> bool
+    ensures { result ≡ false → 64 < length text.now }
+{
     text.len() <= FEW_ARRAYS
 }
 
@@ -38,8 +40,11 @@ pub fn arrays_in(
         rings.new polygons.old polygons.new }
     ensures small { result ≡ SMALL → HaveNoRoom (places_in places) text.now sizes.new numbers.old rings.old polygons.old }
     ensures as_asked { (result ≡ DONE) ⊎ (result ≡ SMALL) → EndsAsAsked (asks_whole places) text.now sizes.new.end }
-    ensures more { result ≡ NOT_WHOLE → HasMoreAt (places_in places) (asks_whole places) text.now sizes.new.end }
-    ensures others { 1 ≤ result → result ≢ SMALL → result ≢ NOT_WHOLE → IsNotFlat (places_in places) text.now result }
+    ensures more { result ≡ NOT_WHOLE → HasMoreAt (places_in places) (asks_whole places) text.now sizes.new }
+    ensures memory { result ≡ MEMORY → HasNoPlaceFor (places_in places) text.now (length room.entry.numbers.now)
+        (length room.entry.rings.now) (length room.entry.polygons.now) }
+    ensures others { 1 ≤ result → result ≢ SMALL → result ≢ MEMORY → result ≢ NOT_WHOLE →
+        IsNotFlat (places_in places) text.now result }
     ensures kept { 1 ≤ result →
         (numbers.new ≡ numbers.old) × (rings.new ≡ rings.old) × (polygons.new ≡ polygons.old) }
     ensures sizes_kept { 1 ≤ result → result ≢ SMALL → result ≢ NOT_WHOLE → sizes.new ≡ sizes.old }
@@ -89,8 +94,8 @@ fn copy_out_point(
         rings.new polygons.old polygons.new }
     ensures small { result ≡ SMALL → HaveNoRoom (places_in places) text.now sizes.new numbers.old rings.old polygons.old }
     ensures as_asked { (result ≡ DONE) ⊎ (result ≡ SMALL) → EndsAsAsked (asks_whole places) text.now sizes.new.end }
-    ensures more { result ≡ NOT_WHOLE → HasMoreAt (places_in places) (asks_whole places) text.now sizes.new.end }
-    ensures others { 1 ≤ result → result ≢ SMALL → result ≢ NOT_WHOLE → IsNotFlat (places_in places) text.now result }
+    ensures more { result ≡ NOT_WHOLE → HasMoreAt (places_in places) (asks_whole places) text.now sizes.new }
+    ensures three { (result ≡ DONE) ⊎ ((result ≡ SMALL) ⊎ (result ≡ NOT_WHOLE)) }
     ensures kept { 1 ≤ result →
         (numbers.new ≡ numbers.old) × (rings.new ≡ rings.old) × (polygons.new ≡ polygons.old) }
     ensures sizes_kept { 1 ≤ result → result ≢ SMALL → result ≢ NOT_WHOLE → sizes.new ≡ sizes.old }

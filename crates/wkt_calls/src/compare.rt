@@ -1,5 +1,5 @@
 //! Texts compared by the one text of what each begins with.
-ghost use Rattle.std.specs.Prelude.{◌≡◌, ◌+◌, ◌*◌, ◌≤◌, ◌↔◌, ℕ, IsTrue, MatchResult, IsUtf8, length, slice_index};
+ghost use Rattle.std.specs.Prelude.{◌≡◌, ◌+◌, ◌*◌, ◌≤◌, ◌↔◌, ◌⊎◌, ℕ, IsTrue, MatchResult, IsUtf8, length, slice_index};
 ghost use Rattle.wkt_num.specs.Decimal.{IsUnits};
 ghost use Rattle.wkt_calls.specs.Calls.{AreCompared};
 ghost use Rattle.wkt_read.specs.Laws.{FrontIsWritable, OneText};
@@ -66,6 +66,18 @@ pub struct Compared {
     pub other_end: usize,
 }
 
+/// The status of two texts of which the first is refused with this one: that the other isn't UTF-8 comes first.
+#[cold]
+#[inline(never)]
+fn refused_first(status: u32, other: &[u8]) -> u32
+    ensures { ((result ≡ status) × IsUtf8 other.now) ⊎ ((result ≡ NOT_TEXT) × (IsUtf8 other.now → ⊥)) }
+{
+    match str::from_utf8(other) {
+        Ok(_) => status,
+        Err(_) => NOT_TEXT,
+    }
+}
+
 /// Whether two texts of up to [`SHORT`] bytes begin with one geometry.
 pub fn same_short(one: &[u8], other: &[u8], asked: u32) -> Result<Compared, u32>
     requires places { places_in asked ≤ 18 }
@@ -93,7 +105,7 @@ fn same_unlikely(one: &[u8], other: &[u8], asked: u32) -> Result<Compared, u32>
 {
     match str::from_utf8(one) {
         Ok(text) => match refused_at(text, places_of(asked)) {
-            Some(status) => Err(status),
+            Some(status) => Err(refused_first(status, other)),
             None => same_longer(text.as_bytes(), other, asked),
         },
         Err(_) => Err(NOT_TEXT),
@@ -168,7 +180,7 @@ fn same_padded(
 {
     let (end, n) = match write_short(one, asked, near, room) {
         Ok(written) => written,
-        Err(status) => return Err(status),
+        Err(status) => return Err(refused_first(status, other)),
     };
     let (other_end, m) = match write_short(other, asked, other_near, other_room) {
         Ok(written) => written,

@@ -2,7 +2,7 @@
 ghost use Rattle.std.specs.Prelude.{◌≡◌, ◌≤◌, ◌↔◌, IsTrue, IsUtf8, IfSome, MatchResult, length, drop, true};
 ghost use Rattle.wkt_read.specs.Front.{HasNoFront};
 ghost use Rattle.wkt_calls.specs.Answer.{places_in, read_at, RefusesText};
-ghost use Rattle.wkt_calls.specs.Arrays.{IsFlat, IsFlatPoint, IsNotFlat};
+ghost use Rattle.wkt_calls.specs.Arrays.{IsFlat, IsFlatPoint, IsNotFlatIn};
 
 use crate::asked::places_of;
 use crate::at_places;
@@ -25,7 +25,7 @@ pub struct Flat<'a> {
 /// The arrays of the geometry at the front of a text, in the room. 22: the room is too small.
 #[inline(always)]
 fn make_flat<'a, const D: u32>(text: &[u8], room: Room<'a>) -> Result<Flat<'a>, u32>
-    ensures { MatchResult result (IsFlat D text.now) (IsNotFlat D text.now) }
+    ensures { MatchResult result (IsFlat D text.now) (IsNotFlatIn D text.now room.entry) }
 {
     let Some(filled) = fill_arrays::<D>(text, room) else {
         return Err(refused::<D>(text));
@@ -81,7 +81,7 @@ fn refused<const D: u32>(text: &[u8]) -> u32
 /// The flat arrays of a text's front, or why it has none, with decimals of so many places.
 fn flat_at<'a>(text: &[u8], places: u32, room: Room<'a>) -> Result<Flat<'a>, u32>
     requires { places ≤ 18 }
-    ensures { MatchResult result (IsFlat places text.now) (IsNotFlat places text.now) }
+    ensures { MatchResult result (IsFlat places text.now) (IsNotFlatIn places text.now room.entry) }
 {
     at_places!(places, make_flat(text, room), unreachable!())
 }
@@ -89,7 +89,7 @@ fn flat_at<'a>(text: &[u8], places: u32, room: Room<'a>) -> Result<Flat<'a>, u32
 /// The flat arrays of a text's front, or why it has none, with decimals of as many places as are asked for.
 pub fn flat_asked<'a>(text: &[u8], asked: u32, room: Room<'a>) -> Result<Flat<'a>, u32>
     requires { places_in asked ≤ 18 }
-    ensures { MatchResult result (IsFlat (places_in asked) text.now) (IsNotFlat (places_in asked) text.now) }
+    ensures { MatchResult result (IsFlat (places_in asked) text.now) (IsNotFlatIn (places_in asked) text.now room.entry) }
 {
     flat_at(text, places_of(asked), room)
 }

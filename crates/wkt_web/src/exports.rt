@@ -1,8 +1,8 @@
 //! The functions that the host calls.
 ghost use Rattle.std.specs.Prelude.{◌≡◌, ◌≤◌, ◌≢◌, ◌⊎◌, ◌+◌, ◌*◌, ◌<◌, Bool, length, take, ◌↔◌, ℕ};
-ghost use Rattle.wkt_calls.specs.Answer.{read_at, print_at, places_in, asks_whole, EndsAsAsked, IsCanonicalOf, HasMore, Compares, RefusesAt, RefusesOneAt, HasNoPlaces, same_number, IsHeaderOf, NamesNone};
+ghost use Rattle.wkt_calls.specs.Answer.{read_at, print_at, places_in, asks_whole, EndsAsAsked, IsCanonicalOf, IsMore, HasMore, Compares, RefusesAt, RefusesOneAt, HasNoPlaces, same_number, IsHeaderOf, NamesNone};
 ghost use Rattle.wkt_calls.specs.Calls.{AnswersSure, ends_here};
-ghost use Rattle.wkt_calls.specs.Arrays.{IsNotFlat, HasMoreAt, AreHandedOut, HaveNoRoom};
+ghost use Rattle.wkt_calls.specs.Arrays.{IsNotFlat, HasMoreAt, HasNoPlaceFor, AreHandedOut, HaveNoRoom};
 ghost use Rattle.wkt_calls.specs.Explained.{IsExplained, IsHinted, IsFollowed, IsUnexplained};
 
 use wkt_calls::arrays_call::arrays_in;
@@ -14,7 +14,7 @@ use wkt_calls::has_room;
 use wkt_calls::infer::infer;
 use wkt_calls::lines::{is_last, sure_lines_at};
 use wkt_calls::sizes::WktSizes;
-use wkt_calls::status::{DONE, NO_PLACES, NOT_TEXT, NOT_WHOLE, SMALL};
+use wkt_calls::status::{DONE, MEMORY, NO_PLACES, NOT_TEXT, NOT_WHOLE, SMALL};
 use wkt_explain::Problem;
 use wkt_fill::Room;
 
@@ -36,6 +36,7 @@ pub extern "C" fn wkt_canonical(
     ensures small { result ≡ SMALL → length room.old < 2 * length text.now + 65 }
     ensures more { result ≡ NOT_WHOLE → HasMore (read_at (places_in places)) (asks_whole places) text.now end.new }
     ensures others { 1 ≤ result → result ≢ SMALL → result ≢ NOT_WHOLE → RefusesAt (places_in places) text.now result }
+    ensures no_places { 18 < places_in places → result ≡ NO_PLACES }
     ensures len_kept { 1 ≤ result → len.new ≡ len.old }
     ensures end_kept { 1 ≤ result → result ≢ NOT_WHOLE → end.new ≡ end.old }
 {
@@ -81,9 +82,11 @@ pub extern "C" fn wkt_same(
         EndsAsAsked (asks_whole places) one.now end.new × EndsAsAsked (asks_whole places) other.now other_end.new }
     ensures small { result ≡ SMALL →
         (length room.old < 2 * length one.now + 65) ⊎ (length other_room.old < 2 * length other.now + 65) }
-    ensures more { result ≡ NOT_WHOLE → HasMore (read_at (places_in places)) (asks_whole places) one.now end.new
-        ⊎ HasMore (read_at (places_in places)) (asks_whole places) other.now other_end.new }
+    ensures more { result ≡ NOT_WHOLE → (answer : Bool) × Compares (read_at (places_in places)) (print_at (places_in places)) one.now other.now
+        end.new other_end.new answer
+        × (IsMore (asks_whole places) one.now end.new ⊎ IsMore (asks_whole places) other.now other_end.new) }
     ensures others { 1 ≤ result → result ≢ SMALL → result ≢ NOT_WHOLE → RefusesOneAt (places_in places) one.now other.now result }
+    ensures no_places { 18 < places_in places → result ≡ NO_PLACES }
     ensures kept { 1 ≤ result → same.new ≡ same.old }
     ensures ends_kept { 1 ≤ result → result ≢ NOT_WHOLE → (end.new ≡ end.old) × (other_end.new ≡ other_end.old) }
 {
@@ -132,6 +135,7 @@ pub extern "C" fn wkt_lines_some(
     ensures answered { result ≡ DONE →
         AnswersSure (read_at places) (print_at places) (ends_here last) input.now taken.new written.new out.new }
     ensures others { 1 ≤ result → HasNoPlaces places result }
+    ensures no_places { 18 < places → result ≡ NO_PLACES }
     ensures kept { 1 ≤ result → (taken.new ≡ taken.old) × (written.new ≡ written.old) }
 {
     if places > 18 {
@@ -163,8 +167,12 @@ pub extern "C" fn wkt_arrays(
         rings.new polygons.old polygons.new }
     ensures small { result ≡ SMALL → HaveNoRoom (places_in places) text.now sizes.new numbers.old rings.old polygons.old }
     ensures as_asked { (result ≡ DONE) ⊎ (result ≡ SMALL) → EndsAsAsked (asks_whole places) text.now sizes.new.end }
-    ensures more { result ≡ NOT_WHOLE → HasMoreAt (places_in places) (asks_whole places) text.now sizes.new.end }
-    ensures others { 1 ≤ result → result ≢ SMALL → result ≢ NOT_WHOLE → IsNotFlat (places_in places) text.now result }
+    ensures more { result ≡ NOT_WHOLE → HasMoreAt (places_in places) (asks_whole places) text.now sizes.new }
+    ensures memory { result ≡ MEMORY → HasNoPlaceFor (places_in places) text.now (length room_numbers.old)
+        (length room_rings.old) (length room_polygons.old) }
+    ensures others { 1 ≤ result → result ≢ SMALL → result ≢ MEMORY → result ≢ NOT_WHOLE →
+        IsNotFlat (places_in places) text.now result }
+    ensures no_places { 18 < places_in places → result ≡ NO_PLACES }
     ensures kept { 1 ≤ result →
         (numbers.new ≡ numbers.old) × (rings.new ≡ rings.old) × (polygons.new ≡ polygons.old) }
     ensures sizes_kept { 1 ≤ result → result ≢ SMALL → result ≢ NOT_WHOLE → sizes.new ≡ sizes.old }

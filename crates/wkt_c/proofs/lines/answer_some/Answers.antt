@@ -5,6 +5,7 @@ use Rattle.wkt_lines.specs.Output.{IsOutput}
 use Rattle.wkt_calls.specs.Answer.{read_at, print_at}
 use Rattle.wkt_calls.specs.Calls.{AreWholeLines, IsFirstLine}
 use Rattle.wkt_calls.proofs.Pieces.{more_output, whole-pick, no-output}
+use Rattle.wkt_c.specs.Chunks.{HasNoLine}
 use Rattle.wkt_c.proofs.lines.answer_some.Goals as goal
 
 pub returns-then-done-eq0-clause-answers : goal.returns-then-done-eq0-clause-answers
@@ -28,6 +29,46 @@ returns-then-done-eq0-clause-answers g c =
         small = omega (arith, ap length nothing, length-take done.written c.answer_lines-done.new.out, a.written, a.whole, c.lines.invariant.whole, c.if-len-out.true, c.len.ensures);
       },
     )
+
+pub returns-then-line-eq0-clause-answers : goal.returns-then-line-eq0-clause-answers
+returns-then-line-eq0-clause-answers g c =
+    let input = c.args.input.now in
+    let done = c.answer_lines-done.result in
+    let a = c.answer_lines-done.ensures in
+    let rest_is : take (length input - done.taken) (drop done.taken input) ≡ drop done.taken input = take_all (length input - done.taken) (drop done.taken input) (omega (arith, length-drop done.taken input)) in
+    let none : HasNoLine c.args.last (drop done.taken input) = subst (HasNoLine c.args.last) rest_is (c.first_line-line.ensures.none c.if-line-eq0.true) in
+    record {
+      within = a.taken;
+      lines = a.lines;
+      fits = a.written;
+      answers = a.answers;
+      some = λ z. subst (λ n. HasNoLine c.args.last (drop n input)) {x = done.taken} {y = 0} z none;
+      full = inl none;
+    }
+
+pub returns-then-len-out-clause-answers : goal.returns-then-len-out-clause-answers
+returns-then-len-out-clause-answers g c =
+    let read = read_at g.row.D in
+    let num = print_at g.row.D in
+    let input = c.args.input.now in
+    let done = c.answer_lines-done.result in
+    let a = c.answer_lines-done.ensures in
+    let line = c.first_line-line.result in
+    let rest_is : take (length input - done.taken) (drop done.taken input) ≡ drop done.taken input = take_all (length input - done.taken) (drop done.taken input) (omega (arith, length-drop done.taken input)) in
+    record {
+      within = a.taken;
+      lines = a.lines;
+      fits = a.written;
+      answers = a.answers;
+      some = λ z. absurd (c.if-done-eq0.false z);
+      full = inr (record {
+        taken = line;
+        line = elim c.first_line-line.ensures.line [ inl h ↦ subst (λ r. IsFirstLine c.args.last r line) rest_is h | inr z ↦ absurd (omega (arith, z, c.if-line-eq0.false)) ];
+        answers = c.in-Ok.text.items;
+        are = subst (λ r. IsOutput read num (take line r) c.in-Ok.text.items) rest_is c.in-Ok.ensures;
+        small = omega (arith, a.written, a.whole, c.lines.invariant.whole, c.if-len-out.true, c.len.ensures);
+      });
+    }
 
 pub lines-preserved : goal.lines-preserved
 lines-preserved g c =

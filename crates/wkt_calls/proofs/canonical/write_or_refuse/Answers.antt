@@ -17,7 +17,7 @@ returns-in-Ok-clause-canonical g c =
 pub returns-in-Err-clause-canonical : goal.returns-in-Err-clause-canonical
 returns-in-Err-clause-canonical g c =
     let (none, says) = c.in-Err.ensures.writes in
-    refused-with (read_at g.row.D) c.args.text.now c.in-Err.message c.number.result
+    refused-with (read_at g.row.D) c.args.text.now c.in-Err.message c.number.result c.requires.utf8
     (none-walked (read_at g.row.D) c.args.text.now c.args.walked.now c.requires.walked none)
     (said-walked (read_at g.row.D) c.args.text.now c.args.walked.now c.requires.walked c.in-Err.message says)
     c.number.ensures.number c.number.ensures.least c.number.ensures.most

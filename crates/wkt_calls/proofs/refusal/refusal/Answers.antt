@@ -5,4 +5,4 @@ use Rattle.wkt_calls.proofs.refusal.refusal.Goals as goal
 
 pub returns : goal.returns
 returns g c =
-    refused-with (read_at g.row.D) c.args.text.now c.message.result c.number.result c.requires c.message.ensures c.number.ensures.number c.number.ensures.least c.number.ensures.most
+    refused-with (read_at g.row.D) c.args.text.now c.message.result c.number.result c.utf8.text c.requires c.message.ensures c.number.ensures.number c.number.ensures.least c.number.ensures.most

@@ -1,13 +1,15 @@
 -- A row is refused, followed by more than it may be, or has its arrays.
 use Rattle.wkt_calls.specs.Answer.{places_in, asks_whole}
-use Rattle.std.proofs.Common.{inl, refl}
+use Rattle.wkt_calls.specs.Arrays.{IsNotFlat}
+use Rattle.std.proofs.Common.{inl, inr, refl}
 use Rattle.wkt_c.proofs.Columns.{match-map, refused-arrays, longer-arrays}
 use Rattle.wkt_c.proofs.column_arrays.ArrayRows.add_flat.Goals as goal
 
 pub returns-else-status-eq-MEMORY : goal.returns-else-status-eq-MEMORY
 returns-else-status-eq-MEMORY c =
+    let none : IsNotFlat (places_in c.args.asked) c.args.text.now c.in-Err.status = elim c.in-Err.ensures [ inl m ↦ absurd (c.if-status-eq-MEMORY.false m.0) | inr h ↦ h ] in
     match-map c.add_none-in-Err.result
-    (λ x adds. refused-arrays (places_in c.args.asked) (asks_whole c.args.asked) _ _ _ _ _ refl (inl (c.if-status-eq-MEMORY.false, c.in-Err.ensures)) adds) (λ e h. h)
+    (λ x adds. refused-arrays (places_in c.args.asked) (asks_whole c.args.asked) _ _ _ _ _ refl (inl none) adds) (λ e h. h)
     c.add_none-in-Err.ensures
 
 pub returns-then-not-ends_as_asked : goal.returns-then-not-ends_as_asked

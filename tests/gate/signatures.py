@@ -1,0 +1,188 @@
+#!/usr/bin/env python3
+"""Whether the proved functions have the parameters that their callers pass; the status is 1 where one hasn't.
+
+include/wkt.h says which functions there are. Compared with it are the functions that crates/wkt_c exports and their
+structs, the calls of capi/pointers.c, the declarations of rust/src/ffi.rs, and the module's functions, which take rooms
+beside what the header has. The calls of javascript/src are compared with these. A slice is a pointer and a size. At the
+end a parameter or a field is changed in each of these files, and each change has to be seen.
+"""
+import os
+import re
+import sys
+
+TOP = os.path.dirname(os.path.dirname(os.path.dirname(os.path.abspath(__file__))))
+HEADER, POINTERS, RUST = "include/wkt.h", "capi/pointers.c", "rust/src/ffi.rs"
+ENGINE, LINES = "javascript/src/engine.js", "javascript/src/lines.js"
+EXPORTS = [f"crates/wkt_c/src/exports{part}.rt" for part in ("", "_arrays", "_explain")]
+MODULE = "crates/wkt_web/src/exports.rt"
+SIZES = ["crates/wkt_calls/src/sizes.rt", "crates/wkt_c/src/sizes.rt"]
+FILES = [HEADER, POINTERS, RUST, ENGINE, LINES, MODULE, *EXPORTS, *SIZES]
+# Types that C has by two names. Offsets are of 64 bits, as sizes are, and one below 0 is refused as too large.
+ALIKE = {"wkt_status": "u32", "uint32_t": "u32", "uint8_t": "u8", "size_t": "64", "int64_t": "64", "int": "c_int",
+         "usize": "64", "i64": "64"}
+EXPORT = r'extern "C" fn (wkt_\w+)\(([^()]*)\)\s*->\s*u32'
+STRUCT = r"#\[repr\(C\)\]\s*#\[derive[^\n]*\s*pub struct (?P<name>\w+) \{(?P<body>.*?)\}"
+# The function of the header that has the results of the module's.
+HEADED = {"wkt_same": "wkt_same_ends"}
+
+
+def parameters(text):
+    return [part.strip() for part in re.sub(r"\s+", " ", text).split(",") if part.strip()]
+
+
+def of_c(text):
+    """Each parameter of a list of C's: its name, and its type, by `*` and `const *` where it is a pointer."""
+    found = []
+    for one in parameters(text):
+        const, word, star, name = re.fullmatch(r"(const )?(\w+) ?(\*?)(\w+)", one).groups()
+        found.append((name, (const or "") + star + ALIKE.get(word, word)))
+    return found
+
+
+def of_rattle(text):
+    """The same of an exported function: a slice has its size behind it, and an allocator is nothing."""
+    found = []
+    for name, word in (one.split(": ") for one in parameters(text)):
+        kind, slice_of, plain = re.fullmatch(r"(&mut |&|)(?:\[(\w+)\]|(\w+))", word).groups()
+        if word == "Global":
+            continue
+        star = {"": "", "&": "const *", "&mut ": "*"}[kind]
+        found.append((name, star + ALIKE.get(slice_of or plain, slice_of or plain)))
+        if slice_of:
+            found.append((f"{name}_len", "64"))
+    return found
+
+
+def of_rust(text):
+    found = []
+    for name, word in (one.split(": ") for one in parameters(text)):
+        star, plain = re.fullmatch(r"(\*const |\*mut |)(\w+)", word).groups()
+        found.append((name, {"": "", "*const ": "const *", "*mut ": "*"}[star] + ALIKE.get(plain, plain)))
+    return found
+
+
+def functions(pattern, text, made):
+    return {name: made(given) for name, given in re.findall(pattern, text, re.S | re.M)}
+
+
+def structs(pattern, text, field):
+    """The fields of each struct, each with its type."""
+    found = {}
+    for match in re.finditer(pattern, text, re.S):
+        body = re.sub(r"//[^\n]*|\bpub\b", "", match["body"])
+        found[match["name"]] = field(body)
+    return found
+
+
+def fields_of_c(body):
+    """The fields of a struct of C's: `size_t a, b` is two."""
+    return [(name.strip(), ALIKE[row.split()[0]]) for row in body.split(";") if row.strip()
+            for name in row.strip().split(None, 1)[1].split(",")]
+
+
+def pointers_of(text):
+    """Of each function of pointers.c: its parameters, what is passed on, and its buffers and results in their order."""
+    lists = {name: re.findall(r"(BUFFER|RESULT)\((\w+)\)", body)
+             for name, body in re.findall(r"#define (\w+)\(BUFFER, RESULT\) ((?:[^\n]*\\\n)*[^\n]*)", text)}
+    calls = re.findall(r"^FUNCTION\((\w+), (\w+),\s*\(([^()]*)\),\s*\(([^()]*)\)\)", text, re.S | re.M)
+    return {name: (of_c(given), parameters(passed), lists[checked]) for name, checked, given, passed in calls}
+
+
+def checks_of(declared):
+    """The buffers and the results of a function, in their order."""
+    names = {name for name, _ in declared}
+    return [("BUFFER" if f"{name}_len" in names else "RESULT", name) for name, word in declared if "*" in word]
+
+
+def passed_by_engine(text, name):
+    """Of each argument of a call of the module's function, whether it is an address or a size, which is a BigInt."""
+    call = re.search(rf"\.(?:calls\.{name}\(|call\('{name}', )", text)
+    depth, end = 1, call.end()
+    while depth:
+        depth += {"(": 1, ")": -1}.get(text[end], 0)
+        end += 1
+    return ["big(" in one or "cell" in one for one in parameters(text[call.end():end - 1])]
+
+
+def is_part(some, whole):
+    left = iter(whole)
+    return all(one in left for one in some)
+
+
+def differences(texts):
+    plain = re.sub(r"/\*.*?\*/", "", texts[HEADER], flags=re.S)
+    declared = functions(r"^wkt_status (wkt_\w+)\(([^()]*)\);", plain, of_c)
+    exported = functions(EXPORT, "\n".join(texts[one] for one in EXPORTS), of_rattle)
+    module = functions(EXPORT, texts[MODULE], of_rattle)
+    in_rust = functions(r"pub fn (wkt_\w+)\(([^()]*)\)\s*->\s*u32;", texts[RUST], of_rust)
+    pointers = pointers_of(texts[POINTERS])
+    yield from named("what wkt_c exports and what wkt.h declares", declared, exported)
+    called = {name: one[0] for name, one in pointers.items()}
+    yield from named("what pointers.c calls and what wkt.h declares", declared, called)
+    here = {name: declared.get(name) for name in in_rust}
+    yield from named("what ffi.rs declares and what wkt.h declares", here, in_rust)
+    for name, (given, passed, checked) in pointers.items():
+        if passed != [one for one, _ in given] or checked != checks_of(given):
+            yield f"{name}: pointers.c passes or checks other parameters than it has"
+    for name, given in module.items():
+        wanted = [word for _, word in declared[HEADED.get(name, name)]]
+        if not is_part(wanted, [word for _, word in given]):
+            yield f"{name}: the module's hasn't the parameters of wkt.h"
+        if passed_by_engine(texts[ENGINE] + texts[LINES], name) != [word != "u32" for _, word in given]:
+            yield f"{name}: javascript/src passes other arguments than the module takes"
+    c_structs = structs(r"typedef struct \{(?P<body>.*?)\} (?P<name>\w+);", plain, fields_of_c)
+    made = {}
+    for one in SIZES:
+        made.update(structs(STRUCT, texts[one], of_rust))
+    rust = structs(STRUCT, texts[RUST], of_rust)
+    yield from named("the structs of the crates and of wkt.h", c_structs, made)
+    yield from named("the structs of ffi.rs and of wkt.h", c_structs, rust)
+
+
+def named(what, wanted, found):
+    for name in sorted(wanted.keys() | found.keys()):
+        if wanted.get(name) != found.get(name):
+            yield f"{what} differ: {name}"
+
+
+# A change of each file, which has to be seen: what stands there, and what is put in its place.
+CHANGES = [
+    (HEADER, "size_t out_len, size_t *needed, size_t *end)", "size_t out_len, size_t *end, size_t *needed)"),
+    (HEADER, "size_t numbers, rings, polygons; /*", "uint32_t numbers, rings, polygons; /*"),
+    (POINTERS, "(text, text_len, places, hint))", "(text, places, text_len, hint))"),
+    (POINTERS, "BUFFER(text) RESULT(hint)", "RESULT(hint)"),
+    (RUST, "pub rings: usize,\n    pub polygons: usize,", "pub polygons: usize,\n    pub rings: usize,"),
+    (RUST, "last: u32,\n", ""),
+    (ENGINE, "big(rooms[0]), big(sizes[0]), ", ""),
+    (LINES, "last ? 1 : 0,", ""),
+    (MODULE, "kind: &mut u32, dimension: &mut u32", "kind: &mut u32, dimension: &mut usize"),
+    (EXPORTS[0], "same: &mut u32,\n    end: &mut usize,", "end: &mut usize,\n    same: &mut u32,"),
+    (EXPORTS[1], "numbers: &[i64],", "numbers: &mut [i64],"),
+    (EXPORTS[2], "stop: &mut usize,", "stop: &mut u32,"),
+    (SIZES[0], "pub kind: u32,", "pub kind: usize,"),
+    (SIZES[1], "pub rings: usize,", "pub ring_count: usize,"),
+]
+
+
+def main():
+    texts = {}
+    for path in FILES:
+        with open(os.path.join(TOP, path), encoding="utf-8") as file:
+            texts[path] = file.read()
+    found = list(differences(texts))
+    for one in found:
+        print(f"FAILED {one}")
+    for path, old, new in CHANGES:
+        if old not in texts[path]:
+            found.append(path)
+            print(f"FAILED {path} has no {old!r}: change CHANGES of tests/gate/signatures.py")
+        elif not found and not list(differences({**texts, path: texts[path].replace(old, new, 1)})):
+            found.append(path)
+            print(f"FAILED {path}: {new!r} in the place of {old!r} isn't seen")
+    if not found:
+        print(f"signatures: as wkt.h has them, and {len(CHANGES)} changes are seen")
+    sys.exit(1 if found else 0)
+
+
+if __name__ == "__main__":
+    main()
