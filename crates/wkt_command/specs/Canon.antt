@@ -1,5 +1,5 @@
 -- What becomes of a text, what `wkt canon` writes, and the geometries that were seen.
-use Rattle.std.specs.Prelude.{◌≡◌, ℕ, List, take, drop, Option, Bool, true, false, ◌⊎◌, ℤ, [], ◌∷◌, ◌++◌, min, Some, None, String, string_bytes, IsUtf8}
+use Rattle.std.specs.Prelude.{◌≡◌, ℕ, List, take, drop, Option, Bool, true, false, ◌⊎◌, ℤ, [], ◌∷◌, ◌++◌, min, Some, None, String, string_bytes, IsUtf8, codes, if◌then◌else◌}
 use Rattle.std.specs.declared.alloc.Global.{Global}
 use Rattle.std.specs.Io.KnownBytes.{Appends}
 use Rattle.std.specs.Io.Buffered.{writer_contents}
@@ -42,10 +42,10 @@ pub record IsReadAs (o : Options) (text : List ℕ) (v : Value ℤ) (end : ℕ) 
   pub front : Front (read_decimal 127 36 (min o.places 18)) text v end
   pub whole : (o.front ≡ true) ⊎ AllWhite (drop end text)
 
--- The line for a refused text, if one was asked for.
+-- The line for a refused text, if one was asked for; the word `skip` asks for none.
 abbrev pub refused_line : Option (String Global) → List ℕ
 refused_line None = []
-refused_line (Some word) = string_bytes word ++ 10 ∷ []
+refused_line (Some word) = if bytes_eq (codes "skip") (string_bytes word) then [] else string_bytes word ++ 10 ∷ []
 
 -- Of a text that is read the canonical text was written, with a line feed, and of another what was asked for.
 pub record Canonizes (o : Options) (text : List ℕ) (old new : Option (List ℕ)) : Type 0 where

@@ -5,6 +5,7 @@ ghost use Rattle.wkt_command.specs.Canon.{first_of};
 
 use crate::output::Output;
 use crate::report::Origin;
+use crate::shown::Shown;
 use std::alloc::{AllocError, Global};
 use std::collections::HashMap;
 use std::hash::RandomState;
@@ -65,7 +66,7 @@ pub fn put<W: Write + Drop>(
 ) -> io::Result<()> {
     let name = now.name;
     let line = now.line;
-    let first_name = first.name;
+    let first_name = Shown(first.name);
     let first_line = first.line;
     let text = format!(in alloc; "{name}:{line}: the geometry of {first_name}:{first_line}\n")?;
     out.put(text.as_bytes())

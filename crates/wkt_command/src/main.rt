@@ -16,6 +16,7 @@ mod report;
 mod run;
 mod same;
 mod session;
+mod shown;
 mod usage;
 mod verdict;
 

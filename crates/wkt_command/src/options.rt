@@ -45,7 +45,7 @@ pub struct Options {
     pub ends: Ends,
     /// What follows a geometry in its text isn't looked at.
     pub front: bool,
-    /// What is written in place of the answer to a refused text.
+    /// What is written in place of the answer to a refused text; `skip`, or none: nothing.
     pub refused: Option<String>,
     /// After how many refusals `check` ends; 0: after none.
     pub max: u64,

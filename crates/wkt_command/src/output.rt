@@ -1,7 +1,8 @@
 //! Standard output, and what `wkt canon` and `wkt kind` write there.
-ghost use Rattle.std.specs.Prelude.{OnOk, [], ◌∷◌, ◌++◌};
+ghost use Rattle.std.specs.Prelude.{◌≡◌, OnOk, [], ◌∷◌, ◌++◌, codes};
 ghost use Rattle.std.specs.Io.KnownBytes.{Appends, Keeps};
-ghost use Rattle.wkt_command.specs.Canon.{out_bytes};
+ghost use Rattle.wkt_command.specs.Canon.{out_bytes, refused_line};
+ghost use Rattle.std.specs.Str.{bytes_eq};
 
 use std::alloc::{AllocError, Global};
 use std::io::{self, BufWriter, IsTerminal, Stdout, Write};
@@ -78,6 +79,27 @@ pub fn put_canonical<W: Write + Drop>(out: &mut Output<W>, canonical: &[u8]) -> 
         Ok(()) => out.put(b"\n"),
         Err(error) => Err(error),
     }
+}
+
+/// Writes the line for a refused text: the word that was asked for, if one was, and if that isn't `skip`.
+///
+/// # Errors
+/// Standard output's error.
+pub fn put_refused<W: Write + Drop>(out: &mut Output<W>, asked: &Option<String>) -> io::Result<()>
+    ensures { OnOk result
+        (Appends (out_bytes W.contents out.old) (out_bytes W.contents out.new) (refused_line asked.now)) }
+{
+    match asked {
+        Some(word) if !is_skip(word.as_bytes()) => put_canonical(out, word.as_bytes()),
+        _ => Ok(()),
+    }
+}
+
+/// Whether refused texts are left out by this word.
+fn is_skip(word: &[u8]) -> bool
+    ensures { result ≡ bytes_eq (codes "skip") word.now }
+{
+    b"skip".as_slice() == word
 }
 
 /// Writes the kind and the dimension of a text that is read.

@@ -2,6 +2,7 @@
 ghost use Rattle.std.specs.Prelude.{◌≡◌, ◌+◌};
 ghost use Rattle.wkt_command.specs.Place.{feeds, column_after, byte_after};
 
+use crate::shown::{width, write_shown};
 use std::fmt;
 use std::fmt::Formatter;
 
@@ -128,15 +129,9 @@ impl<'a> Excerpt<'a> {
     }
 }
 
-// A control character would move what is shown.
-fn write_plain<W: fmt::Write>(text: &str, f: &mut Formatter<W>) -> fmt::Result {
-    for c in text.chars() {
-        let plain = if c.is_control() && c != '\t' {
-            '\u{FFFD}'
-        } else {
-            c
-        };
-        f.write_char(plain)?;
+fn write_times<W: fmt::Write>(c: char, times: usize, f: &mut Formatter<W>) -> fmt::Result {
+    for _ in 0..times {
+        f.write_char(c)?;
     }
     Ok(())
 }
@@ -146,9 +141,9 @@ impl<'a> fmt::Display for Excerpt<'a> {
         let dots = if self.begins_line { "" } else { "..." };
         f.write_str("    ")?;
         f.write_str(dots)?;
-        write_plain(self.before, f)?;
-        write_plain(self.marked, f)?;
-        write_plain(self.after, f)?;
+        write_shown(self.before, f)?;
+        write_shown(self.marked, f)?;
+        write_shown(self.after, f)?;
         f.write_str(if self.ends_line {
             "\n    "
         } else {
@@ -156,11 +151,17 @@ impl<'a> fmt::Display for Excerpt<'a> {
         })?;
         f.write_str(if self.begins_line { "" } else { "   " })?;
         for c in self.before.chars() {
-            f.write_char(if c == '\t' { c } else { ' ' })?;
+            if c == '\t' {
+                f.write_char(c)?;
+            } else {
+                write_times(' ', width(c), f)?;
+            }
         }
-        f.write_char('^')?;
-        for _ in self.marked.chars().skip(1) {
+        if self.marked.is_empty() {
             f.write_char('^')?;
+        }
+        for c in self.marked.chars() {
+            write_times('^', width(c), f)?;
         }
         f.write_char('\n')
     }

@@ -8,10 +8,11 @@ use crate::dups::{self, Seen, Spot};
 use crate::error::CommandError;
 use crate::input::{Input, NulLines, swap_ends};
 use crate::options::{Command, Ends, Options};
-use crate::output::{Output, put_canonical, put_kind};
+use crate::output::{Output, put_canonical, put_kind, put_refused};
 use crate::place::place_after;
 use crate::progress::{Progress, Tally};
 use crate::report::{Origin, TextRefusal, Thousands, push_not_utf8, push_refusal};
+use crate::shown::Shown;
 use crate::verdict::{Verdict, verdict_at, written};
 use std::alloc::Global;
 use std::io::{Stdout, Write};
@@ -93,7 +94,9 @@ impl<'a, W: Write + Drop> Run<'a, W> {
         self.progress = Progress::new(rt, self.options.progress, input.size());
         self.file = file;
         self.line = 1;
-        let name = shown_name(name);
+        let shown = Shown(shown_name(name));
+        let shown = format!(in self.alloc; "{shown}")?;
+        let name = shown.as_str();
         let source = Counted::new(input);
         let read = match self.options.ends {
             Ends::Line => self.read_lines(rt, name, Lines::new(self.alloc, source)),
@@ -256,11 +259,9 @@ impl<'a, W: Write + Drop> Run<'a, W> {
             (refused_line self.old.options.now.refused)) }
     {
         self.tally.refused = self.tally.refused.saturating_add(1);
-        if let Some(word) = &self.options.refused {
-            match put_canonical(&mut self.out, word.as_bytes()) {
-                Ok(()) => {}
-                Err(error) => return Err(CommandError::output(error)),
-            }
+        match put_refused(&mut self.out, &self.options.refused) {
+            Ok(()) => {}
+            Err(error) => return Err(CommandError::output(error)),
         }
         if self.options.quiet {
             return Ok(());

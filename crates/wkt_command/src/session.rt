@@ -4,6 +4,7 @@ use crate::options::{Command, Options};
 use crate::parse::{Request, parse};
 use crate::run::Run;
 use crate::same;
+use crate::shown::Shown;
 use crate::usage::{HELP, USAGE, UsageError, VERSION};
 use std::env;
 use std::io::{ErrorKind, Stdout};
@@ -49,7 +50,15 @@ fn print(rt: &HostRuntime, text: &str) -> u8 {
 }
 
 fn misused(rt: &HostRuntime, error: &UsageError) -> u8 {
-    let _ = eprint!(rt; "wkt: {error}\n{USAGE}");
+    // An argument may be the name of a stranger's file.
+    let words = format!(in rt.alloc(); "{error}");
+    let _ = match &words {
+        Ok(words) => {
+            let shown = Shown(words.as_str());
+            eprint!(rt; "wkt: {shown}\n{USAGE}")
+        }
+        Err(_) => eprint!(rt; "wkt: {USAGE}"),
+    };
     FAILED
 }
 
@@ -117,9 +126,10 @@ fn read_one(
         Ok(()) => Ok(0),
         Err(CommandError::Input(error)) => {
             let kind = error.kind();
+            let shown = Shown(name);
             let _ = match kind {
-                ErrorKind::NotFound => eprintln!(rt; "wkt: {name}: no such file or directory"),
-                _ => eprintln!(rt; "wkt: {name}: {kind}"),
+                ErrorKind::NotFound => eprintln!(rt; "wkt: {shown}: no such file or directory"),
+                _ => eprintln!(rt; "wkt: {shown}: {kind}"),
             };
             Ok(FAILED)
         }

@@ -24,7 +24,8 @@ Each line of a FILE is a text of well-known text. With no FILE, or where FILE is
   -w, --whole       a FILE is one text, on any number of lines
   -0, --null        texts end at a NUL, not at a line feed
   -f, --front       what follows a geometry in its text isn't looked at
-  --refused WORD    canon, kind: write WORD in place of the answer to a refused text
+  --refused WORD    canon, kind: write WORD in place of the answer to a refused text; skip: leave its line out, as
+                    without the option
   -n, --max N       check: end after N refusals (100); 0: no limit
   -q, --quiet       print no refusals: canon, kind and dups write their answers alone, check and same nothing
   --progress, --no-progress
