@@ -47,13 +47,14 @@ run() {
     REFUSE=$n REFUSED="$dir/refused" LD_PRELOAD="$dir/refuse.so" "$@" > "$dir/out" 2> "$dir/err"
 }
 
-# each PROGRAM INPUT STATUS STEP ARGUMENT..: every allocation in turn, or one of so many
+# each PROGRAM INPUT USUAL STATUS STEP ARGUMENT..: every allocation in turn, or one of so many. USUAL is the status with
+# ample memory, STATUS that of out of memory.
 each() {
-    local program=$1 input=$2 want=$3 step=$4 n=1 tried=0 ended=0 status usual
-    shift 4
+    local program=$1 input=$2 usual=$3 want=$4 step=$5 n=1 tried=0 ended=0 status
+    shift 5
     "crates/$program/out/$program" "$@" < "$input" > "$dir/whole" 2> "$dir/err"
-    usual=$?
-    [ "$usual" != "$want" ] && [ "$usual" -le 1 ] || exit 2
+    status=$?
+    [ "$status" = "$usual" ] || { cat "$dir/whole" "$dir/err"; fail "$program" 0 "status $status with ample memory"; }
     while true; do
         run "$n" "crates/$program/out/$program" "$@" < "$input"
         status=$?
@@ -94,17 +95,17 @@ each_test() {
 }
 
 cut -f 1 tests/data/growth.tsv > "$dir/lines"
-each wktline "$dir/lines" 1 1
-each wktstream "$dir/lines" 1 1
-each wkt_tables tests/data/growth.tsv 2 1
-each wkt_tables /dev/null 2 1 tests/data/growth.jsonl
-each wkt_operations "$dir/lines" 1 1 decimal canonical to_string display wkt_string
+each wktline "$dir/lines" 0 1 1
+each wktstream "$dir/lines" 0 1 1
+each wkt_tables tests/data/growth.tsv 0 2 1
+each wkt_tables /dev/null 0 2 1 tests/data/growth.jsonl
+each wkt_operations "$dir/lines" 0 1 1 decimal canonical to_string display wkt_string
 # The command answers some lines with words for people, and its status says that some were refused.
-each wkt_command "$dir/lines" 2 1 canon --refused refused
-each wkt_command "$dir/lines" 2 1 kind --refused refused -q
-each wkt_command "$dir/lines" 2 1 dups -p 6 -
-each wkt_command "$dir/lines" 2 1 check --max 0
-each wkt_command /dev/null 2 1 same 'LINESTRING(1 2,3 4)' 'linestring ( 1.0 2, 3 +4)'
+each wkt_command "$dir/lines" 1 2 1 canon --refused refused
+each wkt_command "$dir/lines" 1 2 1 kind --refused refused -q
+each wkt_command "$dir/lines" 1 2 1 dups -p 6 -
+each wkt_command "$dir/lines" 1 2 1 check --max 0
+each wkt_command /dev/null 0 2 1 same 'LINESTRING(1 2,3 4)' 'linestring ( 1.0 2, 3 +4)'
 each_test wkt
 each_test wkt_machine value_tests::
 each_test wkt_callers rows::
@@ -113,7 +114,7 @@ each_test wkt_callers rows::
 nested() { printf 'GEOMETRYCOLLECTION(%.0s' $(seq "$1"); printf 'POINT(1 2)'; printf ')%.0s' $(seq "$1"); }
 
 nested 10000 > "$dir/deep"
-each wktline "$dir/deep" 1 199
-each wktstream "$dir/deep" 1 199
+each wktline "$dir/deep" 0 1 199
+each wktstream "$dir/deep" 0 1 199
 printf '%s\t%s\n' "$(nested 10000)" "$(nested 10000)" > "$dir/deep.tsv"
-each wkt_tables "$dir/deep.tsv" 2 997
+each wkt_tables "$dir/deep.tsv" 0 2 997

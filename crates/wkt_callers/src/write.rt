@@ -217,9 +217,12 @@ fn refuses_few_numbers(rt: HostRuntime) {
 
 #[test]
 fn refuses_an_unknown_dimension(rt: HostRuntime) {
-    let line = track(&rt, rt.alloc(), Dimensions::Unknown(5), &[(1, 2)]);
-    let fault = fault_of(&rt, rt.alloc(), &Figure::Line(line));
-    assert!(rt; matches!(fault, Error::UnknownDimension));
+    let (one, none): (&[(i32, i32)], &[(i32, i32)]) = (&[(1, 2)], &[]);
+    for &spots in &[one, none] {
+        let line = track(&rt, rt.alloc(), Dimensions::Unknown(5), spots);
+        let fault = fault_of(&rt, rt.alloc(), &Figure::Line(line));
+        assert!(rt; matches!(fault, Error::UnknownDimension));
+    }
 }
 
 #[test]

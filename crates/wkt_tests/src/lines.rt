@@ -97,6 +97,8 @@ fn give_all_sizes(rt: &impl Abort, alloc: Global, list: (&str, &str)) {
 fn lists_of_each_size(rt: HostRuntime) {
     for list in LISTS {
         give_all_sizes(&rt, rt.alloc(), list);
+        let line = list_line(&rt, rt.alloc(), list, 99_999);
+        give_themselves(&rt, rt.alloc(), &line);
     }
 }
 

@@ -6,9 +6,10 @@ use std::process::Abort;
 use wkt_access::Error;
 use wkt_num::Decimal;
 use wkt_types::{
-    Coord, Dimension, GeometryCollection, LineString, MultiLineString, MultiPolygon, Point,
-    Polygon, Wkt,
+    Coord, Dimension, GeometryCollection, LineString, MultiLineString, MultiPoint, MultiPolygon,
+    Point, Polygon, Wkt,
 };
+use wkt_write::push_geometry;
 
 /// A coordinate of whole numbers.
 fn xyzm(x: i32, y: i32, z: Option<i32>, m: Option<i32>) -> Coord<i32> {
@@ -53,8 +54,73 @@ fn spare_and_missing_numbers(rt: HostRuntime) {
     let alloc = rt.alloc();
     let spare = short_line(&rt, alloc, xyzm(1, 2, Some(3), Some(4)), Dimension::XYM);
     shows(&rt, alloc, &spare, "LINESTRING M(1 2 3)");
-    let short = short_line(&rt, alloc, xy(1, 2), Dimension::XYZ);
-    holds(&rt, short.to_string(alloc).is_err());
+    has_too_few(
+        &rt,
+        alloc,
+        &short_line(&rt, alloc, xy(1, 2), Dimension::XYZ),
+    );
+}
+
+/// The geometry isn't written, since a coordinate has fewer numbers than its dimension.
+fn has_too_few(rt: &impl Abort, alloc: Global, wkt: &Wkt<i32>) {
+    let mut text = String::from_str(alloc, "at: ").expect(rt, "memory");
+    let written = push_geometry(&mut text, wkt);
+    holds(rt, matches!(written, Err(Error::TooFewNumbers)));
+    equal(rt, text.as_str(), "at: ");
+}
+
+/// A multipoint of these members.
+fn multipoint(alloc: Global, members: &[Option<Coord<i32>>], dim: Dimension) -> MultiPoint<i32> {
+    let mut points = Vec::new(alloc);
+    for &member in members {
+        let _ = points.push(Point::new(member, dim));
+    }
+    MultiPoint::new(points, dim)
+}
+
+#[test]
+fn empty_members(rt: HostRuntime) {
+    let alloc = rt.alloc();
+    let short = multipoint(alloc, &[Some(xy(1, 2)), None], Dimension::XYZ);
+    has_too_few(&rt, alloc, &Wkt::from(short));
+    let one = Wkt::from(Point::from_coord(xy(1, 2)));
+    let other = Wkt::from(multipoint(alloc, &[None], Dimension::XY));
+    let members = vec![in alloc; one, other].expect(&rt, "memory");
+    let both = Wkt::from(GeometryCollection::new(members, Dimension::XY));
+    let want = "GEOMETRYCOLLECTION(POINT(1 2),MULTIPOINT(EMPTY))";
+    shows(&rt, alloc, &both, want);
+}
+
+#[test]
+fn empty_of_each_kind(rt: HostRuntime) {
+    let alloc = rt.alloc();
+    let dims = [
+        (Dimension::XY, ""),
+        (Dimension::XYZ, " Z"),
+        (Dimension::XYM, " M"),
+        (Dimension::XYZM, " ZM"),
+    ];
+    for &(dim, named) in &dims {
+        let kinds = [
+            ("POINT", Wkt::from(Point::empty(dim))),
+            ("LINESTRING", Wkt::from(LineString::empty(alloc, dim))),
+            ("POLYGON", Wkt::from(Polygon::empty(alloc, dim))),
+            ("MULTIPOINT", Wkt::from(MultiPoint::empty(alloc, dim))),
+            (
+                "MULTILINESTRING",
+                Wkt::from(MultiLineString::empty(alloc, dim)),
+            ),
+            ("MULTIPOLYGON", Wkt::from(MultiPolygon::empty(alloc, dim))),
+            (
+                "GEOMETRYCOLLECTION",
+                Wkt::from(GeometryCollection::empty(alloc, dim)),
+            ),
+        ];
+        for (word, wkt) in &kinds {
+            let want = [*word, named, " EMPTY"].concat(alloc).expect(&rt, "memory");
+            shows(&rt, alloc, wkt, want.as_str());
+        }
+    }
 }
 
 #[test]
