@@ -19,8 +19,21 @@ static const Call calls[] = {
     {"GEOSWKTWriter_setTrim(w, 1), _setRoundingPrecision(w, 6)", 1, 6, 6},
     {"GEOSWKTWriter_setTrim(w, 1)", 1, -1, 18},
     {"GEOSWKTWriter_setTrim(w, 0)", 0, -1, 18},
+    {"GEOSWKTWriter_setTrim(w, 0), _setRoundingPrecision(w, 6)", 0, 6, 6},
 };
 enum { CALLS = sizeof calls / sizeof *calls, SORTS = 3 };
+
+/* From 3.12 on a writer that trims writes exponents, and M. */
+#if GEOS_VERSION_MAJOR > 3 || GEOS_VERSION_MINOR >= 12
+enum { WRITES_EXPONENTS = 1, MOST_DIMENSIONS = 4 };
+#else
+enum { WRITES_EXPONENTS = 0, MOST_DIMENSIONS = 3 };
+#endif
+
+static int is_refused(double x, const Call *call) {
+    int has_exponent = WRITES_EXPONENTS && call->trim && ((x != 0 && fabs(x) < 1e-4) || fabs(x) >= 1e17);
+    return has_exponent || fabs(x) >= 170141183460469231731.687303715884105727;
+}
 
 static void silent(const char *format, ...) { (void)format; }
 
@@ -46,14 +59,15 @@ typedef struct Counts {
     int texts, read, same, exact, against;
 } Counts;
 
-static void count(Counts *c, GEOSWKTWriter *writer, GEOSWKTReader *reader, uint32_t places, double x, double y) {
+static void count(Counts *c, GEOSWKTWriter *writer, GEOSWKTReader *reader, const Call *call, double x, double y) {
+    uint32_t places = call->places;
     char key[1024], again[1024];
     GEOSGeometry *g = point(x, y);
     char *text = GEOSWKTWriter_write(writer, g);
     int read = key_of(text, places, key, sizeof key);
     c->texts++;
     c->read += read;
-    c->against += read == (fabs(x) >= 170141183460469231731.687303715884105727);
+    c->against += read == (is_refused(x, call) || is_refused(y, call));
     GEOSFree(text);
     GEOSGeom_destroy(g);
     if (!read) return;
@@ -122,7 +136,7 @@ int main(int count_of_words, char **words) {
     for (int i = 0; i < CALLS; i++) {
         writers[i] = GEOSWKTWriter_create();
         GEOSWKTWriter_setTrim(writers[i], calls[i].trim);
-        GEOSWKTWriter_setOutputDimension(writers[i], 3);
+        GEOSWKTWriter_setOutputDimension(writers[i], MOST_DIMENSIONS);
         if (calls[i].precision >= 0) GEOSWKTWriter_setRoundingPrecision(writers[i], calls[i].precision);
     }
     memset(counts, 0, sizeof counts);
@@ -131,7 +145,7 @@ int main(int count_of_words, char **words) {
             for (int i = 0; i < CALLS; i++) strcpy(counts[i][sorts].sort, sort);
             sorts++;
         }
-        for (int i = 0; i < CALLS; i++) count(&counts[i][sorts - 1], writers[i], reader, calls[i].places, x, y);
+        for (int i = 0; i < CALLS; i++) count(&counts[i][sorts - 1], writers[i], reader, &calls[i], x, y);
     }
     for (int i = 0; i < CALLS; i++) {
         for (int s = 0; s < sorts; s++) {

@@ -12,10 +12,10 @@ def word(keys, kept):
 
 
 calls = {}
-for program, call, sort, keys, kept in (line for line in fields if len(line) == 5):
-    calls.setdefault((program, call), {})[sort] = word(keys, kept)
+for release, program, call, sort, keys, kept in (line for line in fields if len(line) == 6):
+    calls.setdefault((release, program, call), {})[sort] = word(keys, kept)
 status = 0
-for (program, call), kept in calls.items():
+for (_, program, call), kept in calls.items():
     cells = f"| {kept['six']} | {kept['all']} |"
     if not any(program in row.split("|")[1] and f"`{call}`" in row and cells in row for row in rows):
         print(f"wrong: no row of the page has {program} `{call}` {cells}")

@@ -99,11 +99,27 @@ def gdal():
 
 
 def shapely():
+    import shapely
     import shapely.wkt
     from shapely.geometry import Point
 
+    if hasattr(shapely, "to_wkt"):
+        geos = shapely.geos_version
+    else:
+        from shapely.geos import geos_version as geos
+
     def dumps(**how):
         return lambda g: shapely.wkt.dumps(g, **how)
+
+    def to_wkt(**how):
+        return lambda g: shapely.to_wkt(g, **how)
+
+    def is_refused(trims):
+        def rule(x):
+            has_exponent = trims and geos >= (3, 12, 0) and (0 < abs(x) < 1e-4 or abs(x) >= 1e17)
+            return has_exponent or abs(x) >= TOO_LARGE
+
+        return rule
 
     def again(key):
         try:
@@ -111,20 +127,25 @@ def shapely():
         except Exception:  # Each version has other errors.
             return None
 
-    calls = (
-        ("g.wkt", lambda g: g.wkt, 18),
-        ("shapely.wkt.dumps(g)", dumps(), 18),
-        ("shapely.wkt.dumps(g, trim=True, rounding_precision=18)", dumps(trim=True, rounding_precision=18), 18),
-        ("shapely.wkt.dumps(g, trim=True, rounding_precision=6)", dumps(trim=True, rounding_precision=6), 6),
-        ("shapely.wkt.dumps(g, rounding_precision=6)", dumps(rounding_precision=6), 6),
-    )
-    for call, write, places in calls:
+    calls = [
+        ("g.wkt", lambda g: g.wkt, 18, True),
+        ("shapely.wkt.dumps(g)", dumps(), 18, False),
+        ("shapely.wkt.dumps(g, trim=True, rounding_precision=18)", dumps(trim=True, rounding_precision=18), 18, True),
+        ("shapely.wkt.dumps(g, trim=True, rounding_precision=6)", dumps(trim=True, rounding_precision=6), 6, True),
+        ("shapely.wkt.dumps(g, rounding_precision=6)", dumps(rounding_precision=6), 6, False),
+    ]
+    if hasattr(shapely, "to_wkt"):
+        calls += [
+            ("shapely.to_wkt(g, rounding_precision=6)", to_wkt(rounding_precision=6), 6, True),
+            ("shapely.to_wkt(g, rounding_precision=6, trim=False)", to_wkt(rounding_precision=6, trim=False), 6, False),
+        ]
+    for call, write, places, trims in calls:
         rows(
             "Shapely",
             call,
             lambda points: [write(Point(*p)) for p in points],
             lambda keys: [shapely.wkt.loads(key).coords[0] for key in keys],
-            lambda x: abs(x) >= TOO_LARGE,
+            is_refused(trims),
             places,
         )
     kinds("Shapely", again)
