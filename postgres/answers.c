@@ -22,13 +22,14 @@ static bool is_ascii(const char *given, size_t length) {
     return all < 0x80;
 }
 
-/* A database in SQL_ASCII holds any bytes: there the library says whether they are UTF-8. */
+/* In another encoding than UTF-8 nothing is converted: a byte may have no equivalent, and it is refused where it stands. In
+ * each encoding of a server the bytes of such a character are 0x80 or more. */
 Question question_of(const char *given, size_t length, uint32_t places) {
-    Question asked = {given, length, (const uint8_t *)given, length, places};
-    if (GetDatabaseEncoding() != PG_UTF8 && GetDatabaseEncoding() != PG_SQL_ASCII && !is_ascii(given, length)) {
-        char *converted = pg_server_to_any(given, (int)length, PG_UTF8);
-        asked.utf8 = (const uint8_t *)converted;
-        asked.length = strlen(converted);
+    Question asked = {given, (const uint8_t *)given, length, places};
+    if (GetDatabaseEncoding() != PG_UTF8 && !is_ascii(given, length)) {
+        uint8_t *ascii = palloc(length);
+        for (size_t i = 0; i < length; i++) ascii[i] = (uint8_t)given[i] < 0x80 ? (uint8_t)given[i] : 0x7F;
+        asked.utf8 = ascii;
     }
     return asked;
 }

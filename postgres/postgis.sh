@@ -4,6 +4,7 @@
 # FOLDER as test.sh has it. It is run by hand, where PostGIS is (on Debian postgresql-15-postgis-3).
 set -eu
 . "$(dirname "$0")/server.sh"
+here=$(cd "$(dirname "$0")" && pwd)
 test_server "$@"
 ask postgres "create database places"
 PGOPTIONS="-c client_min_messages=warning" ask places "create extension wkt_postgis cascade"
@@ -30,9 +31,32 @@ is "the geometry has no SRID" 0 "$(ask places "select ST_SRID('POINT(1 2)'::wkt:
 is "a modifier" "POINT(1.5 2)" "$(ask places "select ST_MakePoint(1.5, 2)::wkt(1)")"
 is "rounded by PostGIS" "POINT(0.3 0.333333)" "$(ask places "select ST_AsText(ST_MakePoint(0.1 + 0.2::float8, 1 / 3::float8), 6)::wkt(6)")"
 is "null" "" "$(ask places "select null::geometry::wkt, null::wkt::geometry" | tr -d '|')"
+# Each double as its shortest decimal, which float8's text is too, in each dimension and kind; what has more places is refused.
+ask places "create function drawn(name text, i int) returns float8 language sql return ('x' || left(md5(name || i), 13))::bit(52)::int8 / (2::float8 ^ 52)" \
+    "create table doubles as select drawn('x', i) x, drawn('y', i) y, drawn('z', i) z, drawn('m', i) m from generate_series(1, 10000) i" \
+    "create table points as select 'degrees' sort, ST_MakePoint(x * 360 - 180, y * 180 - 90) g from doubles union all select 'unit', ST_MakePoint(x, y) from doubles" \
+    "create function tried(g geometry) returns text language plpgsql as \$\$ begin return case when g::wkt::geometry = g then 'equal' else 'another' end;
+        exception when invalid_text_representation then return 'refused'; end \$\$"
+counts=$(ask places "select string_agg(format('%s %s %s', sort, tried, n), ', ' order by sort, tried) from (select sort, tried(g), count(*) n from points group by 1, 2) c")
+is "doubles: which are refused" "$(ask places "select string_agg(format('%1\$s equal %2\$s, %1\$s refused %3\$s', sort, 10000 - n, n), ', ' order by sort) from (
+    select sort, count(*) filter (where greatest(scale(ST_X(g)::text::numeric), scale(ST_Y(g)::text::numeric)) > 18) n from points group by 1) c")" "$counts"
+is "doubles: as README.md says" "$(sed -n 's/.*Of 10,000 random points in degrees \([0-9]*\),\([0-9]*\) come back equal, of 10,000 in .* \([0-9]*\),\([0-9]*\);.*/\1\2 \3\4/p' "$here/README.md")" \
+    "$(sed 's/degrees equal \([0-9]*\),.*unit equal \([0-9]*\),.*/\1 \2/' <<< "$counts")"
+is "doubles: the text of float8" 0 "$(ask places "select count(*) from doubles where tried(ST_MakePoint(x, y)) = 'equal'
+    and ST_MakePoint(x, y)::wkt <> format('POINT(%s %s)', x::text::numeric, y::text::numeric)::wkt")"
+is "doubles: other kinds" "equal" "$(ask places "select string_agg(distinct t, ' ') from (select tried(ST_Collect(array[
+        'GEOMETRYCOLLECTION ZM(MULTIPOINT ZM(EMPTY,1 2 3 4),POLYGON ZM EMPTY)'::geometry, ST_Multi(p), ST_MakeLine(p, ST_MakePoint(m, x, y, z))])) t
+    from (select *, ST_MakePoint(x * 10, y * 100, z - 5, m * 1e12) p from doubles) a where least(x, y, z, m) > 0.1) b where t <> 'refused'")"
+is "doubles: 0.1 + 0.2 is not 0.3" f "$(ask places "select ST_MakePoint(0.1::float8 + 0.2::float8, 0)::wkt = ST_MakePoint(0.3, 0)::wkt")"
+for number in 1.23456789012e-5 999999999999999.9 -0.000012345678901234 123456789012345.67; do
+    is "doubles: $number" t "$(ask places "select ST_MakePoint($number, 2)::wkt = format('POINT(%s 2)', '$number'::numeric)::wkt")"
+done
+fails places "select ST_MakePoint(0.0012345678901234567, 2)::wkt" "Numbers have at most 18 places here."
 fails places "select ST_MakePoint(1.0 / 3, 2)::wkt(6)" "Numbers have at most 6 places here."
 fails places "select ST_GeomFromText('CIRCULARSTRING(0 0,1 1,2 0)')::wkt" "Curves are not read"
-fails places "select ST_MakePoint(1e-9, 2)::wkt" "Exponents are not read"
+for number in 1e-9 1e15 -1e300 5e-324; do fails places "select ST_MakePoint($number, 2)::wkt" "Exponents are not read"; done
+fails places "select ST_MakePoint('NaN', 2)::wkt" "NaN and infinity are no decimals"
+fails places "select ST_MakePoint('-infinity', 2)::wkt" "NaN and infinity are no decimals"
 # An index over the cast, a dump, and a column of keys.
 ask places "create table t (g geometry(Point, 4326), key wkt generated always as (g::wkt) stored unique)" "create index on t ((g::wkt))" \
     "insert into t (g) values ('SRID=4326;POINT(1 2)'), ('SRID=4326;POINT(2 1)')"
@@ -40,7 +64,8 @@ fails places "insert into t (g) values ('SRID=4326;POINT(1 2)')" "duplicate key 
 ask postgres "create database again"
 "$from/pg_dump" -Fc places | "$from/pg_restore" --exit-on-error -d again || wrong "pg_restore fails"
 is "restored" "POINT(1 2) POINT(2 1)" "$(ask again "select key from t order by key" | paste -sd ' ')"
-ask places "create schema other" "alter extension wkt set schema other"
-is "the type in another schema" "POINT(1 2)" "$(ask places "select ST_MakePoint(1, 2)::other.wkt")"
+with_postgis=yes
+. "$here/tests/tenant.sh"
+echo "of 10,000 points each come back equal or are refused: $counts"
 [ $status = 0 ] && echo "wkt_postgis, $(ask places "select 'PostGIS ' || postgis_lib_version()"): as expected"
 exit $status

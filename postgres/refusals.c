@@ -20,12 +20,6 @@ static const char *expected_of(const Question *asked, size_t *start, wkt_status 
     return *status == WKT_OK ? expected[what] : *status == WKT_NOT_WHOLE ? "the end of the text" : NULL;
 }
 
-static size_t characters(const uint8_t *utf8, size_t length) {
-    size_t count = 0;
-    for (size_t i = 0; i < length; i++) count += (utf8[i] & 0xC0) != 0x80;
-    return count;
-}
-
 /* What the text may come from, or what would be read, as a sentence; NULL where nothing is known. */
 static const char *hint_of(const Question *asked) {
     static const char *const hints[] = WKT_HINTS;
@@ -39,14 +33,15 @@ static const char *hint_of(const Question *asked) {
 
 /* The error of a refusal, soft where the caller has a context for it. */
 Datum refuse(Node *context, const Question *asked) {
-    int shown = pg_mbcliplen(asked->given, asked->given_length, 60);
-    const char *more = (size_t)shown < asked->given_length ? ".." : "", *hint = NULL, *detail, *expected;
+    int shown = pg_mbcliplen(asked->given, (int)asked->length, 60);
+    const char *more = (size_t)shown < asked->length ? ".." : "", *hint = NULL, *detail, *expected;
     wkt_status status;
     size_t start;
 
     if ((expected = expected_of(asked, &start, &status)) != NULL) {
         hint = hint_of(asked);
-        detail = psprintf("At character %zu: %s was expected.", characters(asked->utf8, start) + 1, expected);
+        detail =
+            psprintf("At character %d: %s was expected.", pg_mbstrlen_with_len(asked->given, (int)start) + 1, expected);
     } else
         detail = psprintf("%s.", wkt_message(status));
     ereturn(context, (Datum)0,
@@ -55,42 +50,32 @@ Datum refuse(Node *context, const Question *asked) {
              hint ? errhint("%s", hint) : 0));
 }
 
-/* From the place back, or on, so many characters at most, and not past the line. */
+/* From the place back, and on, so many characters at most, and not past the line. */
 #define AROUND 60
-
-static size_t back_from(const uint8_t *utf8, size_t start) {
-    size_t at = start, count = 0;
-    while (at > 0 && utf8[at - 1] != '\n' && count < AROUND) count += (utf8[--at] & 0xC0) != 0x80;
-    return at;
-}
-
-static size_t on_from(const uint8_t *utf8, size_t start, size_t length) {
-    size_t at = start, count = 0;
-    for (; at < length && utf8[at] != '\n' && utf8[at] != '\r'; at++)
-        if ((utf8[at] & 0xC0) != 0x80 && ++count > AROUND) break;
-    return at;
-}
 
 /* The line of the text where it is refused, and below it a caret at the place and what was expected there. */
 text *explained(const Question *asked) {
     StringInfoData said;
     wkt_status status;
-    size_t start, from, to, i;
-    char *converted;
-    const char *expected = expected_of(asked, &start, &status);
+    size_t start, from, to, end;
+    const char *given = asked->given, *expected = expected_of(asked, &start, &status);
+    int before;
 
     if (expected == NULL) return cstring_to_text(wkt_message(status));
-    from = back_from(asked->utf8, start);
-    to = on_from(asked->utf8, start, asked->length);
+    for (from = start; from > 0 && given[from - 1] != '\n';) from--;
+    for (end = start; end < asked->length && given[end] != '\n' && given[end] != '\r';) end++;
+    before = pg_mbstrlen_with_len(given + from, (int)(start - from));
     initStringInfo(&said);
-    if (from > 0 && asked->utf8[from - 1] != '\n') appendStringInfoString(&said, "..");
-    appendBinaryStringInfo(&said, (const char *)asked->utf8 + from, (int)(to - from));
-    if (to < asked->length && asked->utf8[to] != '\n' && asked->utf8[to] != '\r') appendStringInfoString(&said, "..");
-    appendStringInfoChar(&said, '\n');
-    if (from > 0 && asked->utf8[from - 1] != '\n') appendStringInfoString(&said, "  ");
-    for (i = from; i < start; i++)
-        if ((asked->utf8[i] & 0xC0) != 0x80) appendStringInfoChar(&said, asked->utf8[i] == '\t' ? '\t' : ' ');
+    if (before > AROUND) {
+        from += pg_mbcharcliplen(given + from, (int)(start - from), before - AROUND);
+        appendStringInfoString(&said, "..");
+    }
+    to = start + pg_mbcharcliplen(given + start, (int)(end - start), AROUND);
+    appendBinaryStringInfo(&said, given + from, (int)(to - from));
+    appendStringInfoString(&said, to < end ? "..\n" : "\n");
+    if (before > AROUND) appendStringInfoString(&said, "  ");
+    for (; from < start; from += Max(1, pg_mbcharcliplen(given + from, (int)(start - from), 1)))
+        appendStringInfoChar(&said, given[from] == '\t' ? '\t' : ' ');
     appendStringInfo(&said, "^ %s was expected", expected);
-    converted = GetDatabaseEncoding() == PG_SQL_ASCII ? said.data : pg_any_to_server(said.data, said.len, PG_UTF8);
-    return cstring_to_text(converted);
+    return cstring_to_text_with_len(said.data, said.len);
 }

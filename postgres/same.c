@@ -34,9 +34,9 @@ static void keep(Known *known, MemoryContext where, const Question *asked, const
         pfree(known->key);
         known->key = NULL;
     }
-    known->given = MemoryContextAlloc(where, asked->given_length + 1);
-    memcpy(known->given, asked->given, asked->given_length);
-    known->length = asked->given_length;
+    known->given = MemoryContextAlloc(where, asked->length + 1);
+    memcpy(known->given, asked->given, asked->length);
+    known->length = asked->length;
     known->places = asked->places;
     known->key = MemoryContextAlloc(where, VARSIZE(key));
     memcpy(known->key, key, VARSIZE(key));
@@ -44,10 +44,10 @@ static void keep(Known *known, MemoryContext where, const Question *asked, const
 
 /* The canonical text of an argument; NULL where it is refused. What is known is compared byte by byte: a parameter may
  * change between calls. */
-static text *key_of(Known *known, MemoryContext where, const Question *asked) {
+static text *key_of(Known *known, MemoryContext where, Question *asked) {
     text *key;
-    if (known->key && known->places == asked->places && known->length == asked->given_length &&
-        memcmp(known->given, asked->given, asked->given_length) == 0)
+    if (known->key && known->places == asked->places && known->length == asked->length &&
+        memcmp(known->given, asked->given, asked->length) == 0)
         return known->key;
     if (!canonical_of(asked, &key)) return NULL;
     if (known->is_fixed) keep(known, where, asked, key);

@@ -8,9 +8,6 @@ set -eu
 . "$(dirname "$0")/server.sh"
 here=$(cd "$(dirname "$0")" && pwd)
 test_server "$@"
-# What an extension consists of.
-objects="select string_agg(pg_describe_object(classid, objid, objsubid), ',' order by pg_describe_object(classid, objid, objsubid))
-    from pg_depend d join pg_extension e on refobjid = e.oid and refclassid = 'pg_extension'::regclass where extname = 'wkt'"
 
 is "version: that of the header" "$(sed -n 's/^#define WKT_VERSION "\(.*\)"/\1/p' "$wkt/wkt.h")" "$(ask postgres "create extension wkt" "select wkt_version()" "drop extension wkt")"
 # No other user can reach the server, in which whoever connects is superuser.
@@ -49,11 +46,12 @@ is "roles: who may create" "POINT(1 2)" "$(PGUSER=maker ask shared "create exten
 is "roles: others may call" "POINT(1 2)" "$(PGUSER=guest ask shared "select wkt_canonical('point(1 2)')")"
 PGUSER=maker ask shared "drop extension wkt"
 PGUSER=guest fails shared "create extension wkt" 'permission denied to create extension "wkt"'
-# In a schema of its own, and moved to another.
+# In a schema of its own, which may get another name.
 PGUSER=maker ask shared "create schema geo" "create extension wkt schema geo"
 is "roles: a schema of its own" "POINT(1 2)" "$(PGUSER=maker ask shared "select geo.wkt_canonical('point(1 2)')::text::geo.wkt")"
-ask shared "create schema other" "alter extension wkt set schema other"
-is "roles: moved" t "$(ask shared "set search_path = other" "select 'point(1 2)'::wkt = 'POINT(1 2)'")"
+ask shared "alter schema geo rename to other"
+is "roles: its schema has another name" t "$(ask shared "set search_path = other" "select 'point(1 2)'::wkt = 'POINT(1 2)'")"
 echo "roles: as expected"
+. "$here/tests/tenant.sh"
 [ $status = 0 ] && echo "PostgreSQL $("$bin/postgres" --version | sed 's/[^0-9.]* //;s/ .*//'): all as expected"
 exit $status

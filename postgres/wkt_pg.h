@@ -14,11 +14,10 @@
 
 #define MOST_PLACES 18
 
-/* A text as the database holds it, and as the library reads it: both are the same bytes where they are ASCII, or where
- * the database is in UTF-8. */
+/* A text as the database holds it, and as the library reads it: the same bytes, or in place of those that aren't ASCII,
+ * which no geometry has, others that none has. So a place is the same in both. */
 typedef struct Question {
     const char *given;
-    size_t given_length;
     const uint8_t *utf8;
     size_t length;
     uint32_t places;

@@ -18,27 +18,32 @@
 /* The places of a modifier; -1 is none. */
 static uint32_t places_of_modifier(int32 modifier) { return modifier < 0 ? MOST_PLACES : places_of(modifier); }
 
-/* Whether some number of a canonical text has so many digits in a row that it may not fit with 18 places. */
-#define MANY_DIGITS 21
-static bool has_long_number(const char *at, size_t length) {
-    size_t last = MANY_DIGITS - 1;
-    while (last < length) {
-        size_t back = 0;
-        while (back < MANY_DIGITS && isdigit((unsigned char)at[last - back])) back++;
-        if (back == MANY_DIGITS) return true;
-        last += MANY_DIGITS - back;
+/* How many places the numbers of a text have, without zeros at their ends, where one may be too large for more; else 18. */
+static uint32_t places_needed(const Question *asked) {
+    uint32_t needed = 0, digits = 0;
+    bool is_large = false, is_behind = false;
+    for (size_t i = 0; i < asked->length; i++) {
+        if (isdigit(asked->utf8[i])) {
+            digits++;
+            if (!is_behind && digits > 20) is_large = true;
+            if (is_behind && asked->utf8[i] != '0') needed = Max(needed, digits);
+        } else {
+            is_behind = asked->utf8[i] == '.';
+            digits = 0;
+        }
     }
-    return false;
+    return is_large ? Min(needed, MOST_PLACES) : MOST_PLACES;
 }
 
-/* The value of a text under a modifier. Each value of wkt(n) is one of wkt too, so that a column of either takes what the
- * other holds, as when a dump is restored: its numbers fit with 18 places. */
+/* The value of a text under a modifier: one that any places up to it read, since more leave less room before the point. So
+ * each value of wkt(n) is one of wkt, and a column of either takes what the other holds, as when a dump is restored. */
 static bool has_value(Question *asked, int32 modifier, text **answer) {
-    asked->places = places_of_modifier(modifier);
-    if (!canonical_of(asked, answer)) return false;
-    if (asked->places == MOST_PLACES || !has_long_number(VARDATA(*answer), VARSIZE(*answer) - VARHDRSZ)) return true;
-    asked->places = MOST_PLACES;
-    return canonical_of(asked, NULL);
+    uint32_t places = asked->places = places_of_modifier(modifier);
+    if (canonical_of(asked, answer)) return true;
+    asked->places = Min(places, places_needed(asked));
+    if (asked->places < places && canonical_of(asked, answer)) return true;
+    asked->places = places;
+    return false;
 }
 
 static Datum value_of(Node *context, Question asked, int32 modifier) {
@@ -94,9 +99,9 @@ Datum pg_wkt_cast(PG_FUNCTION_ARGS) {
 /* The value of a text; null where it is refused. */
 PG_FUNCTION_INFO_V1(pg_wkt_or_null);
 Datum pg_wkt_or_null(PG_FUNCTION_ARGS) {
-    Question asked = question_of_text(PG_GETARG_TEXT_PP(0), MOST_PLACES);
+    Question asked = question_of_text(PG_GETARG_TEXT_PP(0), places_of(PG_GETARG_INT32(1)));
     text *answer;
-    if (!has_value(&asked, (int32)places_of(PG_GETARG_INT32(1)), &answer)) PG_RETURN_NULL();
+    if (!canonical_of(&asked, &answer)) PG_RETURN_NULL();
     PG_RETURN_TEXT_P(answer);
 }
 

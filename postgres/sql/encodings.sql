@@ -1,4 +1,4 @@
--- A database in LATIN1: texts are converted, and so is what wkt_explain gives back
+-- A database in LATIN1: places are characters, and wkt_explain gives them back
 CREATE DATABASE wkt_latin1 ENCODING 'LATIN1' LOCALE 'C' TEMPLATE template0;
 \c wkt_latin1
 \encoding UTF8
@@ -9,19 +9,37 @@ SELECT wkt_canonical(U&'P\00D6INT(1 2)');
 SELECT wkt_canonical(U&'GEOMETRYCOLLECTION(POINT(1 2),\00D6\00D6(1 2))');
 SELECT wkt_explain(U&'POINT(1 2) \00D6\00E9');
 SELECT wkt_explain(U&'LINESTRING(1 2,\00D6\00E9 3)');
--- A database in SQL_ASCII: any bytes; those that aren't UTF-8 are refused
+-- Others: what isn't ASCII is refused where it stands, also without an equivalent in UTF-8. In SQL_ASCII it is any bytes.
+\set asked 'SELECT wkt_reads(t), wkt_or_null(t) IS NULL AS none, wkt_kind(t), wkt_explain(t) = t || E''\\n           ^ the end of the text was expected'' AS the_end, wkt_explain(:it) = :it || E''\\n^ a kind of geometry, such as POINT, was expected'' AS a_kind FROM (SELECT ''POINT(1 2) '' || :it) a(t); SELECT wkt_canonical(:it); SELECT wkt_same(''POINT(1 2)'', :it); SELECT :it::text::wkt;'
 \c contrib_regression
+CREATE DATABASE wkt_win1252 ENCODING 'WIN1252' LOCALE 'C' TEMPLATE template0;
+CREATE DATABASE wkt_euc_jp ENCODING 'EUC_JP' LOCALE 'C' TEMPLATE template0;
+CREATE DATABASE wkt_mule ENCODING 'MULE_INTERNAL' LOCALE 'C' TEMPLATE template0;
 CREATE DATABASE wkt_sql_ascii ENCODING 'SQL_ASCII' LOCALE 'C' TEMPLATE template0;
+\set VERBOSITY sqlstate
+\c wkt_win1252
+CREATE EXTENSION wkt;
+\set it 'E''\\x81'''
+:asked
+\c wkt_euc_jp
+CREATE EXTENSION wkt;
+\set it 'E''\\xa2\\xaf'''
+:asked
+SELECT wkt_explain(E'LINESTRING(1 2,\xa4\xa2\xa2\xaf\x8f\xb0\xa1\t3)') = E'LINESTRING(1 2,\xa4\xa2\xa2\xaf\x8f\xb0\xa1\t3)\n               ^ a first number was expected' AS the_place,
+    wkt_explain(E'\n\xa4\xa2\t\xa4\xa2\nPOINT(1 2)\xa4\xa2') = E'\xa4\xa2\t\xa4\xa2\n^ a kind of geometry, such as POINT, was expected' AS the_line,
+    wkt_explain('POINT(1 2) ' || repeat(E'\xa4\xa2', 70)) = 'POINT(1 2) ' || repeat(E'\xa4\xa2', 60) || E'..\n           ^ the end of the text was expected' AS the_front;
+\c wkt_mule
+CREATE EXTENSION wkt;
+\set it 'E''\\x81\\xd6'''
+:asked
 \c wkt_sql_ascii
-\encoding SQL_ASCII
 CREATE EXTENSION wkt;
 SELECT wkt_canonical('point(1 2.0)'), 'point(1 2.0)'::wkt;
-SELECT octet_length(E'P\xc3\x96INT'), wkt_reads(E'P\xc3\x96INT(1 2)'), wkt_reads(E'P\xd6INT(1 2)'), wkt_kind(E'POINT(1 2)\xd6') IS NULL AS none;
-\set VERBOSITY terse
-SELECT wkt_canonical(E'P\xc3\x96INT(1 2)') IS NULL;
-\set VERBOSITY default
-SELECT wkt_explain(E'P\xd6INT(1 2)');
-SELECT wkt_explain(E'POINT(1 2) \xc3\x96') = E'POINT(1 2) \xc3\x96\n           ^ the end of the text was expected' AS the_end;
+\set it 'E''\\xd6\\xc3\\x96'''
+:asked
 \c contrib_regression
 DROP DATABASE wkt_latin1;
+DROP DATABASE wkt_win1252;
+DROP DATABASE wkt_euc_jp;
+DROP DATABASE wkt_mule;
 DROP DATABASE wkt_sql_ascii;

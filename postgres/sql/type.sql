@@ -3,13 +3,15 @@ CREATE EXTENSION wkt;
 SELECT 'point ( 1.0 2 )'::wkt, 'POINT(1 2)'::wkt = 'point(1 2.0)', wkt_kind('POINT Z(1 2 3)'::wkt);
 SELECT 'POINT(1.1234560 2)'::wkt(6), pg_typeof('POINT(1 2)'::wkt), pg_column_size('POINT(1 2)'::wkt);
 SELECT format_type('wkt'::regtype, 6), format_type('wkt'::regtype, -1);
--- A value of wkt(6) is one of wkt: what doesn't fit with 18 places is refused, as a literal, as a text and of a function
+-- A value of wkt(6) is one of wkt: a number that its places are too many for is taken where fewer hold it, as the text has
 SELECT 'POINT(200000000000000000000 2)'::wkt(6);
 SELECT ('point(200000000000000000000.0 2)'::text)::wkt(6);
 SELECT ('point(170141183460469231731.687303 2)'::text)::wkt(6);
 SELECT ('point(170141183460469231731.687304 2)'::text)::wkt(6);
+SELECT ('point(200000000000000000000.0 2)'::text)::wkt, wkt_or_null('point(200000000000000000000.0 2)', 6)::wkt, wkt_reads('point(200000000000000000000.0 2)');
+SELECT 'POINT(200000000000000000000 0.123456789012345678)'::wkt;
 SELECT wkt_canonical('point(200000000000000000000.0 2)', 6);
-SELECT ('LINESTRING(' || repeat('12345678901234567890 1234567890.123456, ', 100) || '200000000000000000000 2)')::wkt(6);
+SELECT ('LINESTRING(' || repeat('12345678901234567890 1234567890.123456, ', 100) || '170141183460469231731687303715884.123456 2)')::wkt(6);
 -- Modifiers that a declaration doesn't take
 SELECT wkt_in('POINT(1 2)', 0, 300);
 SELECT wkt_in('POINT(1 2)', 0, 261);

@@ -28,7 +28,8 @@ ways=(literal text COPY "binary COPY" array "parameter in text" "parameter in bi
 for way in "${ways[@]}"; do
     is "dump: $way" "POINT(1 2.5)" "$(sent "$way" 'point ( 1.0 +2.50 )')"
     is "dump: $way, the largest" "$most" "$(sent "$way" "$most")"
-    for text in "$large" "POINT(170141183460469231732 2)" "POINT(1.1234567 2)"; do
+    is "dump: $way, a larger one" "$large" "$(sent "$way" "$large")"
+    for text in "POINT(170141183460469231731687303715884.123456 2)" "POINT(1.1234567 2)"; do
         said=$(sent "$way" "$text") || true
         [[ $said == *'invalid well-known text: "'* ]] || wrong "dump: $way: $text: $said"
     done
@@ -42,7 +43,7 @@ for sql in "plain values (('$large'::text)::wkt(6))" "plain select ('$large'::te
     "parted values ('$large'::text::wkt(6))" "parted values ('$most')"; do
     ask dumped "insert into $sql" > "$dir/said" 2>&1 || grep -q 'invalid well-known text: "' "$dir/said" || wrong "dump: $sql: $(cat "$dir/said")"
 done
-for sql in "parted for values in ('$large'::text::wkt(6))" "ranged for values from (minvalue) to ('$large'::text::wkt(6))" "parted for values in ('point(1 2.0)', null)"; do
+for sql in "parted for values in ('${large/2/3}'::text::wkt(6))" "ranged for values from (minvalue) to ('$large'::text::wkt(6))" "parted for values in ('point(1 2.0)', null)"; do
     ask dumped "create table part_$((parts = ${parts:-0} + 1)) partition of $sql" > "$dir/said" 2>&1 ||
         grep -q 'invalid well-known text: "' "$dir/said" || wrong "dump: $sql: $(cat "$dir/said")"
 done
