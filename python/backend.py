@@ -2,12 +2,12 @@
 build_editable.
 
 A wheel has wkt/, the shared library, the command `wkt`, and `wkt/_fast.abi3.so` where the Python that builds is 3.11 or
-later
-and has its headers: it then serves 3.11 and each later Python. WKT_FAST=0 makes one for Python 3.8 on, which calls the
-library by ctypes alone; WKT_FAST=1 fails where the fast module can't be compiled. WKT_LIB_DIR names the folder with
-libwkt.so, and with the command `wkt` if it has one; without it capi/build.sh and dist/Makefile make both of the proved
-objects, in a second and without the prover. CC names the C compiler; CFLAGS and LDFLAGS are those of the fast module
-and of the command.
+later, has its headers, and isn't free-threaded: it then serves 3.11 and each later Python. Where that module can't be
+compiled, a line on stderr says why, and the wheel is for Python 3.8 on and calls the library by ctypes alone.
+WKT_FAST=0 makes that wheel too, and WKT_FAST=1 fails where the module can't be compiled. WKT_LIB_DIR names the folder
+with libwkt.so, and with the command `wkt` if it has one; without it capi/build.sh and dist/Makefile make both of the
+proved objects, in a second and without the prover. CC names the C compiler; CFLAGS and LDFLAGS are those of the fast
+module and of the command.
 
 A source package has the proved objects and the C files in native/, so it needs neither a clone nor the prover.
 The bytes of a package depend on its files alone; its times are SOURCE_DATE_EPOCH, or 1980.
@@ -101,6 +101,17 @@ def _flags(name):
     return shlex.split(os.environ.get(name, ""))
 
 
+def _lacking(compiler, headers):
+    """What the fast module needs and isn't there, or None."""
+    if sys.version_info < (3, 11):
+        return "Python 3.11"
+    if sysconfig.get_config_var("Py_GIL_DISABLED"):
+        return "a Python with the global interpreter lock"
+    if not os.path.exists(os.path.join(headers, "Python.h")):
+        return "Python.h"
+    return None if shutil.which(compiler[0]) else "a C compiler"
+
+
 def _compiled(folder):
     """The fast module, compiled, or None."""
     wanted = os.environ.get("WKT_FAST", "")
@@ -108,24 +119,17 @@ def _compiled(folder):
     compiler = shlex.split(os.environ.get("CC", "cc"))
     if wanted == "0":
         return None
-    lacks = None
-    if sys.version_info < (3, 11):
-        lacks = "Python 3.11"
-    elif not os.path.exists(os.path.join(headers, "Python.h")):
-        lacks = "Python.h"
-    elif not shutil.which(compiler[0]):
-        lacks = "a C compiler"
-    if lacks and wanted:
-        raise SystemExit("the fast module needs " + lacks)
-    if lacks:
-        return None
     made = os.path.join(folder, "_fast.abi3.so")
     words = ["-O2", "-fPIC", "-fvisibility=hidden", "-fstack-protector-strong", *_flags("CFLAGS"), "-I", headers]
-    sources = sorted(glob.glob(os.path.join(here, "src", "*.c")))
-    subprocess.run(
-        [*compiler, *words, *sources, "-shared", "-Wl,-z,relro,-z,now", *_flags("LDFLAGS"), "-o", made], check=True
-    )
-    return made
+    words += [*sorted(glob.glob(os.path.join(here, "src", "*.c"))), "-shared", "-Wl,-z,relro,-z,now"]
+    lacks = _lacking(compiler, headers)
+    if not lacks and not subprocess.run([*compiler, *words, *_flags("LDFLAGS"), "-o", made], check=False).returncode:
+        return made
+    why = "the fast module needs " + lacks if lacks else "the fast module doesn't compile"
+    if wanted:
+        raise SystemExit(why)
+    print("wkt: %s; the package goes without it, and calls the library by ctypes" % why, file=sys.stderr)
+    return None
 
 
 def _built(folder):

@@ -6,6 +6,9 @@
 #define Py_LIMITED_API 0x030b0000
 #include <Python.h>
 #include <stdint.h>
+#ifdef Py_GIL_DISABLED
+#error "wkt._fast relies on the global interpreter lock: free-threaded Python goes without it"
+#endif
 
 struct ArrowSchema {
     const char *format, *name, *metadata;
@@ -30,6 +33,31 @@ struct ArrowArrayStream {
     void (*release)(struct ArrowArrayStream *);
     void *private_data;
 };
+
+/* An error that is raised already is set aside while code of others runs, which may call Python, and is raised again. What
+ * goes wrong meanwhile is shown, as in a __del__. */
+typedef struct {
+    PyObject *kind, *value, *trace;
+} Aside;
+static inline Aside set_aside(void) {
+    Aside it;
+    PyErr_Fetch(&it.kind, &it.value, &it.trace);
+    return it;
+}
+static inline void raise_again(Aside it) {
+    if (PyErr_Occurred() != NULL) PyErr_WriteUnraisable(NULL);
+    PyErr_Restore(it.kind, it.value, it.trace);
+}
+
+/* The end of a capsule that owns a structure: what it holds is released, if nobody took it. */
+#define END_OF_CAPSULE(end, structure, name) \
+    static void end(PyObject *capsule) { \
+        Aside raised = set_aside(); \
+        struct structure *held = PyCapsule_GetPointer(capsule, name); \
+        if (held->release != NULL) held->release(held); \
+        free(held); \
+        raise_again(raised); \
+    }
 
 /* arrow_in.c: what others lend */
 PyObject *arrow_array(PyObject *self, PyObject *args);

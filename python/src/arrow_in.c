@@ -46,11 +46,7 @@ PyObject *arrow_lent(const void *data, Py_ssize_t length, PyObject *owner) {
 
 static const char *const array_name = "wkt.array", *const stream_name = "wkt.stream";
 
-static void free_array(PyObject *capsule) {
-    struct ArrowArray *array = PyCapsule_GetPointer(capsule, array_name);
-    if (array->release != NULL) array->release(array);
-    free(array);
-}
+END_OF_CAPSULE(free_array, ArrowArray, array_name)
 
 /* A capsule that owns an array, which is still empty. */
 static PyObject *new_array(struct ArrowArray **array) {
@@ -168,16 +164,20 @@ typedef struct {
 } Stream;
 
 static void free_stream(PyObject *capsule) {
+    Aside raised = set_aside();
     Stream *stream = PyCapsule_GetPointer(capsule, stream_name);
     if (stream->schema.release != NULL) stream->schema.release(&stream->schema);
     if (stream->stream.release != NULL) stream->stream.release(&stream->stream);
     free(stream);
+    raise_again(raised);
 }
 
 /* The error of a producer: its number, and its words where it has some. */
 static void say(struct ArrowArrayStream *stream, int error) {
+    Aside raised = set_aside();
     const char *words = stream->get_last_error(stream);
     PyObject *value;
+    raise_again(raised);
     if (error == ENOMEM) {
         PyErr_NoMemory();
         return;
@@ -192,6 +192,7 @@ PyObject *arrow_stream(PyObject *self, PyObject *capsule) {
     struct ArrowArrayStream *given = PyCapsule_GetPointer(capsule, "arrow_array_stream");
     PyObject *owner, *about = NULL;
     Stream *mine;
+    Aside raised;
     int error;
     (void)self;
     if (given == NULL) return NULL;
@@ -206,9 +207,11 @@ PyObject *arrow_stream(PyObject *self, PyObject *capsule) {
     }
     mine->stream = *given;
     given->release = NULL;
+    raised = set_aside();
     Py_BEGIN_ALLOW_THREADS
     error = mine->stream.get_schema(&mine->stream, &mine->schema);
     Py_END_ALLOW_THREADS
+    raise_again(raised);
     if (error != 0) {
         mine->schema.release = NULL;
         say(&mine->stream, error);
@@ -226,12 +229,15 @@ PyObject *arrow_next(PyObject *self, PyObject *capsule) {
     Stream *stream = PyCapsule_GetPointer(capsule, stream_name);
     struct ArrowArray *array;
     PyObject *owner, *texts = NULL;
+    Aside raised;
     int error;
     (void)self;
     if (stream == NULL || (owner = new_array(&array)) == NULL) return NULL;
+    raised = set_aside();
     Py_BEGIN_ALLOW_THREADS
     error = stream->stream.get_next(&stream->stream, array);
     Py_END_ALLOW_THREADS
+    raise_again(raised);
     if (error != 0) {
         array->release = NULL;
         say(&stream->stream, error);

@@ -106,10 +106,13 @@ static void release_array(struct ArrowArray *array) {
         if (part->children[i]->release != NULL) part->children[i]->release(part->children[i]);
     if (part->held > 0) {
         PyGILState_STATE state;
+        Aside raised;
         if (!Py_IsInitialized()) return;
         state = PyGILState_Ensure();
+        raised = set_aside();
         for (int i = 0; i < part->held; i++)
             if (part->views[i].obj != NULL) PyBuffer_Release(&part->views[i]);
+        raise_again(raised);
         PyGILState_Release(state);
     }
     free(part->children);
@@ -153,14 +156,6 @@ failed:
     release_array(array);
     return -1;
 }
-
-/* The end of a capsule whose structure nobody took: it is released. */
-#define END_OF_CAPSULE(end, structure, name) \
-    static void end(PyObject *capsule) { \
-        struct structure *held = PyCapsule_GetPointer(capsule, name); \
-        if (held->release != NULL) held->release(held); \
-        free(held); \
-    }
 
 END_OF_CAPSULE(free_schema, ArrowSchema, "arrow_schema")
 END_OF_CAPSULE(free_array, ArrowArray, "arrow_array")
@@ -229,10 +224,13 @@ static int ended(StreamPart *part) {
 static int stream_schema(struct ArrowArrayStream *stream, struct ArrowSchema *out) {
     StreamPart *part = stream->private_data;
     PyGILState_STATE state;
+    Aside raised;
     int error = 0;
     if (!Py_IsInitialized()) return ended(part);
     state = PyGILState_Ensure();
+    raised = set_aside();
     if (make_schema(part->type, out) < 0) error = kept(part);
+    raise_again(raised);
     PyGILState_Release(state);
     return error;
 }
@@ -241,13 +239,16 @@ static int stream_next(struct ArrowArrayStream *stream, struct ArrowArray *out) 
     StreamPart *part = stream->private_data;
     PyGILState_STATE state;
     PyObject *tree;
+    Aside raised;
     int error = 0;
     if (!Py_IsInitialized()) return ended(part);
     state = PyGILState_Ensure();
+    raised = set_aside();
     out->release = NULL;
     tree = PyIter_Next(part->arrays);
     if (tree == NULL ? PyErr_Occurred() != NULL : make_array(tree, out) < 0) error = kept(part);
     Py_XDECREF(tree);
+    raise_again(raised);
     PyGILState_Release(state);
     return error;
 }
@@ -260,11 +261,14 @@ static const char *stream_error(struct ArrowArrayStream *stream) {
 static void release_stream(struct ArrowArrayStream *stream) {
     StreamPart *part = stream->private_data;
     PyGILState_STATE state;
+    Aside raised;
     stream->release = NULL;
     if (!Py_IsInitialized()) return;
     state = PyGILState_Ensure();
+    raised = set_aside();
     Py_DECREF(part->type);
     Py_DECREF(part->arrays);
+    raise_again(raised);
     PyGILState_Release(state);
     free(part);
 }

@@ -213,6 +213,14 @@ static PyObject *gathered(const Cell *cells, int64_t rows) {
     return NULL;
 }
 
+/* Whether a row of a table is null as a whole. A producer may give bits that are all 1. */
+static int has_nulls(const struct ArrowArray *table) {
+    if (table->n_buffers < 1 || table->buffers == NULL) return 0;
+    for (int64_t i = 0; i < table->length; i++)
+        if (is_null(table, table->offset + i)) return 1;
+    return 0;
+}
+
 /* The array of the column in a struct, and the row of it at which the struct's begin. */
 static const struct ArrowArray *column_in(const struct ArrowArray *table, int64_t *first) {
     const struct ArrowArray *column = table->n_children == 1 && table->children != NULL ? table->children[0] : NULL;
@@ -222,7 +230,10 @@ static const struct ArrowArray *column_in(const struct ArrowArray *table, int64_
     } else if (table->length < 0 || table->offset < 0) {
         wrong("the table's length or its offset");
         column = NULL;
-    } else if (table->null_count != 0 && table->n_buffers > 0 && table->buffers != NULL && table->buffers[0] != NULL) {
+    } else if (table->offset > column->length || table->length > column->length - table->offset) {
+        wrong("it is shorter than its table");
+        column = NULL;
+    } else if (has_nulls(table)) {
         wrong("rows of the table are null as a whole");
         column = NULL;
     }

@@ -221,8 +221,11 @@ static void make_array(const char *format, PyObject *rows, int first, const char
         const void **buffers = keep_in(part, sizeof *buffers);
         column = part->children[0] = &part->child;
         column->release = release_array;
-        buffers[0] = is(spoil, "table_nulls") ? keep_in(part, 8) : NULL;
-        array->null_count = is(spoil, "table_nulls") ? -1 : 0;
+        int nulls = is(spoil, "table_nulls"), bits = nulls || is(spoil, "table_bits");
+        Py_ssize_t size = (PyList_Size(rows) + 7) / 8;
+        buffers[0] = bits ? memset(keep_in(part, (size_t)size), 255, (size_t)size) : NULL;
+        if (nulls) ((uint8_t *)buffers[0])[(PyList_Size(rows) - 1) / 8] ^= (uint8_t)(1 << (PyList_Size(rows) - 1) % 8);
+        array->null_count = bits ? -1 : 0;
         array->buffers = buffers, array->n_buffers = 1, array->n_children = is(spoil, "no_column") ? 0 : 1;
         array->children = part->children;
         format += 2;

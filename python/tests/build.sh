@@ -67,6 +67,22 @@ mkdir "$work/again" && (cd "$work/clone/python" && "$python" -m build -s --no-is
 cmp "$work"/built/*.tar.gz "$work"/again/*.tar.gz || fail "two source packages have other bytes"
 echo "two wheels, and that of the source package, have the same bytes"
 
+# Where the fast module can't be compiled, the wheel goes without it, and says so; WKT_FAST=1 fails. A Python without its
+# lock is one whose configuration says so, or whose headers do.
+# without WORDS CODE [VARIABLE=VALUE..]
+without() {
+    local built
+    built=$(cd "$work/clone/python" && env "${@:3}" "$python" -c "$2; import sys, backend; print(backend.build_wheel(sys.argv[1]))" "$work" 2> "$work/said") || { cat "$work/said"; fail "no wheel: $1"; }
+    grep -q "^wkt: the fast module $1; the package goes without it, and calls the library by ctypes\$" "$work/said" || { cat "$work/said"; fail "not said: $1"; }
+    compgen -G "$work/wkt_proved-*-py3-none-*.whl" > /dev/null || fail "$1: it is $built"
+    rm "$work"/wkt_proved-*.whl
+    ! (cd "$work/clone/python" && env WKT_FAST=1 "${@:3}" "$python" -c "$2; import sys, backend; backend.build_wheel(sys.argv[1])" "$work") > "$work/said" 2>&1 || fail "WKT_FAST=1: $1"
+    grep -q "^the fast module $1\$" "$work/said" || { cat "$work/said"; fail "WKT_FAST=1, not said: $1"; }
+}
+without 'needs a Python with the global interpreter lock' 'import sysconfig; sysconfig.get_config_vars()["Py_GIL_DISABLED"] = 1'
+without "doesn't compile" pass CFLAGS=-DPy_GIL_DISABLED=1
+echo "without the fast module it is built too"
+
 wheel flags CFLAGS='-g -O1' LDFLAGS=-Wl,-soname,named
 (cd "$work/flags" && "$python" -m zipfile -e ./*.whl . && readelf -SdW wkt/_fast.abi3.so) > "$work/said"
 grep -q debug_info "$work/said" && grep -q 'soname: \[named\]' "$work/said" || fail "CFLAGS and LDFLAGS aren't taken"

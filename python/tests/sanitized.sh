@@ -1,22 +1,34 @@
 #!/usr/bin/env bash
 # sanitized.sh LIBWKT.SO: wkt._fast and the producer of the tests, compiled under AddressSanitizer and UBSan, with allocations
-# that can be refused, and the tests of columns over them. PYTHON names another Python.
+# that can be refused, and for the interpreter with assertions (python3-dbg), and the tests over them. PYTHON names another
+# Python, of which PYTHON-dbg is the one with assertions; SKIP=dbg where that is lacking.
 set -eu
 here=$(cd "$(dirname "$0")" && pwd)
 python=${PYTHON:-/usr/bin/python3}
 work=$(mktemp -d)
 trap 'rm -rf "$work"' EXIT
-flags=(-g -O1 -Wall -Wextra "-fsanitize=address,undefined" -fno-sanitize-recover=undefined -fno-omit-frame-pointer -fPIC -shared
-    -I"$("$python" -c 'import sysconfig; print(sysconfig.get_paths()["include"])')")
-cp -r "$here/../wkt" "$work"
-rm -f "$work"/wkt/*.so
-cd "$work"
-gcc "${flags[@]}" -DIN_FAST -c "$here/refuse.c" -o refused.o
-gcc "${flags[@]}" -fvisibility=hidden -Dcalloc=refused_calloc -Dfree=refused_free "$here"/../src/*.c refused.o -o wkt/_fast.abi3.so
-gcc "${flags[@]}" "$here/arrow_peer.c" -o arrow_peer.so
-gcc "${flags[@]}" "$here/refuse.c" -o refuse.so
+includes() { echo "-I$("$1" -c 'import sysconfig; print(sysconfig.get_paths()["include"])')"; }
+# tests NAME FOLDER ALLOWED COMMAND..: these tests with the package of that folder; what is skipped is one of ALLOWED
+tests() {
+    (cd "$2" && PYTHONPATH="$2:$here" "${@:4}" > said 2>&1) || { cat "$2/said"; echo "$1: the tests fail"; exit 1; }
+    ! grep -E "skipped '|ERROR: AddressSanitizer|runtime error" "$2/said" | grep -vE "$3" || { echo "$1: a test was skipped, or something is wrong"; exit 1; }
+    echo "$1: $(grep '^Ran' "$2/said"), $(tail -n 1 "$2/said")"
+}
+export WKT_LIB=$1 PYTHONMALLOC=malloc
+
+asan=$work/asan dbg=$work/dbg
+mkdir "$asan" && cp -r "$here/../wkt" "$asan" && rm -f "$asan"/wkt/*.so && cp -r "$asan" "$dbg"
+flags=(-g -O1 -Wall -Wextra "-fsanitize=address,undefined" -fno-sanitize-recover=undefined -fno-omit-frame-pointer -fPIC -shared "$(includes "$python")")
+gcc "${flags[@]}" -DIN_FAST -c "$here/refuse.c" -o "$work/refused.o"
+gcc "${flags[@]}" -fvisibility=hidden -Dcalloc=refused_calloc -Dfree=refused_free "$here"/../src/*.c "$work/refused.o" -o "$asan/wkt/_fast.abi3.so"
+for name in arrow_peer refuse; do gcc "${flags[@]}" "$here/$name.c" -o "$asan/$name.so"; done
 # The process has the sanitizer's allocator from its start, and Python's own goes there.
-LD_PRELOAD="$(gcc -print-file-name=libasan.so) $(gcc -print-file-name=libubsan.so)" ASAN_OPTIONS=detect_leaks=0 UBSAN_OPTIONS=print_stacktrace=1 PYTHONMALLOC=malloc \
-    PYTHONPATH="$work:$here" WKT_LIB=$1 "$python" -W error -m unittest -v test_arrow test_arrow_lent test_pack > said 2>&1 || { cat said; echo "under sanitizers: the tests fail"; exit 1; }
-! grep -E "skipped|ERROR: AddressSanitizer|runtime error" said || { echo "under sanitizers: a test was skipped, or something is wrong"; exit 1; }
-echo "under sanitizers: $(grep '^Ran' said), $(tail -n 1 said)"
+tests "under sanitizers" "$asan" 'none' env LD_PRELOAD="$(gcc -print-file-name=libasan.so) $(gcc -print-file-name=libubsan.so)" ASAN_OPTIONS=detect_leaks=0 \
+    UBSAN_OPTIONS=print_stacktrace=1 "$python" -W error -m unittest -v test_arrow test_arrow_lent test_pack
+
+case ",${SKIP:-}," in *",dbg,"*) exit 0 ;; esac
+flags=(-g -O1 -Wall -Wextra -Werror -fPIC -shared "$(includes "$python-dbg")")
+gcc "${flags[@]}" -fvisibility=hidden "$here"/../src/*.c -o "$dbg/wkt/_fast.abi3.so"
+gcc "${flags[@]}" "$here/arrow_peer.c" -o "$dbg/arrow_peer.so"
+tests "with assertions" "$dbg" 'only under sanitizers' env PYTHONMALLOC=debug "$python-dbg" -X dev -W error -m unittest -v \
+    test_arrow test_arrow_lent test_pack test_geoarrow test_streams test_words test_arguments

@@ -96,6 +96,24 @@ class Numbers(unittest.TestCase):
         with self.assertRaises(ValueError):
             wkt.from_arrays(wkt.Arrays("Dot", "XY", [1, 2], *POINT))
 
+    def test_too_few(self):
+        arrays = wkt.Arrays("Point", "XY", [1, 2], *POINT)
+        rows = [tuple(arrays[:5]), list(arrays[:5]), None, arrays]
+        self.assertEqual(wkt.from_arrays(rows, 0), ["POINT(1 2)"] * 2 + [None, "POINT(1 2)"])
+        five = "Arrays are kind, dimension, numbers, rings and polygons, and not "
+        for count in range(5):
+            for given, words in ((arrays[:count], five), ([None, arrays[:count]], "row 1: " + five)):
+                with self.assertRaises(TypeError) as raised:
+                    wkt.from_arrays(given)
+                self.assertEqual(str(raised.exception), words + "%d of them" % count)
+        for wrong in ("Point", 5, b"POINT", {"kind": "Point"}):
+            with self.assertRaises(TypeError) as raised:
+                wkt.from_arrays([arrays, wrong])
+            self.assertEqual(str(raised.exception), "row 1: " + five + type(wrong).__name__)
+        with self.assertRaises(TypeError) as raised:
+            wkt.from_arrays_column(arrays)
+        self.assertEqual(str(raised.exception), "a column of arrays is wkt.ColumnArrays, and not Arrays")
+
     @unittest.skipIf(numpy is None, "no NumPy")
     def test_numpy(self):
         for name in ("int8", "int16", "int32", "int64", "uint8", "uint16", "uint32", "uint64", ">i8", "<u4"):

@@ -1,9 +1,13 @@
 """Columns that others lend by Arrow's C interfaces: what is taken, and what is refused."""
+import collections
+import gc
 import unittest
 import unittest.mock
 
 import wkt
-from arrow_columns import ANSWERS, FORMATS, HELD, NAMED, TEXTS, Arrow, Lent, Streamed, arrow_peer, made, rows_in
+from arrow_columns import (
+    ANSWERS, FORMATS, HELD, NAMED, TEXTS, Arrow, Called, Lent, Streamed, arrow_peer, made, rows_in,
+)  # fmt: skip
 
 if arrow_peer is not None:
     import numpy
@@ -26,6 +30,9 @@ class Taken(Arrow):
             for first in range(20):
                 answers = wkt.canonical(Lent(rows, format, first), invalid="null")
                 self.assertEqual(answers.to_pylist(), (ANSWERS * 6)[first:37])
+        for count in range(20):  # a table with bits, none of which says that a row is null
+            column = Lent(HELD[2:3] * count, "+su", count // 2, "table_bits")
+            self.assertEqual(wkt.canonical(column).to_pylist(), ANSWERS[2:3] * (count - count // 2))
         none = wkt.canonical(Lent([None] * 9), invalid="null")
         self.assertEqual((none.to_pylist(), none.statuses.tolist()), ([None] * 9, [28] * 9))
         self.assertEqual(wkt.canonical(Lent(HELD, spoil="unknown_nulls"), invalid="null").to_pylist(), ANSWERS)
@@ -134,7 +141,7 @@ class Refused(Arrow):
         indexed = "length offset no_buffers nulls no_bits no_offsets index index_below dictionary"
         cases += [("i:u", spoil) for spoil in indexed.split()]
         cases += [("L:u", "index"), ("L:u", "index_below"), ("c:u", "index_below"), ("C:u", "index_below")]
-        cases += [("+su", spoil) for spoil in ("table_nulls", "no_column", "short")]
+        cases += [("+su", spoil) for spoil in ("table_nulls", "no_column", "short", "length", "long")]
         for format, spoil in cases:
             with self.subTest(format=format, spoil=spoil):
                 first = int(spoil != "below")
@@ -175,6 +182,57 @@ class Refused(Arrow):
             self.assertEqual(raised.exception.errno, 5)
         with self.assertRaises(MemoryError):
             wkt.canonical(Streamed([HELD, HELD], spoil="no_next"), invalid="null")
+
+    def test_callbacks_in_python(self):
+        """What a producer calls in Python sees no error of ours, and hides none."""
+
+        def counts(name):
+            self.seen[name] += len(str(name).split()) > 0
+
+        def fails(name):
+            counts(name)
+            if "release" in name:  # what another returns after an error means nothing to ctypes
+                raise KeyError(name)
+
+        cases = [
+            (dict(), None, ""),
+            (dict(ends=(0, -10)), ValueError, "offsets"),
+            (dict(ends=(5, 3)), ValueError, "offsets"),
+            (dict(format=b"l"), TypeError, "and not of l"),
+        ]
+        for given, error, words in cases:
+            for seen in (counts, fails):
+                for streamed in (False, True):
+                    with self.subTest(given, streamed=streamed, seen=seen.__name__):
+                        self.called(Called(seen, **given), streamed, error, words)
+        self.called(Called(counts, error=5), True, OSError, "the Arrow stream: gone \\x1b[2J \\u{202e}")
+        self.called(Called(counts, b"ts\x1b"), False, TypeError, "and not of ts\\x1b")
+
+    def called(self, producer, streamed, error, words):
+        self.seen = collections.Counter()
+        shown = []
+        with unittest.mock.patch("sys.unraisablehook", lambda it: shown.append(repr(it.exc_value))):
+            column = producer.stream() if streamed else producer
+            if error is None:
+                # Dropped while another error is raised.
+                with self.assertRaises(ZeroDivisionError):
+                    held = [wkt._arrow.taken(column)]
+                    try:
+                        list(held[0].chunks)
+                    finally:
+                        held.append(held.clear() or 1 / 0)
+            else:
+                with self.assertRaises(error) as raised:
+                    wkt.canonical(column)
+                self.assertIn(words, str(raised.exception))
+                del raised
+            gc.collect()
+        if streamed:
+            self.assertEqual(self.seen["release schema"], 1)
+            self.assertEqual(self.seen["release stream"], 1)
+        if error is not TypeError:
+            self.assertEqual(self.seen["release array"], int(error is not OSError))
+        self.assertTrue(all("KeyError" in it for it in shown), shown)
 
     def test_own_buffers(self):
         """Buffers that a user makes of the wrong type, length or order."""

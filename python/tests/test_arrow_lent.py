@@ -1,4 +1,6 @@
 """Columns that are lent by Arrow's C interfaces: what a consumer takes, when that ends, and memory that runs out."""
+import copy
+import pickle
 import subprocess
 import sys
 import unittest
@@ -69,6 +71,70 @@ class Given(Arrow):
             with self.assertRaises(IndexError):
                 column[wrong]
         self.assertEqual(repr(made(["POINT(1 2)", None])), "<wkt.ArrowTexts: 2 rows, 1 null: ['POINT(1 2)', None]>")
+
+    def test_copies(self):
+        """Copies are as the column is: nobody can write what is lent."""
+        column = made(TEXTS, NAMED)
+        copies = [column, copy.copy(column), copy.deepcopy(column), column[0:4], wkt.canonical(column, invalid="null")]
+        copies += [pickle.loads(pickle.dumps(column, i)) for i in range(2, pickle.HIGHEST_PROTOCOL + 1)]
+        for each in copies:
+            self.assertIs(type(each), wkt.ArrowTexts)
+            self.assertEqual(each.metadata, NAMED)
+            for values in (each.data, each.offsets, each.statuses):
+                with self.assertRaises(ValueError):
+                    values.flags.writeable = True
+                with self.assertRaises(ValueError):
+                    values[0] = 1
+        for each in copies[:3] + copies[5:]:
+            self.assertEqual((each.to_pylist(), each.statuses.tolist()), (TEXTS, column.statuses.tolist()))
+            self.assertEqual(rows_in(arrow_peer.take(*each.__arrow_c_array__())), TEXTS)
+
+    def test_subclasses_that_lie(self):
+        """What is lent is what the buffers hold."""
+
+        class Liar(wkt.ArrowTexts):
+            data = offsets = statuses = property(lambda self: numpy.zeros(1 << 20, numpy.int64))
+
+            def __len__(self):
+                return 1 << 40
+
+        column = made(TEXTS)
+        lies = Liar(*column._texts)
+        self.assertEqual(rows_in(arrow_peer.take(*lies.__arrow_c_array__())), TEXTS)
+        self.assertEqual(wkt.canonical(lies, invalid="null").to_pylist(), ANSWERS)
+
+        class Flat(numpy.ndarray):
+            ndim, dtype = 1, numpy.dtype("int64")
+
+        with self.assertRaises(TypeError):
+            wkt.ArrowTexts(column.data, column.offsets.reshape(-1, 1).view(Flat), column.statuses)
+
+    def test_geoarrow_that_is_wrong(self):
+        """Buffers that a user puts together, or changes, are lent only if they fit."""
+        right = wkt.to_arrays_column(["POLYGON((1 2,3 4,5 6,1 2))", None]).geoarrow()
+        rings, vertices = right.offsets
+        wrong = [dict(offsets=(rings, numpy.array(ends, numpy.int32))) for ends in ([0, 5], [0, -1], [-1, 4], [])]
+        wrong += [
+            dict(offsets=(rings, vertices.astype(numpy.int64))),
+            dict(offsets=(rings, vertices.reshape(1, -1))),
+            dict(offsets=(numpy.array([0, 2, 1], numpy.int32), vertices)),
+            dict(offsets=(rings,)),
+            dict(offsets=(rings, vertices, vertices)),
+            dict(coordinates=right.coordinates[:3]),
+            dict(coordinates=right.coordinates.reshape(-1)),
+            dict(dimension="XYZ"),
+            dict(dimension="XX"),
+            dict(extension="geoarrow.box"),
+            dict(valid=right.valid[:1]),
+        ]
+        for each in wrong:
+            with self.subTest(each), self.assertRaises(ValueError):
+                right._replace(**each).__arrow_c_array__()
+        lent = right.__arrow_c_array__()
+        vertices[:] = 1 << 30  # after it was lent
+        self.assertEqual(arrow_peer.take(*lent)[7][0][6][1], numpy.array([0, 4], numpy.int32).tobytes())
+        with self.assertRaises(ValueError):
+            right.__arrow_c_array__()
 
     def test_batches(self):
         chunks = [HELD, HELD[2:], []]

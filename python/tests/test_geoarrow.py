@@ -78,6 +78,63 @@ class GeoArrow(unittest.TestCase):
                     else:
                         self.assertEqual(got, wanted, text)
 
+    def test_empty_members(self):
+        """EMPTY in each place of each kind and dimension: the lists that a text was written of come back."""
+        make = random.Random(5)
+
+        def place(width):
+            return [make.randrange(-99, 99) / 4 for _ in range(width)]
+
+        def member(depth, width):
+            """A member with so many lists in it; [] is EMPTY. A polygon begins with a ring that isn't."""
+            if depth == 0:
+                return place(width)
+            held = [member(depth - 1, width) for _ in range(make.randrange(4))]
+            while depth == 2 and held and not held[0]:
+                del held[0]
+            return held
+
+        def point(width):
+            return make.choice([[], place(width)])
+
+        def written(it):
+            if not it:
+                return "EMPTY"
+            one = isinstance(it[0], float)
+            return " ".join("%g" % number for number in it) if one else "(%s)" % ",".join(map(written, it))
+
+        def inner(it, kind):
+            """The text of a value; a point of its own has parentheses."""
+            return "(%s)" % written(it) if it and kind == "Point" else written(it)
+
+        depths = {"LineString": 1, "Polygon": 2, "MultiLineString": 2, "MultiPolygon": 3}
+        for kind in wkt.KINDS[:6]:
+            for dimension in wkt.DIMENSIONS:
+                width = len(dimension)
+                head = (kind.upper() + " " + dimension[2:]).strip() + " "
+                if kind == "Point":
+                    rows = [point(width) for _ in range(60)]
+                elif kind == "MultiPoint":
+                    rows = [[point(width) for _ in range(make.randrange(4))] for _ in range(60)]
+                elif kind == "MultiLineString":
+                    rows = [[member(1, width) for _ in range(make.randrange(4))] for _ in range(60)]
+                else:
+                    rows = [member(depths[kind], width) for _ in range(60)]
+                texts = [head + inner(row, kind) for row in rows]
+                held = wkt.to_arrays_column([*texts, None], 2)
+                self.assertEqual(wkt.from_arrays_column(held)[0], [*wkt.canonical(texts), None])
+                self.assertEqual(wkt.from_arrays(wkt.to_arrays(texts, 2)), wkt.canonical(texts))
+                made = held.geoarrow()
+                mine = nested(made.coordinates.tolist(), [offsets.tolist() for offsets in made.offsets])
+                empty = [numpy.nan] * width
+                if "Point" in kind:
+                    rows = [row or empty if kind == "Point" else [it or empty for it in row] for row in rows]
+                numpy.testing.assert_equal(mine[:-1], rows)
+                numpy.testing.assert_equal(mine[-1], empty if kind == "Point" else [])
+        with self.assertRaises(ValueError):
+            held = wkt.to_arrays_column(["MULTIPOINT(1 2,3 4)"])
+            held._replace(rings=numpy.array([0, 2, 2], numpy.uint64)).geoarrow()
+
     def test_mixed(self):
         for texts in (["POINT(1 2)", "LINESTRING(1 2,3 4)"], ["POINT(1 2)", "POINT Z(1 2 3)"]):
             with self.assertRaises(ValueError):

@@ -1,4 +1,6 @@
-"""The buffers that are made of Python's rows, where the rows are out of the ordinary."""
+"""The buffers that are made of Python's values, where these are out of the ordinary."""
+import array
+import io
 import unittest
 
 import wkt
@@ -51,8 +53,6 @@ class Pack(unittest.TestCase):
     def test_offsets_that_are_wrong(self):
         if _blocks._fast is None:
             return
-        import array
-
         statuses = array.array("I", [0, 0])
         for ends in ([0, 3, 6], [-1, 2, 3], [0, 3, 2], [0, 3], [0, 1, 2, 3]):
             with self.assertRaises(ValueError):
@@ -78,6 +78,156 @@ class Pack(unittest.TestCase):
             self.assertEqual(refused.mask.tolist(), [False, True, False])
         square = numpy.ma.array([texts, texts], object, mask=[[True] * 3, [False, True, False]])
         self.assertEqual(wkt.canonical(square).mask.tolist(), square.mask.tolist())
+
+
+def liar(base, said):
+    """A class of `base` that says another length, and has other contents for whoever calls its methods."""
+
+    class Liar(base):
+        def __len__(self):
+            return said
+
+        def __bool__(self):
+            return said == 0
+
+        def __bytes__(self):
+            return liar(bytes, said)(b"POINT(9 9)")
+
+        def __iter__(self):
+            return iter("POINT(9 9)")
+
+        def __getitem__(self, index):
+            return self
+
+        def other(self, *given, **more):
+            return liar(bytes, said)(b"POINT(9 9)")
+
+        encode = decode = tobytes = find = rfind = count = startswith = endswith = join = split = other
+
+    return Liar
+
+
+def calls(text, other):
+    """What each call answers of a text, and of columns with it. Arrays as lists."""
+    columns = ([text, other, None], (text, other), [text] * 9)
+    plain = [wkt.canonical, wkt.infer, wkt.reads, wkt.lines, wkt.explain, lambda it: listed(wkt.to_arrays(it))]
+    for call in plain:
+        yield call(text)
+        yield [call(it) for it in columns]
+    yield wkt.same(text, other), wkt.same(other, text), wkt.same(list(columns[0]), text)
+    for column in columns:
+        yield wkt.canonical_column(column), [list(map(int, it)) for it in wkt.to_arrays_column(column)[:9]]
+
+
+def listed(arrays):
+    if isinstance(arrays, list):
+        return [it and listed(it) for it in arrays]
+    return arrays[:2] + tuple(list(map(int, it)) for it in arrays[2:5])
+
+
+class Liars(unittest.TestCase):
+    """Subclasses that say another length than their buffer has: the buffer counts."""
+
+    SAID = (0, 1, 5, 11, 1000, 1 << 24, 1 << 40)
+
+    def test_texts(self):
+        text, other = "point ( 1 2.50 )", "POINT(3 4)"
+        wanted = list(calls(text, other))
+        for said in self.SAID:
+            for base, given in ((str, text), (bytes, text.encode()), (bytearray, text.encode())):
+                with self.subTest(base=base, said=said):
+                    self.assertEqual(list(calls(liar(base, said)(given), other)), wanted)
+        # What was refused is said as of the text itself.
+        for said in self.SAID:
+            for base, refused in ((str, "POINT(1 \u00e4)"), (bytes, b"POINT(1 x)")):
+                with self.assertRaises(wkt.WktError) as raised:
+                    wkt.canonical(refused)
+                with self.assertRaises(wkt.WktError) as mine:
+                    wkt.canonical(liar(base, said)(refused))
+                self.assertEqual(str(mine.exception), str(raised.exception))
+                self.assertEqual(mine.exception.explanation, raised.exception.explanation)
+
+    def test_views(self):
+        """Views of other items, of a part, with gaps, and such as are gone."""
+        text = b"point(1 2)  "
+        for view in (
+            memoryview(text).cast("H"),
+            memoryview(array.array("I", text)),
+            memoryview(b"xx" + text)[2:],
+            memoryview(bytes(it for c in text for it in (c, 0)))[::2],
+            memoryview(text).cast("B", [3, 4]),
+        ):
+            self.assertEqual(wkt.canonical(view), "POINT(1 2)")
+            self.assertEqual(wkt.canonical([view, None]), ["POINT(1 2)", None])
+        gone = memoryview(text)
+        gone.release()
+        for given in (gone, [gone]):
+            with self.assertRaises(ValueError):
+                wkt.canonical(given)
+
+    def test_sources(self):
+        data = b"point(1 2)\nx\n"
+        for said in self.SAID:
+            for base in (bytes, bytearray):
+                pieces, sink = [liar(base, said)(data), data, b""], io.BytesIO()
+                source = type("Source", (), {"read": lambda self, size, it=iter(pieces): next(it)})()
+                self.assertEqual(wkt.stream(source, sink), 4)
+                self.assertEqual(sink.getvalue(), wkt.lines(data) * 2)
+
+    def test_numbers(self):
+        one = [0, 1]
+
+        class Numbers(array.array):
+            def __len__(self):
+                return 1 << 40
+
+            def buffer_info(self):
+                return (0, 1 << 40)
+
+        numbers = [Numbers("q", [1, 2])]
+        if numpy is not None:
+
+            class Arrays(numpy.ndarray):
+                size = nbytes = itemsize = property(lambda self: 1 << 40)
+
+                def __len__(self):
+                    return 1 << 40
+
+                def tobytes(self, order="C"):
+                    return b"12"
+
+            numbers += [numpy.array([1, 2], kind).view(Arrays) for kind in ("int64", "int32")]
+        for given in numbers:
+            self.assertEqual(wkt.from_arrays(wkt.Arrays("Point", "XY", given, one, one), 0), "POINT(1 2)")
+            held = wkt.ColumnArrays([0], [0], given, [0, 2], one, [0, 2], one, [0, 2], [0])
+            self.assertEqual(wkt.from_arrays_column(held, 0), (["POINT(1 2)"], [0]))
+
+    def test_columns(self):
+        """What gives a list of its own."""
+
+        class Column:
+            def tolist(self):
+                return Longer(["point(1 2)", None, "POINT(3 4)"], 1000)
+
+        wanted = ["POINT(1 2)", None, "POINT(3 4)"]
+        self.assertEqual(wkt.canonical(Column()), wanted)
+        self.assertEqual(wkt.canonical_column(Column()), (wanted, [0, 28, 0]))
+        self.assertEqual(list(wkt.to_arrays_column(Column()).statuses), [0, 28, 0])
+
+    def test_rows_that_change(self):
+        """A callback changes the list while it is answered: the answers are of what it was."""
+        before = ["point(%d 2)" % i for i in range(70_000)]
+        wanted = ["POINT(%d 2)" % i for i in range(70_000)]
+        for change in (list.clear, lambda rows: rows.extend(before), list.reverse):
+            for call, answer in (
+                (wkt.canonical, wanted),
+                (wkt.canonical_column, (wanted, [0] * 70_000)),
+                (wkt.reads, [True] * 70_000),
+                (lambda it, progress: wkt.same(it, before, progress=progress), [True] * 70_000),
+                (lambda it, progress: wkt.from_arrays_column(wkt.to_arrays_column(it, progress=progress))[0], wanted),
+            ):
+                rows = list(before)
+                self.assertTrue(call(rows, progress=lambda done: change(rows)) == answer)
 
 
 if __name__ == "__main__":

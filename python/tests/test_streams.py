@@ -133,6 +133,29 @@ class Streams(unittest.TestCase):
         with self.assertRaises(OSError):
             wkt.stream(io.BytesIO(b"POINT(1 2)"), Full())
 
+    def test_sinks_that_lie(self):
+        """A sink that takes nothing, or less than nothing, or more than there is, ends it."""
+
+        class Sink:
+            def __init__(self, said):
+                self.said, self.held = iter(said), []
+
+            def write(self, data):
+                self.held.append(bytes(data))
+                return next(self.said)
+
+        cases = [([0], OSError), ([-1], OSError), ([3, 0], OSError), ([3, -3], OSError), ([12], OSError)]
+        cases += [([1 << 70], OSError), ([10, 2], OSError)]
+        cases += [([wrong], TypeError) for wrong in (True, 2.0, "11", b"", [11])]
+        for said, error in cases:
+            sink = Sink(said)
+            with self.subTest(said), self.assertRaises(error):
+                wkt.stream(io.BytesIO(b"point(1 2)"), sink)
+            self.assertEqual(sink.held, [b"POINT(1 2)\n"[start:] for start in [0, *said][: len(said)]])
+        sink = Sink([3, 8])
+        wkt.stream(io.BytesIO(b"point(1 2)"), sink)
+        self.assertEqual(sink.held, [b"POINT(1 2)\n", b"NT(1 2)\n"])
+
 
 if __name__ == "__main__":
     unittest.main()

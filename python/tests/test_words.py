@@ -1,8 +1,10 @@
 """Whole texts and fronts, explanations, and what errors say."""
+import ctypes
 import io
 import os
 import pickle
 import unittest
+import unittest.mock
 
 import wkt
 from modules import installed
@@ -122,6 +124,49 @@ class Words(unittest.TestCase):
                 wkt.canonical(text)
             self.assertEqual(str(raised.exception), words)
 
+    def test_what_is_not_printable(self):
+        """It stands in no message as it is."""
+        cases = [("\x1b[2J", "\\x1b[2J"), ("\x00", "\\x00"), ("\x7f", "\\x7f"), ("\x9b31m", "\\u{9b}31m"),
+                 ("\x85", "\\u{85}"), ("\u202ehidden", "\\u{202e}hidden"), ("a\u2066b\u2069", "a\\u{2066}b\\u{2069}"),
+                 ("\u200f", "\\u{200f}"), ("\u061c", "\\u{61c}"), ("x\u2028y", "x\\u{2028}y"), ("\xa0", "\\u{a0}"),
+                 ("\x0b\x1c", "\\x0b\\x1c"), ("\U000e0041", "\\u{e0041}"), ("\xe4\u4e2d", "\xe4\u4e2d")]  # fmt: skip
+        for raw, shown in cases:
+            for front, back in (("POINT(1 ", " 2)"), ("POINT(1 2)", ""), ("", "POINT(1 2)"), ("POINT(1 2)\n", "")):
+                text = front + raw + back
+                errors = []
+                for given in (text, text.encode(), [text], [None, text.encode()]):
+                    with self.assertRaises(wkt.WktError) as raised:
+                        wkt.canonical(given)
+                    errors.append(raised.exception)
+                why = wkt.explain(text)
+                self.assertEqual(text[why.start : why.stop], why.text[why.start : why.stop])
+                said = [why.cause, why.hint, str(why).replace("\n", "").replace("\t", ""), repr(why)]
+                for words in said + [form(error) for error in errors for form in (str, repr)]:
+                    self.assertTrue(words.isprintable(), (raw, words))
+                self.assertEqual([str(errors[0]), str(errors[1])], [why.cause] * 2)
+                if front and why.start < why.stop and not why.hint:  # a 0 byte ends the text
+                    self.assertTrue(why.cause.endswith("and not " + shown), (raw, why.cause))
+                self.assertEqual([text.count("\n", 0, why.start) + 1, str(why).count("\n")], [why.line, 1])
+
+        self.assertTrue(wkt.explain("POINT(1 2) a\r\n\tb").cause.endswith("and not a b"))
+
+    def test_marks(self):
+        """The mark stands below the place, also behind what is shown by its number, and where CR LF ends the line."""
+        cases = [
+            ("POINT(\x1b 2)", "POINT(\\x1b 2)", 6, 4),
+            ("\u202ePOINT(1 2)", "\\u{202e}POINT(1 2)", 0, 13),
+            ("POINT(1 2) \x9b x\r\nPOINT", "POINT(1 2) \\u{9b} x", 11, 8),
+            ("POINT(1 x\r\n)", "POINT(1 x", 8, 1),
+            ("POINT(1 \r\n)", ")", 0, 1),
+            ("POINT\r(1 x)", "POINT\\x0d(1 x)", 12, 1),
+            ("POINT(1" + " " * 80 + "x", "..." + " " * 36 + "x", 39, 1),
+            ("POINT(1" + " " * 66, "..." + " " * 36, 39, 1),
+        ]
+        for text, shown, at, length in cases:
+            line, under = str(wkt.explain(text)).split("\n")
+            mark = under[: under.rindex("^") + 1]
+            self.assertEqual((line, mark), (shown, " " * at + "^" * length), text)
+
     def test_errors_say_why(self):
         """The cause comes first, where it is known; the message of the Rust crate is an attribute."""
         cases = [
@@ -165,6 +210,75 @@ class Words(unittest.TestCase):
         for name in wkt.__all__:
             if not name.startswith("__") and name.islower():
                 self.assertGreater(len(getattr(wkt, name).__doc__), 80, name)
+
+
+class Later(unittest.TestCase):
+    """A later library may have statuses, expectations and hints that this package doesn't know."""
+
+    def patched(self, name, change):
+        """The library's call of this name, after which `change` gets what it was given, and may return a status."""
+        call = getattr(wkt._library, name)
+
+        def changed(*given):
+            status = call(*given)
+            return change(status, *given) or status
+
+        return unittest.mock.patch.object(wkt._library, name, changed)
+
+    def test_places_in_texts(self):
+        def explain(status, *given):
+            given[3]._obj.value, given[6]._obj.value = 15, 11
+
+        def hint(status, *given):
+            given[3]._obj.value = 12
+
+        with self.patched("wkt_explain", explain), self.patched("wkt_hint", hint):
+            for text, places in (("POINT(1 x)", 18), ("POINT(1 2.55)", 1)):
+                found = wkt.explain(text, places)
+                self.assertEqual((found.status, found.message, found.hint), (15, "Status 15", ""))
+                self.assertEqual(found.expected, "something else (11)")
+                self.assertIn("^ something else (11) was expected", str(found))
+                for call in (wkt.canonical, wkt.to_arrays, lambda it, places: wkt.same(it, it, places)):
+                    for given, row in ((text, ""), ([None, text], "row 1: ")):
+                        with self.assertRaises(wkt.WktError) as raised:
+                            call(given, places)
+                        wanted = "%sat 9: something else (11) was expected, and not %s" % (row, text[8:-1])
+                        self.assertEqual(str(raised.exception), wanted)
+
+    def test_statuses(self):
+        def refused(status, *given):
+            return 34 if 1 <= status <= 14 else None
+
+        def column(at):
+            def change(status, *given):
+                statuses = (ctypes.c_uint32 * given[at + 1]).from_address(given[at])
+                statuses[:] = [refused(it) or it for it in statuses]
+
+            return change
+
+        calls = dict.fromkeys(["wkt_canonical", "wkt_same", "wkt_infer", "wkt_arrays"], refused)
+        calls.update(wkt_column_canonical=column(11), wkt_column_arrays=column(24), wkt_explain=lambda *given: 34)
+        calls["wkt_message"] = lambda words, status: b"A reason of tomorrow"
+        for name, change in calls.items():
+            self.enterContext(self.patched(name, change))
+        texts = ["POINT(1 2)", None, "PINT(1)"]
+        for call in (wkt.canonical, wkt.to_arrays, lambda it: wkt.same(it, "POINT(1 2)"), wkt.infer):
+            for given in (texts[2], texts):
+                with self.assertRaises(wkt.WktError) as raised:
+                    call(given)
+                error = raised.exception
+                self.assertEqual((error.status, error.message), (34, "A reason of tomorrow"))
+                self.assertTrue(str(error).endswith("A reason of tomorrow"))
+        self.assertEqual(wkt.canonical(texts, invalid="keep"), texts)
+        self.assertEqual(wkt.canonical_column(texts), (["POINT(1 2)", None, None], [0, 28, 34]))
+        self.assertEqual((wkt.reads(texts), wkt.reads(texts[2])), ([True, False, False], False))
+        self.assertEqual(wkt.explain(texts), [None] * 3)
+        with self.assertRaises(wkt.WktError):
+            wkt.explain(texts[2])
+
+    def test_versions(self):
+        for version, numbers in (("1.0.0", [1, 0, 0]), ("1.10.0-rc.1", [1, 10, 0]), ("2.0.0+build5", [2, 0, 0])):
+            self.assertEqual(wkt._library._numbers(version), numbers)
 
 
 if __name__ == "__main__":

@@ -1,9 +1,9 @@
 #!/usr/bin/env bash
 # wheel.sh WKT: builds the wheel of the library in the folder WKT (wkt.h, libwkt.so), with the fast module, and the one
 # without it, and runs the same tests over both; without a wheel too, over ctypes alone, and where NumPy isn't. Then the fast module under
-# sanitizers, libraries that don't suit, the stored cases of the command by `python -m wkt`, the example, the pages, mypy over
+# sanitizers and with assertions, libraries that don't suit, the stored cases of the command by `python -m wkt`, the example, the pages, mypy over
 # the stubs, and how it is built (build.sh). WKT is capi/out where none is named. It needs Python 3.11 or
-# later with its headers, pip, NumPy, pandas, Shapely, tqdm, matplotlib and mypy (tests/needs.sh): what is lacking fails.
+# later with its headers, one with assertions, pip, NumPy, pandas, Shapely, tqdm, matplotlib and mypy (tests/needs.sh): what is lacking fails.
 # PYTHON names another Python.
 set -eu
 here=$(cd "$(dirname "$0")" && pwd)

@@ -144,6 +144,7 @@ def to_arrays(text: Any, places: int = 6, invalid: str = "raise", progress: Prog
 
     places: digits after the point, 0 to 18; a number is whole units of ten to the minus `places`.
     invalid: "raise" or "null": None of a text that has no arrays. progress, whole: as of `canonical`.
+    They are of the value as it is read; for the same arrays of the same key, pass the canonical text.
     WktError: the text is refused (1 to 14, 20, 30), is a collection (24), or has a number that 64 bits don't hold (25).
     """
     places = places_of(places, whole)
@@ -240,6 +241,7 @@ class _Filling:
 def to_arrays_column(texts: Any, places: int = 6, progress: Progress = None, whole: bool = True) -> ColumnArrays:
     """The flat arrays of a column of texts and the status of each row, as `ColumnArrays`: no row raises.
 
+    They are of the values as they are read; for the same arrays of the same key, pass canonical texts.
     texts: a list, a tuple, a NumPy array, a Series, or an Arrow column. places: as of `to_arrays`.
     progress, whole: as of `canonical`.
     """
@@ -270,7 +272,12 @@ def _index(names: Tuple[str, ...], name: Any, what: str) -> int:
 
 
 def _arrays_text(arrays: Any, asked: Optional[int], row: Optional[int] = None) -> str:
-    kind, dimension, *rest = arrays[:5]
+    five = list(arrays[:5]) if isinstance(arrays, (list, tuple)) else None
+    if five is None or len(five) < 5:
+        has = type(arrays).__name__ if five is None else "%d of them" % len(five)
+        where = "" if row is None else "row %d: " % row
+        raise TypeError("%sArrays are kind, dimension, numbers, rings and polygons, and not %s" % (where, has))
+    kind, dimension, *rest = five
     places = _places_in(arrays, asked)
     at, width = _index(KINDS, kind, "kind"), _index(DIMENSIONS, dimension, "dimension")
     three = [integers(c, values, what) for c, values, what in zip("qQQ", rest, ("numbers", "rings", "polygons"))]
@@ -292,8 +299,8 @@ def from_arrays(arrays: Any, places: Optional[int] = None) -> Any:
     they are looked at. places: digits after the point that the text may have, and that the numbers have where the
     arrays don't say it (None: those of the arrays, or 6).
     ValueError: the arrays have more places, and a number needs them.
-    TypeError: one is a float, a bool or another type. OverflowError: one is out of the range of its 64 bits.
-    WktError: the arrays are of no geometry (26); in a list it names the row.
+    TypeError: one is a float, a bool or another type, or the arrays aren't five. OverflowError: one is out of the range
+    of its 64 bits. WktError: the arrays are of no geometry (26); in a list it names the row.
     """
     # A tuple is one geometry: Arrays is one, and so is what is given in its place.
     if isinstance(arrays, tuple):
@@ -313,6 +320,8 @@ def from_arrays_column(arrays: ColumnArrays, places: Optional[int] = None) -> Tu
     isn't 0 there is None for a text. All arrays are copied before they are looked at.
     places, ValueError, TypeError, OverflowError: as of `from_arrays`. WktError: the offsets are of no column (27).
     """
+    if not all(hasattr(arrays, name) for name in ColumnArrays._fields[:-1]):
+        raise TypeError("a column of arrays is wkt.ColumnArrays, and not %s" % type(arrays).__name__)
     out, needed, ends, statuses = _column_texts(arrays, _places_in(arrays, places))
     return unpacked(out, needed, ends, statuses), statuses.tolist()
 

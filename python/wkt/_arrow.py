@@ -10,6 +10,7 @@ from typing import Any, Dict, Iterator, List, Optional, Tuple
 
 from ._blocks import Packed, Progress, _fast
 from ._buffers import Buffers, Texts, answered, bounds, fixed_array, fixed_packed, is_fixed, joined, rows_in, shown_text
+from ._errors import printable
 from ._names import NOT_UTF8
 from ._values import numpy
 
@@ -46,10 +47,22 @@ def _packed(parts: Any) -> Packed:
 
 def _chunks(stream: Any) -> Iterator[Packed]:
     while True:
-        parts = _fast.arrow_next(stream)
+        parts = _asked(_fast.arrow_next, stream)
         if parts is None:
             return
         yield _packed(parts)
+
+
+def _asked(call: Any, *given: Any) -> Any:
+    """What a call of wkt._fast returns. What a producer says stands in its errors as it is shown."""
+    try:
+        return call(*given)
+    except OSError as error:
+        error.strerror = printable(str(error.strerror))
+        raise
+    except TypeError as error:
+        error.args = tuple(printable(str(it)) for it in error.args)
+        raise
 
 
 def taken(column: Any) -> Buffers:
@@ -58,9 +71,9 @@ def taken(column: Any) -> Buffers:
         packed = fixed_packed(column)
         return Buffers(iter([packed]), packed.rows)
     if hasattr(column, "__arrow_c_array__"):
-        (_, metadata), parts = _fast.arrow_array(*column.__arrow_c_array__())
+        (_, metadata), parts = _asked(_fast.arrow_array, *column.__arrow_c_array__())
         return Buffers(iter([_packed(parts)]), parts[3], metadata)
-    stream, (_, metadata) = _fast.arrow_stream(column.__arrow_c_stream__())
+    stream, (_, metadata) = _asked(_fast.arrow_stream, column.__arrow_c_stream__())
     return Buffers(_chunks(stream), None, metadata)
 
 
@@ -93,9 +106,10 @@ def _checked(data: Any, offsets: Any, statuses: Any) -> Texts:
         (offsets, "int64", "offsets"),
         (statuses, "uint32", "statuses"),
     ):
-        if not isinstance(values, numpy.ndarray) or values.dtype != kind or values.ndim != 1:
+        copy = numpy.array(values) if isinstance(values, numpy.ndarray) else None
+        if copy is None or copy.dtype != kind or copy.ndim != 1:
             raise TypeError("%s is an array of %s in one dimension" % (what, kind))
-        held.append(numpy.array(values, kind))
+        held.append(copy)
     data, offsets, statuses = held
     if len(offsets) != len(statuses) + 1:
         raise ValueError("there is one offset more than statuses, and not %d of %d" % (len(offsets), len(statuses)))
@@ -132,8 +146,15 @@ class ArrowTexts(Sequence):  # type: ignore[type-arg]
 
     def _set(self, texts: Texts, metadata: bytes) -> None:
         for values in texts:
-            values.flags.writeable = False
-        self._texts, self._metadata = texts, metadata
+            while isinstance(values, numpy.ndarray):
+                values.flags.writeable = False
+                values = values.base
+        # A view of what can't be written can't be made writable again.
+        self._texts, self._metadata = Texts(*(values[:] for values in texts)), metadata
+
+    def __reduce__(self) -> Tuple[Any, ...]:
+        """Copies, and those of pickle, are made anew: checked, and as little writable."""
+        return type(self), tuple(self._texts), {"_metadata": self._metadata}
 
     @property
     def data(self) -> Any:
@@ -183,12 +204,13 @@ class ArrowTexts(Sequence):  # type: ignore[type-arg]
         return [None if status else text[start:end].decode("utf-8") for status, start, end in bounds(self._texts)]
 
     def _nulls(self) -> int:
-        return int(numpy.count_nonzero(self.statuses))
+        return int(numpy.count_nonzero(self._texts.statuses))
 
     def _tree(self) -> Tuple[Any, ...]:
-        """The column as wkt._fast lends it."""
-        bits = numpy.packbits(self.statuses == 0, bitorder="little")
-        return ("U", "", self._metadata, _NULLABLE, len(self), self._nulls(), (bits, self.offsets, self.data), ())
+        """The column as wkt._fast lends it: what its buffers have, and not what a subclass says."""
+        data, offsets, statuses = self._texts
+        bits = numpy.packbits(statuses == 0, bitorder="little")
+        return ("U", "", self._metadata, _NULLABLE, len(statuses), self._nulls(), (bits, offsets, data), ())
 
     def __arrow_c_schema__(self) -> Any:
         return _fast.export_schema(self._tree())

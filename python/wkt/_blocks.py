@@ -51,7 +51,7 @@ def pack(rows: Sequence[Any], first: int = 0) -> Packed:
         joined = "\x80"
     if joined.isascii():
         return Packed(
-            joined.encode(), array.array("q", itertools.accumulate(map(len, rows), initial=0)), b"", len(rows)
+            joined.encode(), array.array("q", itertools.accumulate(map(str.__len__, rows), initial=0)), b"", len(rows)
         )
     held = [b"" if is_null(row) else encoded(row, first + i) for i, row in enumerate(rows)]
     ends = array.array("q", itertools.accumulate(map(len, held), initial=0))

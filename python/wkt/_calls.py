@@ -20,7 +20,6 @@ from ._names import (
     MESSAGES,
     NO_MEMORY,
     NO_PLACES,
-    NOT_UTF8,
     NOT_WHOLE,
     NULL,
     TOO_SMALL,
@@ -233,7 +232,8 @@ def explain(text: Any, places: int = 18, progress: Progress = None, whole: bool 
 
     Of a column a list, and of a Series of pandas a Series, with None of a row that is read or null. places, progress,
     whole: as of `canonical`.
-    WktError: the text isn't UTF-8 (20): it has no place that could be named. In a column it is a row of None too.
+    WktError: the text isn't UTF-8 (20), or a later library refuses it in a way that it can't explain: it has no place
+    that could be named. In a column it is a row of None too.
     """
     places = places_of(places, whole)
     if not is_column(text):
@@ -242,8 +242,7 @@ def explain(text: Any, places: int = 18, progress: Progress = None, whole: bool 
     answers: List[Optional[Explanation]] = [None] * len(rows)
     for first, _, statuses in canonical_blocks(rows, places, progress, texts=False):
         for i in refused_of(statuses):
-            if statuses[i] != NOT_UTF8:
-                answers[first + i] = explained(rows[first + i], places)
+            answers[first + i] = or_null("null", None, lambda: explained(rows[first + i], places))
     return series_like(text, answers)
 
 

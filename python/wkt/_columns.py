@@ -46,23 +46,23 @@ def is_column(values: Any) -> bool:
 
 
 def rows_of(values: Any) -> Optional[Sequence[Any]]:
-    """The rows of a column as a list or a tuple; None of a single value."""
+    """The rows of a column as a list or a tuple; None of a single value.
+
+    They are a copy, since a callback or another thread may change a list during a call. It is of no subclass, which may
+    say another length, and other parts, than it has.
+    """
     if isinstance(values, TEXTS):
         return None
     if isinstance(values, (list, tuple)):
-        # A class of their own may say another length, and other parts, than it has.
-        return values if type(values) in (list, tuple) else list(values)
+        return values if type(values) is tuple else list(values)
     if numpy is not None and isinstance(values, numpy.ndarray):
-        if values.ndim == 0:
-            return None
-        rows: List[Any] = values.reshape(-1).tolist()
-        return rows
+        return None if values.ndim == 0 else list(values.reshape(-1).tolist())
     if _arrow.is_texts(values):
         return _arrow.rows_of(values)
     for method in _LISTS:
         if hasattr(values, method):
             several = getattr(values, method)()
-            return several if isinstance(several, list) else None
+            return list(several) if isinstance(several, list) else None
     if _arrow.lends(values):
         raise TypeError(_arrow.LACKING)
     return None

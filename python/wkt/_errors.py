@@ -1,6 +1,7 @@
 """What is raised where there is no answer."""
 from typing import TYPE_CHECKING, Any, Optional, Sequence, Tuple
 
+from . import _library
 from ._names import MESSAGES, NO_MEMORY
 
 if TYPE_CHECKING:
@@ -33,9 +34,21 @@ class WktError(ValueError):
         return words if self.row is None else "row %d: %s" % (self.row, words)
 
 
+def printable(text: str, plain: str = "") -> str:
+    """A stranger's text as a message shows it: what isn't printable stands there by its number, as \\x1b or \\u{202e}.
+
+    Raw it could move the cursor, or turn words around. plain: characters that stay.
+    """
+    if text.isprintable():
+        return text
+    forms = ("\\x%02x", "\\u{%x}")
+    return "".join(c if c.isprintable() or c in plain else forms[c > "\x7f"] % ord(c) for c in text)
+
+
 def words_of(status: int, messages: Sequence[str] = MESSAGES) -> str:
-    """The words of a status."""
-    return (messages[status] if status < len(messages) else "") or "Status %d" % status
+    """The words of a status. Of one that only a later library has they are that library's."""
+    known = messages[status] if status < len(messages) else ""
+    return known or _library.wkt_message(status).decode("utf-8", "replace") or "Status %d" % status
 
 
 def check(status: int, messages: Sequence[str] = MESSAGES, row: Optional[int] = None) -> None:

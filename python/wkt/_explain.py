@@ -1,9 +1,10 @@
 """Where a text is refused, why, and what could stand there."""
 import ctypes
+import re
 from typing import NamedTuple, Optional, Tuple, Union
 
 from . import _library
-from ._errors import WktError, check, words_of
+from ._errors import WktError, check, printable, words_of
 from ._library import size, u32
 from ._names import ACCEPTED, EXPECTED, HINTS, MESSAGES, NOT_WHOLE, OK
 from ._values import WHOLE, Text, encoded
@@ -13,6 +14,7 @@ _END = "the end of the text"
 
 
 def _short(word: str) -> str:
+    word = printable(word)
     return word if len(word) < 40 else word[:37] + "..."
 
 
@@ -23,7 +25,7 @@ class Explanation(NamedTuple):
     of a str and the bytes of bytes, from 0 on, as slices do. `expected` says what could stand there, `hint` why the
     text is refused, where that is known ("" where not), `message` is that of the `WktError`, and `status` its number.
     `cause` is one line, with the place, which counts from 1. `str()` shows the line of the text with a mark below the
-    place.
+    place. In both, what isn't printable stands as \\x1b or \\u{202e}.
     """
 
     text: Union[str, bytes]
@@ -58,23 +60,30 @@ class Explanation(NamedTuple):
         """The place, and why the text is refused there, in one line."""
         text, start, stop = self._characters()
         place = "at line %d, column %d" % (self.line, self.column) if "\n" in text[:start] else "at %d" % self.column
-        word = _short(" ".join(text[start : min(stop, start + 200)].split()))
+        word = _short(re.sub("[ \t\r\n]+", " ", text[start : min(stop, start + 200)]).strip(" "))
         if self.hint:
             return "%s: %s" % (place, self.hint)
         return "%s: %s was expected, %s" % (place, self.expected, "and not " + word if word else "but the text ends")
 
     def __str__(self) -> str:
         text, start, stop = self._characters()
-        first = text.rfind("\n", 0, start) + 1
-        last = text.find("\n", start)
-        line, at = text[first : None if last < 0 else last], start - first
-        if len(line) > _WIDTH:  # A long line is cut to what is around the place.
-            cut = max(0, at - _WIDTH // 2)
-            line, at = ("..." if cut else "") + line[cut : cut + _WIDTH], at - cut + (3 if cut else 0)
-        under = "".join("\t" if c == "\t" else " " for c in line[:at])
-        marks = "^" * max(1, min(stop - start, len(line) - at))
+        first, end = text.rfind("\n", 0, start) + 1, text.find("\n", start)
+        last = end if end >= 0 else len(text)
+        if last - 1 > start and text[last - 1] == "\r":  # A part of the line's end.
+            last -= 1
+        around = _WIDTH + 1  # one more than is shown, which says that a line is long
+        before = printable(text[max(first, start - around) : start], "\t")
+        after = printable(text[start : min(last, start + around)], "\t")
+        marked = len(printable(text[start : min(last, stop, start + around)], "\t"))
+        dots = ""
+        if len(before) + len(after) > _WIDTH:  # A long line is cut to what is around the place.
+            if len(before) > _WIDTH // 2:
+                dots, before = "...", before[-(_WIDTH // 2) :]
+            after = after[: _WIDTH - len(before)]
+        under = "".join("\t" if c == "\t" else " " for c in dots + before)
+        marks = "^" * max(1, min(marked, len(after)))
         more = " (%s)" % self.hint if self.hint else ""
-        return "%s\n%s%s %s was expected%s" % (line, under, marks, self.expected, more)
+        return "%s%s%s\n%s%s %s was expected%s" % (dots, before, after, under, marks, self.expected, more)
 
 
 def _too_many(number: str, most: int) -> str:
@@ -105,10 +114,12 @@ def explained(text: Text, places: int) -> Optional[Explanation]:
     first, last = start.value, stop.value
     hint = _hint(data, data[first:last], places) if status == OK else ""
     if isinstance(text, str):
-        shown, first, last = text, len(data[:first].decode("utf-8")), len(data[:last].decode("utf-8"))
+        shown = data.decode("utf-8")
+        first, last = len(data[:first].decode("utf-8")), len(data[:last].decode("utf-8"))
     if status == NOT_WHOLE:
         return Explanation(shown, status, MESSAGES[status], first, last, _END)
-    return Explanation(shown, message.value, MESSAGES[message.value], first, last, EXPECTED[expected.value], hint)
+    what = EXPECTED[expected.value] if expected.value < len(EXPECTED) else "something else (%d)" % expected.value
+    return Explanation(shown, message.value, words_of(message.value), first, last, what, hint)
 
 
 def refusal(status: int, text: Text, places: int, row: Optional[int] = None) -> WktError:

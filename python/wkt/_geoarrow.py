@@ -23,7 +23,7 @@ class GeoArrow(NamedTuple):
 
     extension: its name, such as "geoarrow.polygon". dimension: one of DIMENSIONS.
     coordinates: shape (coordinates, width), float64: each the nearest to the decimal, where that has less than 2^53
-    units (15 digits). An empty or null point is NaN.
+    units (15 digits). An empty point is NaN, in a multipoint too, and so is a null one.
     offsets: int32 arrays, from the outermost on: none of points, one of line strings and multipoints, two of polygons
     and multilinestrings, three of multipolygons.
     valid: shape (rows,), bool: False of a row that is null or refused.
@@ -36,17 +36,26 @@ class GeoArrow(NamedTuple):
     valid: Any
 
     def _tree(self) -> Tuple[Any, ...]:
-        """The array as wkt._fast lends it: lists of fixed lists of doubles."""
-        coordinates = numpy.ascontiguousarray(self.coordinates, numpy.float64)
-        number = ("g", self.dimension.lower(), b"", 0, coordinates.size, 0, (None, coordinates), ())
-        tree: Tuple[Any, ...] = ("+w:%d" % len(self.dimension), "", b"", 0, len(coordinates), 0, (None,), (number,))
-        names = _LISTS[self.extension.partition(".")[2]]
-        for name, offsets in reversed(list(zip(names, self.offsets))):
+        """The array as wkt._fast lends it: lists of fixed lists of doubles. A ValueError unless they fit together."""
+        extension, dimension, coordinates, lists, valid = self
+        names = _LISTS.get(extension.partition(".")[2])
+        coordinates = numpy.ascontiguousarray(coordinates, numpy.float64)
+        if names is None or dimension not in DIMENSIONS or coordinates.shape[1:] != (len(dimension),):
+            raise ValueError("%s of %s is no GeoArrow array" % (extension, dimension))
+        number = ("g", dimension.lower(), b"", 0, coordinates.size, 0, (None, coordinates), ())
+        tree: Tuple[Any, ...] = ("+w:%d" % len(dimension), "", b"", 0, len(coordinates), 0, (None,), (number,))
+        if len(lists) != len(names):
+            raise ValueError("%s has %d lists of offsets, and not %d" % (extension, len(names), len(lists)))
+        for name, offsets in reversed(list(zip(names, lists))):
+            offsets = _in_order(offsets, tree[4])
             child = (tree[0], name) + tree[2:]
             tree = ("+l", "", b"", 0, len(offsets) - 1, 0, (None, offsets), (child,))
-        bits = numpy.packbits(self.valid, bitorder="little")
-        metadata = _arrow.metadata_of({"ARROW:extension:name": self.extension})
-        nulls = len(self.valid) - int(numpy.count_nonzero(self.valid))
+        valid = numpy.array(valid, bool).reshape(-1)
+        if len(valid) != tree[4]:
+            raise ValueError("%d rows are valid or not, of %d" % (len(valid), tree[4]))
+        metadata = _arrow.metadata_of({"ARROW:extension:name": extension})
+        nulls = len(valid) - int(numpy.count_nonzero(valid))
+        bits = numpy.packbits(valid, bitorder="little")
         return tree[:2] + (metadata, _NULLABLE, tree[4], nulls, (bits,) + tree[6][1:], tree[7])
 
     def _lent_by(self) -> Any:
@@ -60,6 +69,16 @@ class GeoArrow(NamedTuple):
     def __arrow_c_array__(self, requested_schema: Any = None) -> Tuple[Any, Any]:
         lent: Tuple[Any, Any] = self._lent_by().export(self._tree())
         return lent
+
+
+def _in_order(offsets: Any, most: int) -> Any:
+    """A copy of offsets, which can be lent: whoever takes them trusts them, and nobody changes them."""
+    made = numpy.array(offsets)
+    if made.dtype != "int32" or made.ndim != 1 or not len(made):
+        raise ValueError("offsets of GeoArrow are an array of int32 in one dimension, one more than there are rows")
+    if made[0] < 0 or made[-1] > most or (made[1:] < made[:-1]).any():
+        raise ValueError("the offsets are 0 to %d, each not below the one before it" % most)
+    return made
 
 
 def _int32(values: Any) -> Any:
@@ -94,17 +113,28 @@ def _one(values: Any, what: str) -> int:
 
 
 def _offsets(held: Any, kind: int, rows: Any) -> Tuple[Any, ...]:
-    """The offsets of a kind, from the outermost on. `wkt_column_arrays` counts those of each row from 0 on."""
-    if kind == 0:
-        return ()
-    if kind in (1, 3):
-        return (_int32(rows),)
+    """The offsets of a kind, from the outermost on. `wkt_column_arrays` counts those of each row from 0 on.
+
+    Points have offsets here too, of one coordinate or none: an EMPTY one is in no other offsets.
+    """
+    if kind in (0, 1):
+        return (_int32(rows),) if kind else (rows,)
     _int32(rows)
     rings, ring_rows = _joined(held.rings, held.ring_offsets, rows[:-1]), _counted(held.ring_offsets)
-    if kind in (2, 4):
+    if kind in (2, 3, 4):
         return (_int32(ring_rows), rings)
     polygons = _joined(held.polygons, held.polygon_offsets, ring_rows[:-1])
     return (_int32(_counted(held.polygon_offsets)), polygons, rings)
+
+
+def _points(offsets: Any, coordinates: Any) -> Any:
+    """A coordinate for each point: NaN for one that has none."""
+    counts = numpy.diff(offsets)
+    if (counts > 1).any():
+        raise ValueError("a point has one coordinate or none, and not %d" % int(counts.max()))
+    full = numpy.full((len(counts), coordinates.shape[1]), numpy.nan)
+    full[counts == 1] = coordinates
+    return full
 
 
 def geoarrow(held: Any, places: int) -> GeoArrow:
@@ -117,8 +147,6 @@ def geoarrow(held: Any, places: int) -> GeoArrow:
     rows = held.number_offsets // width
     offsets = _offsets(held, kind, rows)  # before the coordinates, since these take memory
     coordinates = (held.numbers / 10.0**places).reshape(-1, width)
-    if kind == 0:
-        full = numpy.full((len(valid), width), numpy.nan)
-        full[numpy.diff(rows) == 1] = coordinates
-        coordinates = full
+    if kind in (0, 3):
+        offsets, coordinates = offsets[:-1], _points(offsets[-1], coordinates)
     return GeoArrow("geoarrow." + KINDS[kind].lower(), DIMENSIONS[at], coordinates, offsets, valid)

@@ -1,6 +1,7 @@
 """The shared library and the types of its functions, as include/wkt.h declares them."""
 import ctypes
 import os
+import re
 from typing import Any, List
 
 from ._version import __version__
@@ -62,7 +63,7 @@ _library = _load()
 
 
 def _numbers(version: str) -> List[int]:
-    return [int(number) for number in version.split(".")]
+    return [int(number) for number in re.findall("[0-9]+", version)[:3]]
 
 
 def _suits() -> None:
@@ -86,6 +87,9 @@ def _declared(name: str, *types: Any) -> Any:
 
 _suits()
 _slice = (_pointer, size)
+
+wkt_message = _declared("wkt_message", u32)
+wkt_message.restype = ctypes.c_char_p
 
 wkt_canonical = _declared("wkt_canonical", *_slice, u32, *_slice, _pointer, _pointer)
 wkt_same = _declared("wkt_same", *_slice, *_slice, u32, _pointer)

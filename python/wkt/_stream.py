@@ -5,7 +5,7 @@ from typing import Any, Callable, Iterator, List
 
 from . import _library
 from ._blocks import Progress, Room, shown
-from ._values import places_of
+from ._values import encoded, integer, places_of
 
 PIECE = 1 << 20
 
@@ -16,24 +16,28 @@ def _pieces(source: Any, report: Callable[[int], None]) -> Iterator[bytes]:
         data = source.read(PIECE)
         if not isinstance(data, (bytes, bytearray)):
             raise TypeError("a source gives bytes, and not %s: open it by 'rb'" % type(data).__name__)
+        data = encoded(data)
         if not data:
             return
-        yield bytes(data)
+        yield data
         done += len(data)
         report(done)
 
 
 def _write(sink: Any, data: bytes) -> None:
     """Writes all of it: a file without a buffer may take a part. The sink may keep what it gets: it never changes."""
-    rest: Any = data
-    while rest:
-        taken = sink.write(rest)
+    done = 0
+    while done < len(data):
+        taken = sink.write(memoryview(data)[done:] if done else data)
         if taken is None:
             # The interface of raw files: nothing is taken, and the file would have to be waited for.
             if isinstance(sink, io.RawIOBase):
-                raise BlockingIOError(errno.EAGAIN, "the sink takes no more now", len(data) - len(rest))
+                raise BlockingIOError(errno.EAGAIN, "the sink takes no more now", done)
             return
-        rest = memoryview(rest)[taken:]
+        taken = integer(taken, "what write() returns")
+        if not 0 < taken <= len(data) - done:
+            raise OSError("write() of the sink returned %d, and had %d bytes to take" % (taken, len(data) - done))
+        done += taken
 
 
 def _whole_lines(source: Any, report: Callable[[int], None]) -> Iterator[bytes]:
@@ -60,7 +64,8 @@ def stream(source: Any, sink: Any, places: int = 18, progress: Progress = None) 
     that is used doesn't grow with the input, but with its longest line. places: as of `canonical`.
     progress: a function that is called with how many bytes are read, or True for tqdm's bar.
     Returns the number of lines. What source and sink raise passes through; what was written by then stays.
-    BlockingIOError: a raw file that doesn't block takes no more.
+    OSError: the sink takes nothing, or says that it took more than there is. BlockingIOError: a raw file that doesn't
+    block takes no more.
     """
     places = places_of(places)
     count, room = 0, Room(1)

@@ -23,17 +23,20 @@ WHOLE = 256  # WKT_WHOLE of include/wkt.h
 
 
 def encoded(text: Any, row: Optional[int] = None) -> bytes:
-    """The bytes of a text. They are copied, so that nothing changes them during a call."""
+    """The bytes of a text. They are copied, so that nothing changes them during a call.
+
+    They come from the buffer: a subclass may answer `len`, `encode` and the like as it pleases.
+    """
     if isinstance(text, str):
-        return text.encode("utf-8", "surrogatepass")
-    if isinstance(text, bytes):
+        return str.encode(text, "utf-8", "surrogatepass")
+    if type(text) is bytes:
         return text
-    if isinstance(text, (bytearray, memoryview)):
-        return bytes(text)
+    if isinstance(text, (bytes, bytearray, memoryview)):
+        return memoryview(text).tobytes()
     where = "" if row is None else "row %d: " % row
     more = ""
     if hasattr(text, "geom_type"):
-        more = "; shapely.to_wkt(geometries, rounding_precision=6) gives texts, and GeoSeries.to_wkt of GeoPandas"
+        more = "; shapely.to_wkt(geometries, rounding_precision=6, trim=False) gives texts, as GeoSeries.to_wkt does"
     raise TypeError("%sa text is a str or bytes, and not %s%s" % (where, type(text).__name__, more))
 
 
@@ -88,10 +91,12 @@ class Ints(NamedTuple):
 
 
 def _of_numpy(code: str, values: Any, what: str) -> Ints:
+    values = numpy.asarray(values)  # of no subclass
     if values.dtype.kind not in "iu":
         raise TypeError("%s are integers, and not of %s" % (what, values.dtype))
     if values.dtype is _TYPES[code]:
-        return Ints(values.tobytes(), values.size)
+        data = values.tobytes()
+        return Ints(data, len(data) // values.itemsize)
     # A copy, so that nothing changes them between this check and the end of the call.
     values, (_, least, most) = numpy.array(values), INTEGERS[code]
     if values.size:
