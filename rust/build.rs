@@ -59,11 +59,25 @@ fn link_as_pkg_config_says() {
             "there is no libwkt: capi/build.sh in a clone of wkt makes it, and WKT_LIB_DIR names its folder"
         ),
     };
-    for word in said.split_whitespace() {
+    for word in words(&said) {
         if let Some(folder) = word.strip_prefix("-L") {
             println!("cargo:rustc-link-search=native={folder}");
         } else if let Some(name) = word.strip_prefix("-l") {
             println!("cargo:rustc-link-lib={name}");
         }
     }
+}
+
+/// The words that pkg-config prints, where a space within one has a backslash before it.
+fn words(said: &str) -> Vec<String> {
+    let mut words = vec![String::new()];
+    let mut characters = said.trim().chars();
+    while let Some(character) = characters.next() {
+        match character {
+            '\\' => words.last_mut().unwrap().extend(characters.next()),
+            ' ' => words.push(String::new()),
+            character => words.last_mut().unwrap().push(character),
+        }
+    }
+    words
 }

@@ -1,6 +1,6 @@
 #!/usr/bin/env bash
 # Tests the Rust crate over the library in capi/out: by the cargo that is found, and with the feature geo-types by Debian's
-# cargo and rustc, the oldest that the crate promises; its documentation without a library; the example of README.md; and
+# cargo and rustc, the oldest that the crate promises; over a library with numbers of later versions; its documentation without a library; the example of README.md; and
 # clippy and rustfmt, where the cargo that is found has them. The crates come from Debian's registry
 # (librust-geo-types-dev), so no network is needed.
 set -u
@@ -21,6 +21,15 @@ run() {
 run "$(cargo --version)" cargo test --offline --target-dir "$dir/found"
 [ -x /usr/bin/cargo ] || fail "no Debian cargo: tests/needs.sh installs it"
 run "$(/usr/bin/cargo --version), geo-types" env PATH="/usr/bin:$PATH" cargo test --offline --all-features --target-dir "$dir/debian"
+
+# A later library, of other names and with later.c in their place.
+renamed=()
+for name in canonical explain hint infer message; do renamed+=("--redefine-sym=wkt_$name=now_$name"); done
+mkdir "$dir/later"
+objcopy "${renamed[@]}" "$WKT_LIB_DIR/libwkt.a" "$dir/later/libwkt.a" &&
+    "${CC:-cc}" -Wall -Wextra -Werror -fPIC -I"$WKT_LIB_DIR" -c tests/later.c -o "$dir/later.o" &&
+    ar rc "$dir/later/libwkt.a" "$dir/later.o" || fail "later.c"
+run "a later library" env WKT_LIB_DIR="$dir/later" cargo test --offline --test later --target-dir "$dir/found" -- --ignored
 
 # As docs.rs builds it: the crate alone, and no library.
 cp -r Cargo.toml README.md build.rs src examples "$dir"

@@ -1,7 +1,7 @@
 //! A geometry as flat arrays.
 use crate::error::Error;
 use crate::kinds::{Dimension, GeometryType};
-use crate::text::{error_of, known, whole, written};
+use crate::text::{error_of, known, whole, written, LATER};
 use crate::{ffi, names};
 
 /// A geometry that is no collection as flat arrays.
@@ -25,6 +25,9 @@ pub struct Arrays {
 }
 
 /// The geometry that a text is as flat arrays.
+///
+/// The arrays are those of the value as it is read. So `POLYGON(EMPTY,(1 2))` has other arrays than `POLYGON EMPTY`, which is
+/// its canonical text. For the same arrays of the same key, take those of [`canonical`](crate::canonical).
 ///
 /// ```
 /// use wkt_proved::{arrays, Dimension};
@@ -74,8 +77,8 @@ pub fn arrays(text: &str, places: u32) -> Result<Arrays, Error> {
         rings.truncate(sizes.rings);
         polygons.truncate(sizes.polygons);
         return Ok(Arrays {
-            kind: GeometryType::from_number(sizes.kind).ok_or(Error::NotArrays)?,
-            dimension: Dimension::from_number(sizes.dimension).ok_or(Error::NotArrays)?,
+            kind: GeometryType::from_number(sizes.kind).ok_or(LATER)?,
+            dimension: Dimension::from_number(sizes.dimension).ok_or(LATER)?,
             places,
             numbers,
             rings,

@@ -114,7 +114,8 @@ fn column_of(
     Ok(column)
 }
 
-/// The flat arrays of a column of whole texts, which is given as to [`canonical_column`].
+/// The flat arrays of a column of whole texts, which is given as to [`canonical_column`]. They are those of the values as
+/// they are read; for the same arrays of the same key, give it the column of canonical texts.
 ///
 /// # Errors
 /// As of [`canonical_column`].

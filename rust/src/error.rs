@@ -1,6 +1,8 @@
 //! Why a call has no answer.
 use crate::excerpt::Excerpt;
-use crate::names::{self, EXPECTED, HEADER_MESSAGES, HINTS, MESSAGES};
+use crate::ffi;
+use crate::names::{self, EXPECTED, HEADER_MESSAGES, HINTS};
+use crate::text::own_text;
 use std::fmt;
 
 /// Why a call has no answer.
@@ -29,11 +31,15 @@ pub enum Error {
     NotSupported,
     /// The geometry has no form in the types of another crate; the words say why.
     NoForm(&'static str),
+    /// Another status of `include/wkt.h`, as a later library may have. It is shown by that library's words.
+    Other(u32),
 }
 
-/// The words of a status of `include/wkt.h`, as in the lists of statuses of a column; empty where it is none.
+/// The words of a status of `include/wkt.h`, as in the lists of statuses of a column; empty where it is none. They are the
+/// library's own, so a later one has words for its statuses.
 pub fn message(status: u32) -> &'static str {
-    MESSAGES.get(status as usize).copied().unwrap_or("")
+    // SAFETY: it takes any number.
+    own_text(unsafe { ffi::wkt_message(status) })
 }
 
 impl Error {
@@ -41,6 +47,7 @@ impl Error {
     pub(crate) fn of_status(status: u32) -> Error {
         match status {
             names::NOT_UTF8 => Error::NotUtf8,
+            names::NO_MEMORY => Error::NoMemory,
             names::NO_PLACES => Error::NoPlaces,
             names::COLLECTION => Error::Collection,
             names::TOO_LARGE => Error::TooLarge,
@@ -48,7 +55,7 @@ impl Error {
             names::NOT_COLUMN => Error::NotColumn,
             names::TOO_LONG => Error::TooLong,
             names::NOT_SUPPORTED => Error::NotSupported,
-            _ => Error::NoMemory,
+            status => Error::Other(status),
         }
     }
 
@@ -75,8 +82,12 @@ impl fmt::Display for Error {
             Error::NotColumn => names::NOT_COLUMN,
             Error::TooLong => names::TOO_LONG,
             Error::NotSupported => names::NOT_SUPPORTED,
+            Error::Other(status) => *status,
         };
-        f.write_str(message(status))
+        match message(status) {
+            "" => write!(f, "Status {status}"),
+            words => f.write_str(words),
+        }
     }
 }
 
@@ -88,6 +99,7 @@ impl From<Error> for std::io::Error {
             Error::NoMemory => std::io::ErrorKind::OutOfMemory,
             Error::NoPlaces => std::io::ErrorKind::InvalidInput,
             Error::NotSupported => std::io::ErrorKind::Unsupported,
+            Error::Other(_) => std::io::ErrorKind::Other,
             _ => std::io::ErrorKind::InvalidData,
         };
         std::io::Error::new(kind, error)
@@ -152,6 +164,7 @@ impl fmt::Display for Refusal {
 
 /// What could stand where a text is refused.
 #[derive(Debug, Clone, Copy, PartialEq, Eq)]
+#[non_exhaustive]
 pub enum Expected {
     /// A kind word, with which a geometry begins.
     Kind,
@@ -177,10 +190,12 @@ pub enum Expected {
     Closing,
     /// The end of the text: more than white space follows the geometry.
     End,
+    /// What a later library names by another number of `include/wkt.h`.
+    Other(u32),
 }
 
 impl Expected {
-    pub(crate) const ALL: [Expected; 11] = [
+    const ALL: [Expected; 11] = [
         Expected::Kind,
         Expected::Member,
         Expected::Dimension,
@@ -193,12 +208,21 @@ impl Expected {
         Expected::More,
         Expected::Closing,
     ];
+
+    /// The expectation of a number of `include/wkt.h`.
+    pub(crate) fn of_number(number: u32) -> Expected {
+        let known = Expected::ALL.get(number as usize).copied();
+        known.unwrap_or(Expected::Other(number))
+    }
 }
 
 impl fmt::Display for Expected {
     fn fmt(&self, f: &mut fmt::Formatter<'_>) -> fmt::Result {
-        let words = EXPECTED.get(*self as usize).copied();
-        f.write_str(words.unwrap_or("the end of the text"))
+        match (self, Expected::ALL.iter().position(|one| one == self)) {
+            (_, Some(number)) => f.write_str(EXPECTED[number]),
+            (Expected::Other(number), _) => write!(f, "something else ({number})"),
+            _ => f.write_str("the end of the text"),
+        }
     }
 }
 
@@ -228,12 +252,15 @@ pub enum Hint {
     Dimension,
     /// `()`, which is written EMPTY.
     Empty,
+    /// What a later library names by another number of `include/wkt.h`.
+    Other(u32),
 }
 
 impl Hint {
     /// The hint of a number of `include/wkt.h`, where a text was read at so many places.
     pub(crate) fn of_number(number: u32, places: u32) -> Option<Hint> {
         Some(match number {
+            0 => return None,
             1 => Hint::ByteOrderMark,
             2 => Hint::Hexadecimal,
             3 => Hint::Srid,
@@ -245,7 +272,7 @@ impl Hint {
             9 => Hint::Large,
             10 => Hint::Dimension,
             11 => Hint::Empty,
-            _ => return None,
+            number => Hint::Other(number),
         })
     }
 
@@ -262,13 +289,18 @@ impl Hint {
             Hint::Large => 9,
             Hint::Dimension => 10,
             Hint::Empty => 11,
+            Hint::Other(number) => number as usize,
         }
     }
 }
 
 impl fmt::Display for Hint {
     fn fmt(&self, f: &mut fmt::Formatter<'_>) -> fmt::Result {
-        let words = HINTS[self.number()];
+        let number = self.number();
+        let words = match HINTS.get(number) {
+            Some(words) => words,
+            None => return write!(f, "hint {number}"),
+        };
         match (self, words.split_once("%u")) {
             (Hint::Places(places), Some((before, after))) => write!(f, "{before}{places}{after}"),
             _ => f.write_str(words),

@@ -55,14 +55,29 @@ impl<'a> Excerpt<'a> {
     }
 }
 
-/// A control character would move what is shown.
-fn plain(text: &str) -> String {
-    let shown = |c: char| match c {
-        '\t' => c,
-        c if c.is_control() => char::REPLACEMENT_CHARACTER,
-        c => c,
-    };
-    text.chars().map(shown).collect()
+/// The text as it is shown: what isn't printable by its number, as `\x1b` or `\u{202e}`, since it could move or hide the rest.
+/// A tab stays.
+fn shown(text: &str) -> String {
+    let mut shown = String::new();
+    for c in text.chars() {
+        match u32::from(c) {
+            _ if c == '\t' || is_printable(c) => shown.push(c),
+            number @ 0..=0x7f => shown += &format!("\\x{number:02x}"),
+            number => shown += &format!("\\u{{{number:x}}}"),
+        }
+    }
+    shown
+}
+
+/// Whether a character is printable, as Rust's `escape_debug` has it. It stands behind a letter there, or an accent would be
+/// escaped.
+fn is_printable(c: char) -> bool {
+    let text = ['a', c].iter().collect::<String>();
+    let mut escaped = text.escape_debug().skip(1);
+    !matches!(
+        (escaped.next(), escaped.next()),
+        (Some('\\'), Some('u' | '0' | 'n' | 'r' | 't'))
+    )
 }
 
 impl fmt::Display for Excerpt<'_> {
@@ -72,11 +87,11 @@ impl fmt::Display for Excerpt<'_> {
             false => ("...", "   "),
         };
         let more = if self.ends_line { "" } else { "..." };
-        let (before, marked, after) = (plain(self.before), plain(self.marked), plain(self.after));
+        let (before, marked, after) = (shown(self.before), shown(self.marked), shown(self.after));
         writeln!(f, "    {dots}{before}{marked}{after}{more}")?;
         let white = |c: char| if c == '\t' { c } else { ' ' };
-        let indent: String = self.before.chars().map(white).collect();
-        let marks = "^".repeat(self.marked.chars().count().max(1));
+        let indent: String = before.chars().map(white).collect();
+        let marks = "^".repeat(marked.chars().count().max(1));
         writeln!(f, "    {blanks}{indent}{marks}")
     }
 }

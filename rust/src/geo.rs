@@ -10,7 +10,7 @@ use std::fmt::Write;
 // How deep collections may stand in one another: writing, reading and dropping them take stack for each level.
 const MOST_LEVELS: usize = 200;
 const TOO_DEEP: Error = Error::NoForm("Collections stand in one another more than 200 deep");
-const EMPTY_POINT: Error = Error::NoForm("A point of geo-types can't be empty");
+const EMPTY_POINT: Error = Error::NoForm("A member of a MultiPoint of geo-types can't be empty");
 const NO_FORM: Error = Error::NoForm("The text has no form in geo-types");
 
 /// The canonical text of a geometry. A Line is written as a line string, a Rect and a Triangle as polygons.
@@ -120,7 +120,8 @@ fn write_geometry(text: &mut String, geometry: &Geometry<f64>, level: usize) -> 
     }
 }
 
-/// The geometry that a text is. Each number becomes the nearest `f64`; z and m are left out, as the crate `wkt` does.
+/// The geometry that a text is. Each number becomes the nearest `f64`. As in the crate `wkt`, z and m are left out, and an
+/// empty point is an empty MultiPoint, since a point of geo-types has coordinates.
 ///
 /// ```
 /// use geo_types::{point, Geometry};
@@ -131,8 +132,8 @@ fn write_geometry(text: &mut String, geometry: &Geometry<f64>, level: usize) -> 
 /// ```
 ///
 /// # Errors
-/// [`Refused`](Error::Refused), as of [`canonical`]. `NoForm`: a point is empty, or more than 200 collections stand in
-/// one another. `NoPlaces`, `NoMemory`.
+/// [`Refused`](Error::Refused), as of [`canonical`]. `NoForm`: a member of a multipoint is empty, or more than 200 collections
+/// stand in one another. `NoPlaces`, `NoMemory`.
 pub fn from_text(text: &str, places: u32) -> Result<Geometry<f64>, Error> {
     let canonical = canonical(text, places)?;
     Reader { rest: &canonical }.geometry(0)
@@ -204,10 +205,15 @@ impl<'a> Reader<'a> {
         Ok(Polygon::new(exterior, rings.collect()))
     }
 
-    /// A point; a member of a multipoint stands in parentheses.
-    fn point(&mut self) -> Result<Point<f64>, Error> {
+    /// A point, none where it is EMPTY; a member of a multipoint stands in parentheses.
+    fn point(&mut self) -> Result<Option<Point<f64>>, Error> {
         let mut coords = self.list(Self::coord)?.into_iter();
-        coords.next().map(Point::from).ok_or(EMPTY_POINT)
+        Ok(coords.next().map(Point::from))
+    }
+
+    /// A member of a multipoint.
+    fn member(&mut self) -> Result<Point<f64>, Error> {
+        self.point()?.ok_or(EMPTY_POINT)
     }
 
     fn geometry(&mut self, level: usize) -> Result<Geometry<f64>, Error> {
@@ -215,10 +221,13 @@ impl<'a> Reader<'a> {
         let _ = self.takes(" ZM") || self.takes(" Z") || self.takes(" M");
         self.takes(" ");
         Ok(match word {
-            "POINT" => self.point()?.into(),
+            "POINT" => match self.point()? {
+                Some(point) => point.into(),
+                None => MultiPoint(Vec::new()).into(),
+            },
             "LINESTRING" => self.line()?.into(),
             "POLYGON" => self.polygon()?.into(),
-            "MULTIPOINT" => MultiPoint(self.list(Self::point)?).into(),
+            "MULTIPOINT" => MultiPoint(self.list(Self::member)?).into(),
             "MULTILINESTRING" => MultiLineString(self.list(Self::line)?).into(),
             "MULTIPOLYGON" => MultiPolygon(self.list(Self::polygon)?).into(),
             "GEOMETRYCOLLECTION" if level == MOST_LEVELS => return Err(TOO_DEEP),

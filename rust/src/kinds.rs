@@ -4,6 +4,7 @@ use std::fmt;
 
 /// A kind of geometry. Its number is that of `include/wkt.h`.
 #[derive(Debug, Clone, Copy, PartialEq, Eq, Hash)]
+#[non_exhaustive]
 pub enum GeometryType {
     /// `POINT`.
     Point,
@@ -47,6 +48,7 @@ impl fmt::Display for GeometryType {
 
 /// The numbers of a coordinate. Its number is that of `include/wkt.h`.
 #[derive(Debug, Clone, Copy, PartialEq, Eq, Hash)]
+#[non_exhaustive]
 pub enum Dimension {
     /// x and y.
     XY,

@@ -36,32 +36,57 @@ const BLOCK: usize = 128 * 1024;
 pub fn stream(mut input: impl Read, mut output: impl Write, places: u32) -> io::Result<()> {
     let places = known(places)?;
     let (mut block, mut answers) = (vec![0; BLOCK], vec![0; BLOCK]);
-    let (mut held, mut is_last) = (0, false);
-    while !is_last || held > 0 {
-        if !is_last && held < block.len() {
-            match input.read(&mut block[held..]) {
-                Ok(0) => is_last = true,
-                Ok(came) => held += came,
-                Err(error) if error.kind() == io::ErrorKind::Interrupted => continue,
-                Err(error) => return Err(error),
-            }
-        }
-        let (taken, made) = match some_lines(&block[..held], places, is_last, &mut answers) {
-            Ok(done) => done,
-            Err(names::TOO_SMALL) => {
-                answers.resize(2 * answers.len(), 0);
-                continue;
-            }
-            Err(status) => return Err(Error::of_status(status).into()),
+    let mut held = 0;
+    loop {
+        let came = match input.read(&mut block[held..]) {
+            Ok(came) => came,
+            Err(error) if error.kind() == io::ErrorKind::Interrupted => continue,
+            Err(error) => return Err(error),
         };
-        output.write_all(&answers[..made])?;
-        block.copy_within(taken..held, 0);
-        held -= taken;
-        if taken == 0 && held == block.len() {
+        let is_last = came == 0;
+        let ends_line = block[held..held + came].contains(&b'\n');
+        held += came;
+        // A call looks at all that it is given. So a line that comes in pieces is passed on once, when its end is there.
+        if is_last || ends_line {
+            let taken = write_answers(&block[..held], places, is_last, &mut answers, &mut output)?;
+            block.copy_within(taken..held, 0);
+            held -= taken;
+        }
+        if is_last {
+            return output.flush();
+        }
+        if held == block.len() {
             block.resize(2 * held, 0);
         }
     }
-    output.flush()
+}
+
+/// Writes the answers to all whole lines of an input: how many bytes these are.
+fn write_answers(
+    input: &[u8],
+    places: u32,
+    is_last: bool,
+    answers: &mut Vec<u8>,
+    output: &mut impl Write,
+) -> io::Result<usize> {
+    let mut done = 0;
+    loop {
+        let rest = &input[done..];
+        match some_lines(rest, places, is_last, answers) {
+            Ok((0, _)) => return Ok(done),
+            Ok((taken, made)) => {
+                output.write_all(&answers[..made])?;
+                done += taken;
+            }
+            Err(names::TOO_SMALL) => {
+                // As long as the answer to a line can be, so that each line is tried twice at most.
+                let end = rest.iter().position(|byte| *byte == b'\n');
+                let most = 2 * end.unwrap_or(rest.len()) + 8;
+                answers.resize(most.max(2 * answers.len()), 0);
+            }
+            Err(status) => return Err(Error::of_status(status).into()),
+        }
+    }
 }
 
 /// Answers as many whole lines as fit: how many bytes they are, and how many their answers.

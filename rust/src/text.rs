@@ -2,11 +2,16 @@
 use crate::error::{message, Error, Expected, Hint, InferError, Refusal};
 use crate::kinds::{Dimension, GeometryType};
 use crate::{ffi, names};
+use std::ffi::CStr;
+use std::os::raw::c_char;
 
 /// Added to `places` for the C library: a text is to be one geometry as a whole.
 const WHOLE: u32 = 256;
 /// The most places that numbers have.
 const MOST_PLACES: u32 = 18;
+
+/// The error where a later library names a kind or a dimension that isn't known here.
+pub(crate) const LATER: Error = Error::NoForm("The kind or the dimension is of a later library");
 
 /// `places` for the C library.
 pub(crate) fn known(places: u32) -> Result<u32, Error> {
@@ -95,7 +100,7 @@ fn refusal_of(text: &str, places: u32) -> Result<Option<Refusal>, Error> {
             status = answer;
             Expected::End
         }
-        names::OK => Expected::ALL[expected as usize],
+        names::OK => Expected::of_number(expected),
         _ => return Err(Error::of_status(answer)),
     };
     // SAFETY: as above.
@@ -194,6 +199,7 @@ pub fn infer(text: &str) -> Result<(GeometryType, Dimension), InferError> {
         (1, _, _) => Err(InferError::NoKind),
         (2, _, _) => Err(InferError::NoSpace),
         (3, _, _) => Err(InferError::NoParen),
+        (names::OK, _, _) => Err(InferError::Call(LATER)),
         (status, _, _) => Err(InferError::Call(Error::of_status(status))),
     }
 }
@@ -206,7 +212,12 @@ pub fn is_supported() -> bool {
 
 /// The version of the library that is linked.
 pub fn version() -> &'static str {
-    // SAFETY: it is a text of the library's own, which ends with 0 and stays.
-    let text = unsafe { std::ffi::CStr::from_ptr(ffi::wkt_version()) };
-    text.to_str().unwrap_or("")
+    // SAFETY: it takes nothing.
+    own_text(unsafe { ffi::wkt_version() })
+}
+
+/// A text of the library's own.
+pub(crate) fn own_text(text: *const c_char) -> &'static str {
+    // SAFETY: such a text ends with 0, and stays.
+    unsafe { CStr::from_ptr(text) }.to_str().unwrap_or("")
 }

@@ -96,12 +96,24 @@ fn numbers() {
 }
 
 #[test]
+fn empty_points() {
+    // As in the crate wkt.
+    let none = Geometry::from(MultiPoint::<f64>(vec![]));
+    assert_eq!(from_text("POINT EMPTY", 6), Ok(none.clone()));
+    assert_eq!(from_text("point zm empty", 6), Ok(none.clone()));
+    let both = GeometryCollection(vec![point!(x: 1., y: 2.).into(), none]);
+    assert_eq!(
+        from_text("GEOMETRYCOLLECTION(POINT(1 2),POINT EMPTY)", 6),
+        Ok(Geometry::GeometryCollection(both))
+    );
+}
+
+#[test]
 fn what_has_no_form() {
     for text in [
-        "POINT EMPTY",
-        "POINT Z EMPTY",
         "MULTIPOINT(EMPTY)",
-        "GEOMETRYCOLLECTION(POINT EMPTY)",
+        "MULTIPOINT Z(1 2 3,EMPTY)",
+        "GEOMETRYCOLLECTION(MULTIPOINT(1 2,EMPTY))",
     ] {
         assert!(
             matches!(from_text(text, 6), Err(Error::NoForm(_))),

@@ -51,6 +51,27 @@ fn streams() {
     assert_eq!(error.kind(), io::ErrorKind::InvalidInput);
 }
 
+/// The microseconds that this process has had of a processor: by the clock other programs count, too.
+fn processor_time() -> i64 {
+    extern "C" {
+        fn clock() -> i64;
+    }
+    // SAFETY: it takes nothing, and changes nothing.
+    unsafe { clock() }
+}
+
+/// A line of 32 MB that comes in pieces takes a second; it would take a minute if each of them were passed on.
+#[test]
+fn a_long_line_in_pieces() {
+    let many = "1234567.5 76543.25,".repeat((32 << 20) / 19);
+    let input = format!("LINESTRING({many}1 1)\n");
+    let mut output = Vec::new();
+    let start = processor_time();
+    stream(Slow(input.as_bytes(), 1400, false), &mut output, 18).unwrap();
+    assert!(processor_time() - start < 15_000_000);
+    assert!(output == input.as_bytes());
+}
+
 /// Fails after that many bytes were written.
 struct Full(usize);
 
@@ -140,14 +161,48 @@ fn plain(text: &str) -> String {
         None => (text, "\n"),
     };
     let mut out = Vec::new();
-    let mut pieces = text.split('\\');
-    out.extend_from_slice(pieces.next().unwrap().as_bytes());
-    for piece in pieces {
-        let hex = &piece[1..3];
-        out.push(u8::from_str_radix(hex, 16).unwrap());
-        out.extend_from_slice(&piece.as_bytes()[3..]);
+    let mut rest = text;
+    while let Some((before, escaped)) = rest.split_once('\\') {
+        out.extend_from_slice(before.as_bytes());
+        rest = match escaped.strip_prefix('\\') {
+            Some(behind) => {
+                out.push(b'\\');
+                behind
+            }
+            None => {
+                out.push(u8::from_str_radix(&escaped[1..3], 16).unwrap());
+                &escaped[3..]
+            }
+        };
     }
+    out.extend_from_slice(rest.as_bytes());
     String::from_utf8(out).unwrap() + end
+}
+
+/// What isn't printable is shown by its number, and the mark stands below that.
+#[test]
+fn excerpts() {
+    for (text, line, mark) in [
+        (
+            "POINT(\x1b[31m1 2)",
+            "POINT(\\x1b[31m1 2)",
+            "      ^^^^^^^^^",
+        ),
+        (
+            "\tPOINT(1\u{202e} 2)",
+            "\tPOINT(1\\u{202e} 2)",
+            "\t      ^^^^^^^^^",
+        ),
+        ("POINT(é x\0\u{2028}", "POINT(é x\\x00\\u{2028}", "      ^"),
+        (
+            "\u{9b}\u{a0}\u{200b}\u{feff}\re\u{301} 日\\\"'",
+            "\\u{9b}\\u{a0}\\u{200b}\\u{feff}\\x0de\u{301} 日\\\"'",
+            "^^^^^^^^^^^^^^^^^^^^^^^^^^^^",
+        ),
+    ] {
+        let why = explain(text, 6).unwrap().unwrap();
+        assert_eq!(why.mark(text), format!("    {line}\n    {mark}\n"));
+    }
 }
 
 #[test]
@@ -157,6 +212,7 @@ fn as_the_command_shows_it() {
     for (case, name, input, places) in [
         ("check-columns", "standard input", "<", 18),
         ("check-control", "standard input", "<", 18),
+        ("check-control-others", "standard input", "<", 18),
         ("check-long", "standard input", "<", 18),
         ("check-places", "standard input", "<", 1),
         ("check-hints", "hints.wkt", "|", 18),
