@@ -26,4 +26,14 @@ fi
 export WKT_C_LIB
 # Flags of a make that calls this are for its own sources.
 unset MAKEFLAGS MFLAGS MAKELEVEL MAKEOVERRIDES CFLAGS CPPFLAGS LDFLAGS
-exec make -s -C "$here/../dist" library O="$out"
+# make takes no folder whose name has a space or the like, so it gets a link to that.
+folder=$out
+case $out in
+    *[!A-Za-z0-9._/+@=,-]*)
+        links=$(mktemp -d /tmp/wkt.XXXXXX)
+        trap 'rm -rf "$links"' EXIT
+        ln -s "$out" "$links/out"
+        folder=$links/out
+        ;;
+esac
+make -s -C "$here/../dist" library O="$folder" FOLDER="$(printf %s "$out" | sed 's/\$/$$/g')"

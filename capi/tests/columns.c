@@ -110,10 +110,41 @@ static void arrays(void) {
     CHECK(sizes.polygons == 2);
     CHECK(wkt_arrays(BYTES("POINT(1 2) x"), 6 | WKT_WHOLE, &sizes, numbers, 24, rings, 4, polygons, 4) ==
           WKT_NOT_WHOLE);
+    CHECK(sizes.kind == 0 && sizes.dimension == 0 && sizes.numbers == 2 && sizes.rings == 2 && sizes.polygons == 2);
     CHECK(sizes.end == 10);
+    CHECK(wkt_arrays(BYTES("POLYGON Z((1 2 3,4 5 6)) x"), 6 | WKT_WHOLE, &sizes, NULL, 0, NULL, 0, NULL, 0) ==
+          WKT_NOT_WHOLE);
+    CHECK(sizes.kind == 2 && sizes.dimension == 1 && sizes.numbers == 6 && sizes.rings == 2 && sizes.polygons == 2);
+    CHECK(sizes.end == 24);
+    /* Which of two statuses is returned. */
+    CHECK(wkt_arrays(BYTES("POINT(1 2"), 19 | WKT_WHOLE, &sizes, NULL, 0, NULL, 0, NULL, 0) == WKT_NO_PLACES);
+    CHECK(wkt_arrays(BYTES("POINT(1 2 \xff"), 6 | WKT_WHOLE, &sizes, NULL, 0, NULL, 0, NULL, 0) == WKT_NOT_UTF8);
+    CHECK(wkt_arrays(BYTES("GEOMETRYCOLLECTION EMPTY \xff"), 6 | WKT_WHOLE, &sizes, NULL, 0, NULL, 0, NULL, 0) ==
+          WKT_NOT_UTF8);
+    CHECK(wkt_arrays(BYTES("GEOMETRYCOLLECTION EMPTY x"), 6 | WKT_WHOLE, &sizes, NULL, 0, NULL, 0, NULL, 0) ==
+          WKT_COLLECTION);
+    CHECK(wkt_arrays(BYTES("POINT(1 9223372036854.775808) x"), 6 | WKT_WHOLE, &sizes, NULL, 0, NULL, 0, NULL, 0) ==
+          WKT_TOO_LARGE);
     CHECK(wkt_arrays(BYTES("POINT(1 2) "), 6 | WKT_WHOLE, &sizes, numbers, 24, rings, 4, polygons, 4) == WKT_OK);
     /* Five numbers are none of two coordinates of x and y. */
     CHECK(wkt_from_arrays(1, 0, numbers, 5, three, 2, one, 2, 1, out, ROOM, &needed) == WKT_NOT_ARRAYS);
+}
+
+/* Texts with one canonical text may have other arrays; that of the canonical text has the same for all. */
+static void arrays_of_keys(void) {
+    static const char *const texts[] = {"POLYGON(EMPTY,(1 2))", "POLYGON(EMPTY)", "polygon empty"};
+    static const size_t rings_read[] = {3, 2, 1};
+    int64_t numbers[2];
+    size_t rings[3], polygons[2], i;
+    WktSizes sizes;
+    for (i = 0; i < sizeof texts / sizeof *texts; i++) {
+        CHECK(wkt_arrays(BYTES(texts[i]), 6, &sizes, numbers, 2, rings, 3, polygons, 2) == WKT_OK);
+        CHECK(sizes.rings == rings_read[i] && sizes.numbers == (i == 0 ? 2 : 0));
+        CHECK(wkt_canonical(BYTES(texts[i]), 6, out, ROOM, &needed, &end_at) == WKT_OK);
+        CHECK(wkt_arrays(out, needed, 6, &sizes, numbers, 2, rings, 3, polygons, 2) == WKT_OK);
+        CHECK(sizes.numbers == 0 && sizes.rings == 1 && sizes.polygons == 2);
+        CHECK(rings[0] == 0 && polygons[0] == 0 && polygons[1] == 0);
+    }
 }
 
 /* What wkt_column_arrays fills, with room for ROWS rows. */
@@ -305,6 +336,7 @@ void test_columns(void) {
     columns();
     whole_rows();
     arrays();
+    arrays_of_keys();
     column_arrays();
     column_texts();
     column_text_sizes();

@@ -153,6 +153,31 @@ static void comparisons(void) {
     CHECK(wkt_same(BYTES(padded(201)), BYTES("POINT(1 3)"), 6, &same) == WKT_OK && same == 0);
 }
 
+/* Which of two statuses is returned, also where blanks before the texts make them long. */
+static void orders(void) {
+    static const struct {
+        const char *one, *other;
+        uint32_t places;
+        wkt_status same;
+    } rows[] = {{"PINT(2 1)", "\xff", 19 | WKT_WHOLE, WKT_NO_PLACES},
+                {"PINT(2 1)", "\xff", 6 | WKT_WHOLE, WKT_NOT_UTF8},
+                {"\xff", "PINT(2 1)", 6, WKT_NOT_UTF8},
+                {"PINT(2 1)", "POINT(1 2 x", 6, 3},
+                {"POINT(1 2 x", "PINT(2 1)", 6, 7},
+                {"POINT(1 2) x", "PINT(2 1)", 6 | WKT_WHOLE, 3},
+                {"POINT(1 2) x", "\xff", 6 | WKT_WHOLE, WKT_NOT_UTF8},
+                {"POINT(1 2)", "POINT(1 2) x", 6 | WKT_WHOLE, WKT_NOT_WHOLE}};
+    static char one[ROOM], other[ROOM];
+    size_t i, blanks;
+    for (i = 0; i < sizeof rows / sizeof *rows; i++)
+        for (blanks = 0; blanks <= 220; blanks += 55) {
+            uint32_t same = 9;
+            sprintf(one, "%*s%s", (int)(blanks / 2), "", rows[i].one);
+            sprintf(other, "%*s%s", (int)blanks, "", rows[i].other);
+            CHECK(wkt_same(BYTES(one), BYTES(other), rows[i].places, &same) == rows[i].same && same == 9);
+        }
+}
+
 /* Where a text is refused, and what could stand there; the message is the status of the other calls. */
 static void explanations(void) {
     static const struct {
@@ -259,6 +284,7 @@ void test_texts(void) {
     whole_texts();
     explanations();
     comparisons();
+    orders();
     headers();
     many_lines();
     some_lines();

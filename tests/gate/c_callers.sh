@@ -43,17 +43,21 @@ nm -D --defined-only "$out/libwkt.so" | sed 's/.* //' | grep -vx WKT_0 > "$dir/v
 grep -vqE '@@WKT_0$' "$dir/versioned" && fail "libwkt.so: a name of another version"
 sed 's/@.*//' "$dir/versioned" | sort > "$dir/exported"
 cmp -s "$dir/declared" "$dir/exported" || { diff "$dir/declared" "$dir/exported"; fail "libwkt.so: other names"; }
-echo "libwkt.so exports the $(wc -l < "$dir/exported") functions of wkt.h, and nothing else"
+# Two archives with proved code stand in one program: whatever else they define is local to each.
+nm -g --defined-only "$out/libwkt.a" | sed -n 's/.* [A-Z] //p' | sort > "$dir/exported"
+cmp -s "$dir/declared" "$dir/exported" || { diff "$dir/declared" "$dir/exported"; fail "libwkt.a: other names"; }
+echo "libwkt.so and libwkt.a export the $(wc -l < "$dir/exported") functions of wkt.h, and nothing else"
 while read -r name; do
     grep -qw "$name" packaging/release/man/wkt.3 || fail "wkt.3 doesn't name $name"
 done < "$dir/declared"
 
 wrap="-Wl,--wrap=malloc -Wl,--wrap=realloc"
-# each NAME COMPILER FLAG..: the tests in C, compiled so
+# each NAME COMPILER FLAG..: the tests in C, compiled so, over $objects
+objects=("$out/libwkt.a")
 each() {
     local name=$1
     shift
-    "$@" -Wall -Wextra -Werror -I"$out" -o "$dir/calls" capi/tests/{calls,texts,explain,columns,pointers}.c -x none "$out/libwkt.a" $wrap || fail "$name: not compiled"
+    "$@" -Wall -Wextra -Werror -I"$out" -o "$dir/calls" capi/tests/{calls,texts,explain,columns,pointers}.c -x none "${objects[@]}" $wrap || fail "$name: not compiled"
     "$dir/calls" > "$dir/said" 2>&1 || { cat "$dir/said"; fail "$name: the tests fail"; }
     echo "$name: $(cat "$dir/said")"
 }
@@ -65,7 +69,9 @@ if ! skips valgrind; then
 fi
 each "C under ASan and UBSan" "$cc" -O1 -g -fsanitize=address,undefined -fno-sanitize-recover
 skips c++ || each C++ g++ -O2 -x c++
-each "C on a processor that lacks something" "$cc" -O2 -DPROCESSOR capi/tests/processor.c
+# In place of heap.c:
+objects=(capi/tests/processor.c "$out/pointers.o" "$out/wkt_c.o")
+each "C on a processor that lacks something" "$cc" -O2 -DPROCESSOR
 "$cc" -O1 -g -no-pie -fsanitize=undefined -fno-sanitize-recover -Wall -Wextra -Werror -o "$dir/empty" capi/tests/empty.c \
     -Wl,--unresolved-symbols=ignore-all || fail "empty: not compiled"
 "$dir/empty" > "$dir/said" 2>&1 || { cat "$dir/said"; fail "NULL of size 0 is passed on"; }
@@ -91,6 +97,16 @@ done
 "$dir/lines" < crates/wktline/stdin | cmp - crates/wktline/stdout || fail "lines: another output than wktline's"
 "$dir/stream" < crates/wktline/stdin | cmp - crates/wktline/stdout || fail "stream: another output than wktline's"
 echo "examples: the output of wktline"
+# A line of 32 MB in reads of 1,400 bytes takes a second of the processor, and a minute if each of them is passed on.
+"$cc" -O2 -I"$out" -Wl,--wrap=read -o "$dir/pieces" capi/examples/stream.c -x c - -x none "$out/libwkt.a" << 'END' || fail "stream: not compiled in pieces"
+#include <unistd.h>
+ssize_t __real_read(int file, void *to, size_t size);
+ssize_t __wrap_read(int file, void *to, size_t size) { return __real_read(file, to, size < 1400 ? size : 1400); }
+END
+{ printf 'LINESTRING(' && yes '1234567.5 76543.25,' | head -n 1770000 | tr -d '\n' && echo '1 1)'; } > "$dir/long"
+(ulimit -t 10 && exec "$dir/pieces" < "$dir/long" > "$dir/said") || fail "stream: a long line in pieces takes too long"
+cmp "$dir/said" "$dir/long" || fail "stream: another answer to a long line"
+echo "a line of 32 MB in pieces: answered in time"
 
 for python in "${pythons[@]}"; do
     WKT_LIB=$out/libwkt.so PYTHONDONTWRITEBYTECODE=1 PYTHONPATH=python "$python" -W error -m unittest discover -q -s python/tests > "$dir/said" 2>&1 ||

@@ -39,6 +39,34 @@ make_dist install PREFIX=/usr DESTDIR="$dir/root" LIBDIR=/usr/lib/here
 grep -qx 'prefix=/usr' "$dir/root/usr/lib/here/pkgconfig/wkt.pc" || wrong "wkt.pc names another prefix"
 ! grep -q 'ldconfig' "$dir/said" || wrong "ldconfig is said below DESTDIR"
 
+# In folders whose names have a space: a clone, the library, what is installed. An unquoted `rm -rf` would take `my`.
+mkdir "$dir/my clone"
+touch "$dir/my"
+git ls-files -z -- capi include dist packaging/release/man 'LICENSE-*' | tar --null -T - -cf - | tar -C "$dir/my clone" -xf -
+runs() { "$@" > "$dir/said" 2>&1 || { tail -n 20 "$dir/said"; wrong "$*"; }; }
+runs make -s -C "$dir/my clone/dist" install prefix="$dir/my tools"
+PKG_CONFIG_PATH=$dir/my\ tools/lib/pkgconfig pkg-config --cflags --libs wkt > "$dir/flags"
+runs "$dir/my clone/capi/build.sh" "$dir/my \$library"
+grep -qxF "libdir=$dir/my \$library" "$dir/my \$library/wkt.pc" || wrong "wkt.pc names another folder than my \$library"
+for flags in "$(cat "$dir/flags")" "-I'$dir/my \$library' '$dir/my \$library/libwkt.a'"; do
+    eval "${CC:-cc} capi/examples/show.c $flags -o '$dir/show'" || wrong "a program isn't compiled by: $flags"
+done
+if ! skips rust; then
+    tests/lib/cargo_home.sh "$dir/cargo" || failed=1
+    cp -r rust "$dir/my crate"
+    [ -n "${CC:-}" ] || runs env -u WKT_LIB_DIR PKG_CONFIG_PATH="$dir/my tools/lib/pkgconfig" CARGO_HOME="$dir/cargo" CARGO_TARGET_DIR="$dir/my target" \
+        cargo build -q --offline --example show --manifest-path "$dir/my crate/Cargo.toml"
+fi
+runs make -s -C "$dir/my clone/dist" uninstall prefix="$dir/my tools"
+left=$(find "$dir/my tools" ! -type d)
+[ -z "$left" ] || wrong "make uninstall leaves $left"
+runs make -s -C "$dir/my clone/dist" install DESTDIR="$dir/my root" PREFIX=/usr
+[ -x "$dir/my root/usr/bin/wkt" ] || wrong "DESTDIR with a space"
+for goal in clean all; do
+    ! make -C dist $goal O="$dir/my out" > "$dir/said" 2>&1 && grep -q 'make takes no folder whose name' "$dir/said" || wrong "make takes O with a space"
+done
+[ -e "$dir/my" ] && [ ! -e "$dir/my out" ] || wrong "make goes by a cut path"
+
 # They run on glibc 2.17 and later, look all their names up before they begin, and write no table of addresses later.
 for file in libwkt.so.0 wkt wktline wktstream; do
     newest=$(readelf -W --version-info "$dir/out/$file" | grep -o 'GLIBC_[0-9.]*' | sort -u -V | tail -n 1)
@@ -65,7 +93,6 @@ printf '#!/bin/sh\necho riscv64-linux-gnu\n' > "$dir/cc" && chmod 755 "$dir/cc"
 says 'dist/refresh.sh riscv64 proves and builds them' env CC="$dir/cc" WKT_C_LIB=dist capi/build.sh "$dir/none"
 says 'capi/build.sh in a clone of wkt makes it' env WKT_LIB_DIR=/nowhere python3 -c 'import sys; sys.path.insert(0, "python"); import backend; backend.build_wheel(sys.argv[1])' "$dir"
 if ! skips rust; then
-    tests/lib/cargo_home.sh "$dir/cargo" || failed=1
     says 'capi/build.sh in a clone of wkt makes it' env WKT_LIB_DIR=/nowhere CARGO_HOME="$dir/cargo" CARGO_TARGET_DIR="$dir/target" \
         cargo build -q --offline --manifest-path rust/Cargo.toml
 fi
