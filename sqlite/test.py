@@ -138,6 +138,8 @@ with open(repository + "/tests/data/key_rules.tsv", encoding="utf-8", newline="\
                 answer,
             )
             same(ask(db, "wkt_reads(?, ?)", text, int(places)), int(key != "refused"))
+            same(ask(db, "wkt_or_null(?, ?)", text, int(places)), key if key != "refused" else None)
+            same(ask(db, "wkt_explain(?, ?) is null", text, int(places)), int(key != "refused"))
             rows += 1
 assert rows > 40
 with open(repository + "/tests/data/keys.tsv", encoding="utf-8", newline="\n") as table:
