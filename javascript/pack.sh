@@ -14,7 +14,7 @@ trap 'rm -rf "$work"' EXIT
 mkdir "$work/package"
 cp -r "$here"/{package.json,README.md,src} "$top"/LICENSE-{APACHE,MIT} "$work/package"
 cp "$top/dist/NOTICE" "$work/package"
-cp "$module" "$work/package/wkt.wasm"
+"$here/build.py" "$module" "$work/package"
 tar -C "$work" --format=ustar --sort=name --owner=0 --group=0 --numeric-owner --mode=u=rwX,go=rX --mtime="@$when" -cf - package |
     gzip -9n > "$out/wkt-proved-$version.tgz"
 echo "$out/wkt-proved-$version.tgz"

@@ -13,11 +13,14 @@ there() {
         python) command -v python3 ;;
         numpy | pandas | shapely | mypy | tqdm | matplotlib | build) module "$1" ;;
         dask) module dask && module distributed ;;
+        dbg) command -v /usr/bin/python3-dbg ;;
         wheel) module setuptools && module wheel && module pip && module venv && [ -e "$(headers)/Python.h" ] ;;
         postgres) command -v pg_config && [ -e "$(pg_config --includedir-server)/postgres.h" ] && [ -x "$(pg_config --bindir)/initdb" ] ;;
         sqlite) command -v sqlite3 && [ -e /usr/include/sqlite3.h ] ;;
         web) command -v node && command -v wasm-opt ;;
         types) command -v tsc ;;
+        esbuild | webpack) command -v "$1" ;;
+        rollup) command -v rollup && [ -e /usr/share/nodejs/@rollup/plugin-node-resolve ] ;;
         page) command -v chromium && command -v chromedriver && module selenium ;;
         fuzz) command -v clang && command -v ld.lld ;;
         flake8 | shellcheck | clang-format) command -v "$1" ;;
@@ -41,11 +44,15 @@ packages=(
     "matplotlib python3-matplotlib"
     "build python3-build git"
     "dask python3-dask python3-distributed"
+    "dbg python3-dbg"
     "wheel python3-setuptools python3-wheel python3-pip python3-venv python3-dev"
     "postgres postgresql postgresql-server-dev-all"
     "sqlite sqlite3 libsqlite3-dev"
     "web nodejs binaryen"
     "types node-typescript"
+    "esbuild esbuild"
+    "rollup rollup node-rollup-plugin-node-resolve"
+    "webpack webpack"
     "page chromium chromium-driver python3-selenium"
     "fuzz clang lld libclang-rt-dev"
     "flake8 flake8"

@@ -1,7 +1,7 @@
 // The figures of Node: node.js MODULE FILE..
 import { readFileSync } from 'node:fs';
 import { basename } from 'node:path';
-import { load } from '../src/index.js';
+import { load } from '../src/node.js';
 import { figure, runsOf } from './measure.js';
 
 // So many runs at least, and so many seconds: the engine compiles once more what it has seen to be called often.

@@ -5,6 +5,9 @@ const EXACT = 2n ** 53n;
 
 /** So many units as canonical text has them. */
 export function decimal(units, places) {
+  if (typeof units !== 'bigint') throw new TypeError('units are a BigInt');
+  if (!Number.isInteger(places)) throw new TypeError('places is a whole number');
+  if (places < 0) throw new RangeError('places is 0 or more');
   if (places === 0 || units === 0n) return units.toString();
   const negative = units < 0n;
   const digits = (negative ? -units : units).toString().padStart(places + 1, '0');

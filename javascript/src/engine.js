@@ -6,6 +6,7 @@
 import { STATUS } from './names.js';
 import { WktError } from './errors.js';
 
+const EXPORTS = ['memory', '__heap_base', 'wkt_arrays', 'wkt_canonical', 'wkt_explain', 'wkt_hint', 'wkt_infer', 'wkt_lines_some', 'wkt_same'];
 const PAGE = 65536;
 // Results: sixteen words of 64 bits. Behind them stands what a call lays out.
 const CELLS = 16;
@@ -42,9 +43,23 @@ export class LoneSurrogate extends Error {
   }
 }
 
+/** Bytes, if that is what they are. Those of a detached buffer have the length 0, and would be taken for no text. */
+export function present(bytes, what) {
+  if (!(bytes instanceof Uint8Array)) throw new TypeError(what);
+  try {
+    if (bytes.length === 0) bytes.indexOf(0);
+  } catch {
+    throw new TypeError('the buffer of the bytes is detached');
+  }
+  return bytes;
+}
+
 export class Engine {
   /** @param {WebAssembly.Module} module */
   constructor(module) {
+    const has = WebAssembly.Module.exports(module).map(({ name }) => name);
+    const lacking = EXPORTS.find((name) => !has.includes(name));
+    if (lacking) throw new TypeError(`this module isn't wkt.wasm: it has no ${lacking}`);
     this.module = module;
     this.start();
   }
@@ -114,7 +129,7 @@ export class Engine {
   /** Lays out a text as UTF-8, and returns where it stands; its length is in `this.length`. */
   put(text) {
     if (typeof text === 'string') return this.putString(text);
-    if (!(text instanceof Uint8Array)) throw new TypeError('a text is a string or a Uint8Array');
+    present(text, 'a text is a string or a Uint8Array');
     const at = this.lay(text.length);
     this.bytes.set(text, at);
     this.length = text.length;

@@ -1,14 +1,18 @@
 // Where a text is refused, in words.
-import { HINTS, MESSAGES } from './names.js';
+import { HINTS } from './names.js';
+import { wordsOf } from './errors.js';
+import { printable } from './printable.js';
 
 // How many characters of a line are shown, and in how many bytes they surely are: a word has 200 at most, of 4 bytes.
 const WIDTH = 72;
 const AROUND = 1000;
+// White space of the grammar. Other spaces are refused, so they are shown.
+const SPACES = [' ', '\n', '\r', '\t'];
 
 // A text may be long, so no regular expression runs over it: each step here looks for a byte, or counts.
 
-/** The text as its characters: the two halves of a surrogate pair are one. */
-const charactersOf = (text) => Array.from(text);
+/** The characters of a line as they are shown. A tab stays one, since it moves the mark below it as far. */
+const charactersOf = (text) => Array.from(text.split('\t').map(printable).join('\t'));
 
 /** How many characters stand from one place of a text to another. */
 function count(text, from, to) {
@@ -34,18 +38,17 @@ function lineOf(text, at, feed) {
   return { line, first };
 }
 
-/** What is seen of some characters: a control character would move what follows. */
-const shown = (characters) => characters.map((c) => (c < ' ' && c !== '\t') || c === '\x7f' ? '\ufffd' : c).join('');
-
 /** The line of a text around a place, and a mark below the place. */
 function caretOf(text, start, stop) {
   const first = start === 0 ? 0 : text.lastIndexOf('\n', start - 1) + 1;
   const feed = text.indexOf('\n', start);
-  const last = feed < 0 ? text.length : feed;
-  // A character is at most two units, so these hold all that can be shown.
-  let before = charactersOf(text.slice(Math.max(first, start - 2 * WIDTH), start));
-  let after = charactersOf(text.slice(start, Math.min(last, start + 2 * WIDTH)));
-  const marked = charactersOf(text.slice(start, Math.min(last, stop, start + 2 * WIDTH))).length;
+  const end = feed < 0 ? text.length : feed;
+  // A carriage return at the end of a line is a part of its end.
+  const last = end > Math.max(start, stop) && text[end - 1] === '\r' ? end - 1 : end;
+  // A character is at most two units, so these hold all that can be shown, and one unit more, which may be half of one.
+  let before = charactersOf(text.slice(Math.max(first, start - 2 * WIDTH - 1), start));
+  let after = charactersOf(text.slice(start, Math.min(last, start + 2 * WIDTH + 1)));
+  const marked = charactersOf(text.slice(start, Math.min(last, stop, start + 2 * WIDTH + 1))).length;
   let dots = '';
   if (before.length + after.length > WIDTH) {
     if (before.length > WIDTH / 2) {
@@ -55,14 +58,14 @@ function caretOf(text, start, stop) {
     after = after.slice(0, WIDTH - before.length);
   }
   const under = [...dots, ...before].map((c) => (c === '\t' ? '\t' : ' ')).join('');
-  return `${dots}${shown(before)}${shown(after)}\n${under}${'^'.repeat(Math.max(1, Math.min(marked, after.length)))}`;
+  return `${dots}${before.join('')}${after.join('')}\n${under}${'^'.repeat(Math.max(1, Math.min(marked, after.length)))}`;
 }
 
-/** A word that isn't too long for a sentence. */
+/** A word as it is shown, and not too long for a sentence. */
 export function short(word) {
   // Two units may be one character.
-  const characters = charactersOf(word.slice(0, 80));
-  return characters.length < 40 ? word : characters.slice(0, 37).join('') + '...';
+  const characters = Array.from(printable(word.slice(0, 81)));
+  return characters.length < 40 ? characters.join('') : characters.slice(0, 37).join('') + '...';
 }
 
 /** How many digits a number has behind its point, as far as the last that isn't 0. */
@@ -82,8 +85,8 @@ export function hintWords(hint, word, places) {
 function causeOf({ line, column, expected, hint }, text, start, stop) {
   const place = line > 1 ? `at line ${line}, column ${column}` : `at ${column}`;
   if (hint) return `${place}: ${hint}`;
-  const there = charactersOf(text.slice(start, Math.min(stop, start + 400))).slice(0, 200);
-  const words = there.map((c) => (c.trim() === '' ? ' ' : c)).join('').split(' ');
+  const there = Array.from(text.slice(start, Math.min(stop, start + 400))).slice(0, 200);
+  const words = there.map((c) => (SPACES.includes(c) ? ' ' : c)).join('').split(' ');
   const said = short(words.filter((word) => word !== '').join(' '));
   return `${place}: ${expected} was expected, ${said ? `and not ${said}` : 'but the text ends'}`;
 }
@@ -95,7 +98,7 @@ const inWords = (place, text, start, stop) => ({ ...place, cause: causeOf(place,
 export function explanation(text, status, start, stop, expected, hint = '') {
   const { line, first } = lineOf(text, start, '\n');
   const column = count(text, first, start) + 1;
-  return inWords({ status, message: MESSAGES[status], start, stop, expected, hint, line, column }, text, start, stop);
+  return inWords({ status, message: wordsOf(status), start, stop, expected, hint, line, column }, text, start, stop);
 }
 
 /** The same of bytes of UTF-8. A string can't hold all that bytes can, so only what is around the place is made one. */
@@ -109,6 +112,6 @@ export function explanationOfBytes(bytes, status, start, stop, expected, hint = 
   while (to < bytes.length && (bytes[to] & 0xc0) === 0x80) to++;
   const [before, there, after] = [[from, start], [start, Math.min(stop, to)], [Math.min(stop, to), to]]
     .map((range) => decoder.decode(bytes.subarray(...range)));
-  const place = { status, message: MESSAGES[status], start, stop, expected, hint, line, column };
+  const place = { status, message: wordsOf(status), start, stop, expected, hint, line, column };
   return inWords(place, before + there + after, before.length, before.length + there.length);
 }

@@ -77,7 +77,10 @@ export interface Explanation {
   readonly column: number;
   /** The place, and why the text is refused there, in one line. */
   readonly cause: string;
-  /** The line of the text, or what of it is around the place, with a mark below the place. */
+  /**
+   * The line of the text, or what of it is around the place, with a mark below the place. As in `cause`, what isn't
+   * printable stands in it as `\x1b` or `\u{202e}`.
+   */
   readonly caret: string;
 }
 
@@ -89,6 +92,10 @@ export declare class WktError extends Error {
   /** The words of the status alone. */
   readonly words: string;
   readonly place: Explanation | null;
+  /** The three of them, since structured clone keeps nothing else of an error. */
+  readonly cause: { readonly status: number; readonly words: string; readonly place: Explanation | null };
+  /** The error that a worker posted, as it came, or as `{ ...error }`. @throws {TypeError} it was none of these */
+  static from(posted: unknown): WktError;
   /** As of its place; '' where none is known. */
   get hint(): string;
   get caret(): string;
@@ -151,7 +158,10 @@ export interface Wkt {
   explain(text: Text, asked?: Asked): Explanation | null;
   /** The kind and the dimension that the header of a text names; the rest isn't read. @throws {WktError} there is none */
   infer(text: Text): { kind: Kind; dimension: Dimension };
-  /** A geometry that is no collection as flat arrays. @throws {WktError} it is one, is refused, or has a number too large */
+  /**
+   * A geometry that is no collection as flat arrays: those of the value as it is read. For the same arrays of the same key,
+   * pass the canonical text.
+   * @throws {WktError} it is one, is refused, or has a number too large */
   arrays(text: Text, asked?: Asked): Arrays;
   /** The canonical text of such arrays. @throws {WktError} they are of no geometry */
   fromArrays(arrays: GivenArrays): string;
@@ -185,5 +195,8 @@ type Source = WebAssembly.Module | BufferSource | Response | URL | string;
  */
 export declare function load(source?: Source | PromiseLike<Source>): Promise<Wkt>;
 
-/** A number of units of ten to the minus `places` as canonical text has it. */
+/**
+ * A number of units of ten to the minus `places` as canonical text has it. @throws {TypeError} the units are no bigint, or
+ * places no whole number. @throws {RangeError} places is less than 0
+ */
 export declare function decimal(units: bigint, places: number): string;

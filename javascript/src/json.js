@@ -1,4 +1,5 @@
 // JSON whose numbers are kept as they are written. JSON.parse would make doubles of them.
+import { printable } from './printable.js';
 
 /** A number of JSON, as it is written. */
 export class NumberText {
@@ -19,7 +20,7 @@ class Reader {
 
   wrong() {
     const { text, at } = this;
-    const what = at < text.length ? `unexpected ${JSON.stringify(text[at])} at ${at}` : 'it ends too early';
+    const what = at < text.length ? `unexpected ${printable(String.fromCodePoint(text.codePointAt(at)))} at ${at}` : 'it ends too early';
     return new SyntaxError(`JSON: ${what}`);
   }
 

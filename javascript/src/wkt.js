@@ -1,5 +1,5 @@
 // What the module answers.
-import { Engine, LoneSurrogate } from './engine.js';
+import { Engine, LoneSurrogate, present } from './engine.js';
 import { WktError } from './errors.js';
 import { explanation, explanationOfBytes, hintWords } from './explanation.js';
 import { DIMENSIONS, EXPECTED, HEADER_MESSAGES, KINDS, STATUS } from './names.js';
@@ -144,8 +144,7 @@ export class Wkt {
     const engine = this.#engine;
     const answers = new LineAnswers(engine, asking(places));
     const isString = typeof input === 'string';
-    if (!isString && !(input instanceof Uint8Array)) throw new TypeError('lines are a string or a Uint8Array');
-    let bytes = input;
+    let bytes = isString ? null : present(input, 'lines are a string or a Uint8Array');
     if (isString) {
       engine.reset();
       const at = this.#put(input);
@@ -159,8 +158,7 @@ export class Wkt {
     const answers = new LineAnswers(this.#engine, asking(places));
     return new TransformStream({
       transform(chunk, out) {
-        if (!(chunk instanceof Uint8Array)) throw new TypeError('lineStream takes chunks of bytes');
-        for (const piece of answers.push(chunk)) out.enqueue(piece);
+        for (const piece of answers.push(present(chunk, 'lineStream takes chunks of bytes'))) out.enqueue(piece);
       },
       flush(out) {
         for (const piece of answers.end()) out.enqueue(piece);
@@ -244,7 +242,8 @@ export class Wkt {
     if (status !== STATUS.OK && status !== STATUS.NOT_WHOLE) throw new WktError(status);
     const [start, stop] = [engine.size(1), engine.size(2)];
     if (status === STATUS.NOT_WHOLE) return this.#explanation(text, at, length, [status, start, stop, 'the end of the text']);
-    const [message, expected] = [engine.number(0), EXPECTED[engine.number(6)]];
+    const message = engine.number(0);
+    const expected = EXPECTED[engine.number(6)] ?? `something newer (expectation ${engine.number(6)})`;
     const hint = engine.hint(at, length, asked);
     const words = hint === 0 ? '' : hintWords(hint, engine.utf8(at + start, stop - start), asked % WHOLE);
     return this.#explanation(text, at, length, [message, start, stop, expected, words]);

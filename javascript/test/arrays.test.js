@@ -1,7 +1,7 @@
 // Flat arrays, from texts and back.
 import test from 'node:test';
 import assert from 'node:assert/strict';
-import { STATUS, decimal } from '../src/index.js';
+import { STATUS, decimal } from '../src/node.js';
 import { thrown, wkt } from './support.js';
 
 test('of texts', () => {
@@ -19,6 +19,14 @@ test('of texts', () => {
   assert.equal(thrown(() => wkt.arrays('POINT(9.223372036854775808 0)', { places: 18 })).status, STATUS.TOO_LARGE);
 });
 
+test('of keys', () => {
+  for (const [text, rings] of [['POLYGON(EMPTY,(1 2))', [0, 0, 1]], ['POLYGON(EMPTY)', [0, 0]], ['polygon empty', [0]]]) {
+    assert.deepEqual([...wkt.arrays(text).rings], rings);
+    const key = wkt.arrays(wkt.canonical(text));
+    assert.deepEqual([[...key.numbers], [...key.rings], [...key.polygons]], [[], [0], [0, 0]]);
+  }
+});
+
 test('coordinates are the nearest doubles', () => {
   const of = (text, places) => [...wkt.arrays(text, { places }).coordinates];
   assert.deepEqual(of('POINT(0.1 -123456789.123456789)', 9), [0.1, -123456789.123456789]);
@@ -32,6 +40,8 @@ test('coordinates are the nearest doubles', () => {
 test('decimals', () => {
   const rows = [[0n, 18, '0'], [-0n, 0, '0'], [15n, 1, '1.5'], [-15n, 2, '-0.15'], [100n, 2, '1'], [-100n, 0, '-100'], [1n, 18, '0.000000000000000001']];
   for (const [units, places, text] of rows) assert.equal(decimal(units, places), text);
+  for (const [units, places] of [[5n, 0.5], [5n, '1'], [5n, NaN], [5n, undefined], [5, 1], ['5', 1]]) assert.throws(() => decimal(units, places), TypeError);
+  for (const places of [-1, -0.5 * 4]) assert.throws(() => decimal(5n, places), RangeError);
 });
 
 test('back to texts', () => {

@@ -1,5 +1,8 @@
 #!/usr/bin/python3
-"""The package in headless Chromium, from a server: browser.py PACKAGE. Its README's example, and a stream of lines."""
+"""The package in headless Chromium, from a server: browser.py PACKAGE [BUNDLE..].
+
+Its README's example, and a stream of lines. BUNDLE is a folder with a page that a bundler made, and shows the same.
+"""
 import functools
 import http.server
 import os
@@ -33,18 +36,17 @@ class Quiet(http.server.SimpleHTTPRequestHandler):
         pass
 
 
-def check(driver, address):
+def shows(driver, address):
+    """Opens a page, and wants the answer of the example on it, and no word in the console."""
     driver.get(address)
     driver.set_script_timeout(60)
-    assert driver.execute_async_script(LINES) == [True, "POINT(1 2)\nrefused\nrefused\n"]
     shown = driver.execute_async_script(
         "const done = arguments[0], text = () => document.body.innerText;"
-        "const look = () => text() ? done(text()) : setTimeout(look, 20); look();"
+        "const look = (n) => text() || n > 400 ? done(text()) : setTimeout(look, 50, n + 1); look(0);"
     )
-    assert shown == "POINT(1 2.5)", shown
     # That there is no icon is no fault of the package.
     said = [it["message"] for it in driver.get_log("browser") if "favicon" not in it["message"]]
-    assert not said, said
+    assert (shown, said) == ("POINT(1 2.5)", []), (address, shown, said)
 
 
 def main():
@@ -53,6 +55,9 @@ def main():
         example = page.read().split("```html\n")[1].split("```")[0]
     with tempfile.TemporaryDirectory() as folder:
         os.symlink(package, f"{folder}/wkt-proved")
+        bundles = [os.path.basename(path) for path in sys.argv[2:]]
+        for path in sys.argv[2:]:
+            os.symlink(os.path.abspath(path), f"{folder}/{os.path.basename(path)}")
         with open(f"{folder}/index.html", "w", encoding="utf-8") as page:
             page.write(f"<!doctype html><title>wkt</title><body>{example}")
         server = http.server.ThreadingHTTPServer(("127.0.0.1", 0), functools.partial(Quiet, directory=folder))
@@ -63,9 +68,14 @@ def main():
             options.add_argument(word)
         driver = webdriver.Chrome(options=options)
         try:
-            check(driver, f"http://127.0.0.1:{server.server_port}/index.html")
+            address = f"http://127.0.0.1:{server.server_port}"
+            for path in ["", *(f"/{name}" for name in bundles)]:
+                shows(driver, f"{address}{path}/index.html")
+            driver.get(f"{address}/index.html")
+            assert driver.execute_async_script(LINES) == [True, "POINT(1 2)\nrefused\nrefused\n"]
             print(
-                f"the package in Chromium {driver.capabilities['browserVersion']}: its example, and a stream of lines"
+                f"the package in Chromium {driver.capabilities['browserVersion']}: its example, a stream of lines;"
+                f" bundles: {' '.join(bundles) or 'none'}"
             )
         finally:
             driver.quit()

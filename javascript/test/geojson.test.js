@@ -1,7 +1,7 @@
 // GeoJSON, to texts and from texts.
 import test from 'node:test';
 import assert from 'node:assert/strict';
-import { GeoJSONError, STATUS } from '../src/index.js';
+import { GeoJSONError, STATUS } from '../src/node.js';
 import { NumberText, parseExact } from '../src/json.js';
 import { rowsOf, thrown, wkt } from './support.js';
 

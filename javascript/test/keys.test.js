@@ -1,7 +1,7 @@
 // The keys that stores keep (tests/data/keys.tsv), at each number of places.
 import test from 'node:test';
 import assert from 'node:assert/strict';
-import { WktError, STATUS } from '../src/index.js';
+import { WktError, STATUS } from '../src/node.js';
 import { bytes, rowsOf, texts, thrown, wkt } from './support.js';
 
 const KEYS = rowsOf('tests/data/keys.tsv');

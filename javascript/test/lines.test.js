@@ -45,6 +45,12 @@ test('in chunks of any size', async () => {
   await assert.rejects(streamed(['POINT(1 2)\n']), TypeError);
 });
 
+test('a chunk that its owner gave away ends the stream', async () => {
+  const gone = bytes('POINT(1 2)\n');
+  structuredClone(gone.buffer, { transfer: [gone.buffer] });
+  await assert.rejects(streamed([bytes('POINT(3 4)\n'), gone, bytes('POINT(5 6)\n')]), TypeError);
+});
+
 test('chunks that their owner uses again, and other calls between', async () => {
   const chunk = new Uint8Array(8);
   const answers = wkt.lineStream();

@@ -2,12 +2,13 @@
 import test from 'node:test';
 import assert from 'node:assert/strict';
 import { createServer } from 'node:http';
-import { mkdtempSync, rmSync, writeFileSync } from 'node:fs';
+import { spawnSync } from 'node:child_process';
+import { cpSync, mkdirSync, mkdtempSync, readdirSync, rmSync, writeFileSync } from 'node:fs';
 import { tmpdir } from 'node:os';
 import { join, relative } from 'node:path';
 import { pathToFileURL } from 'node:url';
-import { load } from '../src/index.js';
-import { moduleBytes } from './support.js';
+import { load } from '../src/node.js';
+import { bytes, moduleBytes } from './support.js';
 
 const works = (wkt) => assert.equal(wkt.canonical('point( 1 2.0 )'), 'POINT(1 2)');
 
@@ -58,4 +59,33 @@ test('what is no module', async () => {
   await assert.rejects(load(new Uint8Array(8)), WebAssembly.CompileError);
   await assert.rejects(load('http://127.0.0.1:1/wkt.wasm'));
   for (const source of [7, null, {}, []]) await assert.rejects(load(source), TypeError);
+});
+
+test('npm packs nothing without the module', { skip: spawnSync('npm', ['--version']).error && 'no npm' }, () => {
+  const folder = mkdtempSync(join(tmpdir(), 'wkt-'));
+  try {
+    cpSync(new URL('../', import.meta.url), folder, { recursive: true });
+    const packed = () => spawnSync('npm', ['pack', '--offline', '--json', '--loglevel=error'], { cwd: folder, encoding: 'utf8' });
+    const stopped = packed();
+    assert.notEqual(stopped.status, 0);
+    assert.match(stopped.stderr, /no wkt\.wasm here/);
+    assert.deepEqual(readdirSync(folder).filter((name) => name.endsWith('.tgz')), []);
+    writeFileSync(join(folder, 'wkt.wasm'), 'a module');
+    mkdirSync(join(folder, 'cjs'));
+    writeFileSync(join(folder, 'cjs/inline.cjs'), 'the same');
+    const done = packed();
+    assert.equal(done.status, 0, done.stderr);
+    assert.ok(JSON.parse(done.stdout)[0].files.some(({ path }) => path === 'wkt.wasm'));
+  } finally {
+    rmSync(folder, { recursive: true });
+  }
+});
+
+// A module that exports a memory and nothing else, and one that imports a function: (module (memory (export "memory") 1)), (module (import "a" "b" (func))).
+const OTHERS = [
+  [0, 0x61, 0x73, 0x6d, 1, 0, 0, 0, 5, 3, 1, 0, 1, 7, 10, 1, 6, ...bytes('memory'), 2, 0],
+  [0, 0x61, 0x73, 0x6d, 1, 0, 0, 0, 1, 4, 1, 0x60, 0, 0, 2, 7, 1, 1, 0x61, 1, 0x62, 0, 0],
+];
+test('another module', async () => {
+  for (const other of OTHERS) await assert.rejects(load(Uint8Array.from(other)), { name: 'TypeError', message: /^this module isn't wkt\.wasm: it has no / });
 });

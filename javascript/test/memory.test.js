@@ -1,7 +1,7 @@
 // Memory, nesting, and a trap.
 import test from 'node:test';
 import assert from 'node:assert/strict';
-import { STATUS, WktError, load } from '../src/index.js';
+import { STATUS, WktError, load } from '../src/node.js';
 import { Engine } from '../src/engine.js';
 import { bytes, moduleBytes, thrown, wkt } from './support.js';
 

@@ -8,7 +8,6 @@ are made arrays, and what they are the arrays of. The same numbers are made on e
 import json
 import os
 import random
-import re
 import sys
 
 TOP = os.path.dirname(os.path.dirname(os.path.dirname(os.path.abspath(__file__))))
@@ -124,8 +123,8 @@ def explained(text, places, whole):
     if why is None:
         return None
     place = [units(text[: why.start]), units(text[: why.stop]), why.line, why.column]
-    # What is white space to Python isn't all so to JavaScript, and a control character isn't shown there.
-    plain = not re.search("[\0-\x08\x0b-\x1f\x7f\x85\ufeff]", text)
+    # What isn't printable is shown in another form.
+    plain = all(character.isprintable() or character in "\t\n" for character in text)
     return [
         why.status,
         why.message,

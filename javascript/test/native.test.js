@@ -2,7 +2,7 @@
 import test from 'node:test';
 import assert from 'node:assert/strict';
 import { readFileSync } from 'node:fs';
-import { STATUS, WktError } from '../src/index.js';
+import { STATUS, WktError } from '../src/node.js';
 import { bytes, wkt } from './support.js';
 
 const file = process.env.WKT_NATIVE;

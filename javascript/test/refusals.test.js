@@ -1,7 +1,7 @@
 // Refused texts: which message each has, at which place, and how that is shown.
 import test from 'node:test';
 import assert from 'node:assert/strict';
-import { WktError, STATUS } from '../src/index.js';
+import { WktError, STATUS } from '../src/node.js';
 import { MESSAGES } from '../src/names.js';
 import { bytes, rowsOf, thrown, wkt } from './support.js';
 
@@ -37,7 +37,7 @@ const WORDS = [
   ['POINT(1 2 3)', {}, [10, 11], 'at 11: a third number needs Z or M, as in POINT Z(1 2 3), and a fourth ZM', 'POINT(1 2 3)\n          ^'],
   ['SRID=4326;POINT(1 2)', {}, [0, 15], 'at 1: SRID=..; of EWKT is not read; ST_AsText leaves it out', 'SRID=4326;POINT(1 2)\n^^^^^^^^^^^^^^^'],
   ['POINT()', {}, [6, 7], 'at 7: what holds nothing is written EMPTY, without parentheses', 'POINT()\n      ^'],
-  ['\ufeffPOINT(1 2)', {}, [0, 6], 'at 1: the text begins with a byte order mark', '\ufeffPOINT(1 2)\n^^^^^^'],
+  ['\ufeffPOINT(1 2)', {}, [0, 6], 'at 1: the text begins with a byte order mark', '\\u{feff}POINT(1 2)\n^^^^^^^^^^^^^'],
   ['POINT(1 2) and more', {}, [11, 19], 'at 12: the end of the text was expected, and not and more', 'POINT(1 2) and more\n           ^^^^^^^^'],
   ['POINT(1 2)\n\nPOINT(3 4)', {}, [12, 22], 'at line 3, column 1: the end of the text was expected, and not POINT(3 4)', 'POINT(3 4)\n^^^^^^^^^^'],
 ];
@@ -54,6 +54,49 @@ test('what an error says', () => {
     for (const two of [[text, 'POINT(1 2)'], ['POINT(1 2)', text]]) assert.equal(thrown(() => wkt.same(...two, options)).message, message);
     assert.equal(wkt.reads(text, options), false);
   }
+});
+
+// What a stranger may write, and how it is shown.
+const HIDDEN = [
+  ['\x01', '\\x01'], ['\x1b', '\\x1b'], ['\x07', '\\x07'], ['\x7f', '\\x7f'], ['\x80', '\\u{80}'], ['\x9b', '\\u{9b}'], ['\xa0', '\\u{a0}'], ['\u200b', '\\u{200b}'], ['\u200f', '\\u{200f}'],
+  ['\u2028', '\\u{2028}'], ['\u2029', '\\u{2029}'], ['\u202e', '\\u{202e}'], ['\u2066', '\\u{2066}'], ['\u2069', '\\u{2069}'], ['\ufeff', '\\u{feff}'], ['\u{e0041}', '\\u{e0041}'],
+];
+
+test('what is not printable is shown by its number', () => {
+  for (const [character, shown] of HIDDEN) {
+    for (const text of [`POINT(${character}a 2)`, bytes(`POINT(${character}a 2)`)]) {
+      const { message, caret, place } = thrown(() => wkt.canonical(text));
+      assert.deepEqual([message, place.cause], Array(2).fill(`at 7: a first number was expected, and not ${shown}a`));
+      assert.equal(caret, `POINT(${shown}a 2)\n      ${'^'.repeat(shown.length + 1)}`);
+    }
+    assert.equal(wkt.explain(`POINT(1 2) ${character}x`).caret, `POINT(1 2) ${shown}x\n           ${'^'.repeat(shown.length + 1)}`);
+    assert.equal(wkt.explain(`${character}\tPOINT(1 2)\n)`)?.caret.split('\n')[0], `${shown}\tPOINT(1 2)`);
+    assert.equal(thrown(() => wkt.fromGeoJSON(`[${character}`)).message, `JSON: unexpected ${shown} at 1`);
+  }
+  assert.equal(thrown(() => wkt.canonical('POINT(\ud800 2)')).message, 'at 7: a lone surrogate is half of a character');
+  assert.equal(thrown(() => wkt.canonical('POINT(\ud800 2)')).caret, 'POINT(\\u{d800} 2)\n      ^^^^^^^^');
+  // What is seen stays as it is.
+  assert.equal(wkt.explain('POINT(é€𝄞ع 2)').caret, 'POINT(é€𝄞ع 2)\n      ^^^^');
+  // A carriage return before a line feed is no part of the line.
+  assert.equal(wkt.explain('POINT(x 2)\r\n').caret, 'POINT(x 2)\n      ^');
+});
+
+test('an error that a worker posts keeps status and place', async () => {
+  for (const call of [() => wkt.canonical('POINT(1)'), () => wkt.canonical('POINT(1 2)', { places: 19 }), () => wkt.infer('FOO(')]) {
+    const error = thrown(call);
+    const { port1, port2 } = new MessageChannel();
+    const came = new Promise((done) => { port2.onmessage = ({ data }) => done(data); });
+    port1.postMessage({ error, spread: { ...error } });
+    const { data } = { data: await came };
+    port1.close();
+    for (const posted of [data.spread, ...(data.error.cause ? [data.error] : [])]) {
+      const again = WktError.from(posted);
+      assert.ok(again instanceof WktError);
+      for (const name of ['status', 'words', 'place', 'message', 'hint', 'caret', 'name']) assert.deepEqual(again[name], error[name], name);
+    }
+    if (!process.version.startsWith('v18.')) assert.ok(data.error.cause, 'Node 18 posts no cause');
+  }
+  assert.throws(() => WktError.from(new Error('another')), TypeError);
 });
 
 test('only white space may follow, unless anything may', () => {
@@ -85,7 +128,6 @@ test('a long line is cut to what is around the place', () => {
   assert.equal(near.caret, `POINT(x${' '.repeat(65)}\n      ^`);
   const pairs = wkt.explain(`${'𝄞'.repeat(50)} ${'𝄞'.repeat(100)}`);
   assert.equal(pairs.caret, `${'𝄞'.repeat(50)} ${'𝄞'.repeat(21)}\n${'^'.repeat(50)}`);
-  assert.equal(wkt.explain('POINT(1 \x07\x7f)').caret, 'POINT(1 \ufffd\ufffd)\n        ^^');
   assert.equal(wkt.explain(`POINT(${'9'.repeat(60)}x 1)`).cause, `at 7: a first number was expected, and not ${'9'.repeat(37)}...`);
 });
 
@@ -117,6 +159,18 @@ test('arguments', () => {
   assert.throws(() => wkt.canonical('POINT(1 2)', { whole: 1 }), TypeError);
   for (const places of [-1, 19, 256]) assert.equal(thrown(() => wkt.canonical('POINT(1 2)', { places })).status, STATUS.NO_PLACES);
   assert.equal(wkt.canonical(Buffer.from('xPOINT(1 2)').subarray(1)), 'POINT(1 2)');
+});
+
+test('a detached buffer is no empty text', () => {
+  const data = bytes('POINT(1 2)\n');
+  structuredClone(data.buffer, { transfer: [data.buffer] });
+  for (const call of ['canonical', 'canonicalBytes', 'front', 'explain', 'infer', 'arrays', 'lines', 'reads', 'toGeoJSON']) {
+    assert.throws(() => wkt[call](data), { name: 'TypeError', message: 'the buffer of the bytes is detached' }, call);
+  }
+  assert.throws(() => wkt.same('POINT(1 2)', data), TypeError);
+  assert.throws(() => wkt.columns(['POINT(1 2)', data]), TypeError);
+  assert.equal(wkt.lines(new Uint8Array(0)).length, 0);
+  assert.equal(wkt.reads(new Uint8Array(0)), false);
 });
 
 test('columns', () => {

@@ -1,7 +1,7 @@
 // What the tests share.
 import assert from 'node:assert/strict';
 import { readFileSync } from 'node:fs';
-import { load } from '../src/index.js';
+import { load } from '../src/node.js';
 
 const TOP = new URL('../../', import.meta.url);
 

@@ -1,8 +1,10 @@
 // What the compiler of TypeScript takes, and what it refuses: each line behind @ts-expect-error is to be an error.
 import { load, WktError, GeoJSONError, KINDS, DIMENSIONS, STATUS, decimal } from 'wkt-proved';
 import type { Arrays, Explanation, GeoJSONGeometry, GivenArrays, Wkt } from 'wkt-proved';
+import { load as inline } from 'wkt-proved/inline';
 
 const wkt: Wkt = await load();
+const other: Wkt = await inline();
 await load(fetch('wkt.wasm'));
 await load(new URL('https://example.org/wkt.wasm'));
 await load(await WebAssembly.compile(new Uint8Array(8)));
@@ -36,6 +38,8 @@ try {
   wkt.infer('x').kind === 'GeometryCollection';
 } catch (error) {
   if (error instanceof WktError && error.status === STATUS.NOT_WHOLE) console.log(error.place?.line, error.hint, error.caret, error.words);
+  const again: WktError = WktError.from(error);
+  console.log(again.cause.place?.caret, again.cause.status.toFixed());
   if (error instanceof GeoJSONError) console.log(error.message);
 }
 // @ts-expect-error there is no such kind
@@ -69,4 +73,4 @@ const bytes: number = wkt.memory;
 wkt.release();
 // @ts-expect-error it is read only
 wkt.memory = 0;
-console.log(key, data, canonical, end, answers, unit, doubles, column, lines, stream, back, listed, ok, bytes);
+console.log(key, data, canonical, end, answers, unit, doubles, column, lines, stream, back, listed, ok, bytes, other);

@@ -7,7 +7,7 @@
 # run in the package as it is packed, and each value that the page writes behind a call is compared.
 #
 # It needs Node 18 or later, tsc, Python and, for the page, Chromium and Selenium (tests/needs.sh installs them). SKIP=types
-# passes tsc over, SKIP=page the page.
+# passes tsc over, SKIP=page the page, SKIP=esbuild, rollup or webpack that bundler.
 set -u
 cd "$(dirname "$0")/../.." || exit 1
 fail() { echo "web: $*"; exit 1; }
@@ -47,14 +47,16 @@ package=$(javascript/pack.sh "$module" "$dir") || fail "pack.sh"
 app=$dir/app
 mkdir -p "$app/node_modules/wkt-proved"
 tar -C "$app/node_modules/wkt-proved" --strip-components=1 -xzf "$package"
-for name in package.json README.md LICENSE-MIT LICENSE-APACHE NOTICE wkt.wasm src/index.js src/index.d.ts; do
+for name in package.json README.md LICENSE-MIT LICENSE-APACHE NOTICE wkt.wasm src/index.js src/index.d.ts src/packed.js cjs/index.cjs cjs/inline.cjs; do
     [ -s "$app/node_modules/wkt-proved/$name" ] || fail "the package has no $name"
 done
 echo '{ "type": "module" }' > "$app/package.json"
+cp javascript/test/by_name.* "$app"
+for file in "$app"/by_name.*; do
+    [ "$(cd "$app" && node "$file")" = "POINT(1 2.5) POINT(1 2.5)" ] || fail "the package by its name: $file"
+done
 cp javascript/test/types.ts "$app"
-echo "import { load } from 'wkt-proved'; console.log((await load()).canonical('point ( 1 2.50 )'));" > "$app/app.js"
-[ "$(cd "$app" && node app.js)" = "POINT(1 2.5)" ] || fail "the package by its name"
-echo "web: $(basename "$package"): $(stat -c %s "$package") bytes, called by its name"
+echo "web: $(basename "$package"): $(stat -c %s "$package") bytes, imported and required by its name"
 # types WORD..: the compiler of TypeScript finds the package so, and has no word about it
 types() { (cd "$app" && tsc --strict --noEmit --target es2022 --lib es2022,dom,dom.iterable "$@" types.ts) || fail "types: $*"; }
 if ! skips types; then
@@ -80,8 +82,36 @@ compared=$(cd "$app" && node examples.js) || fail "the examples of javascript/RE
 [ "$compared" = "$wanted" ] || fail "javascript/README.md: $compared of its $wanted examples were reached"
 echo "web: javascript/README.md: $compared examples, each as it says"
 
+# bundled NAME FROM COMMAND..: what a bundler makes of an app over wkt-proved (FROM is empty) or wkt-proved/inline, in a folder
+# of its own. The command takes the app, and writes js/app.js. Any warning fails.
+bundles=()
+bundled() {
+    local out=$dir/$1${2/\//-}
+    mkdir -p "$out/js"
+    echo "<!doctype html><title>wkt</title><body><script type='module' src='js/app.js'></script>" > "$out/index.html"
+    echo "import { load } from 'wkt-proved$2'; load().then((wkt) => document.body.append(wkt.canonical('point ( 1 2.50 )')));" > "$app/app.js"
+    (cd "$app" && out=$out "${@:3}") > "$dir/said" 2>&1 || { cat "$dir/said"; fail "$1: wkt-proved$2"; }
+    ! grep -i warn "$dir/said" || fail "$1: wkt-proved$2: a warning"
+    # These don't copy the module: they leave its address as it is, one folder up.
+    [ -n "$2" ] || [ "$1" = webpack ] || cp "$module" "$out"
+    bundles+=("$out")
+}
+# by NAME COMMAND..: both entries by a bundler, unless it is passed over
+by() {
+    skips "$1" && return
+    command -v "$1" > /dev/null || fail "no $1: tests/needs.sh installs it"
+    bundled "$1" '' "${@:2}"
+    bundled "$1" /inline "${@:2}"
+}
+# shellcheck disable=SC2016 # expanded where it runs
+{
+    by esbuild sh -c 'esbuild app.js --bundle --minify --format=esm --log-level=warning --outfile="$out/js/app.js"'
+    by rollup sh -c 'rollup app.js -p @rollup/plugin-node-resolve -f es --failAfterWarnings -o "$out/js/app.js"'
+    by webpack sh -c 'webpack --mode production --no-performance --entry ./app.js -o "$out/js" --output-filename app.js'
+}
+
 if ! skips page; then
-    said=$(javascript/test/browser.py "$app/node_modules/wkt-proved" 2>&1) || { echo "$said"; fail "the package in Chromium"; }
+    said=$(javascript/test/browser.py "$app/node_modules/wkt-proved" "${bundles[@]}" 2>&1) || { echo "$said"; fail "the package in Chromium"; }
     echo "web: $said"
 fi
 if [ -e web/make.py ] && ! skips page; then
