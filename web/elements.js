@@ -1,4 +1,7 @@
 // Elements of the page, and words of numbers.
+import { printable } from '../javascript/src/printable.js';
+
+export { printable };
 
 export const $ = (id) => document.getElementById(id);
 
@@ -42,5 +45,11 @@ export const withoutCode = (words) => words.replaceAll('`', '');
 /** `a`, `a and b`, `a, b and c`. */
 export const listed = (parts) => (parts.length > 1 ? `${parts.slice(0, -1).join(', ')} and ${parts[parts.length - 1]}` : parts.join(''));
 
-/** Words that aren't too long for a line. */
-export const short = (words, most) => (words.length > most ? `${words.slice(0, most - 1)}…` : words);
+/** Words of a stranger, as they are shown, and not too long for a line. */
+export function short(words, most) {
+  const shown = printable(words.slice(0, most + 1));
+  return shown.length > most ? `${shown.slice(0, most - 1)}…` : shown;
+}
+
+/** The first word that stands there, between white space of the grammar: other spaces are no white space. */
+export const wordIn = (text) => short(text.split(/[ \n\r\t]+/).find(Boolean) ?? '', 40);

@@ -1,7 +1,7 @@
 // A file: its answers as the worker finds them.
 import { askedSplit, places } from './answers.js';
 import { boundsInWords } from './canonical.js';
-import { $, count, element, number, short, withoutCode } from './elements.js';
+import { $, count, element, number, printable, short, withoutCode, wordIn } from './elements.js';
 import { draw, fit } from './picture.js';
 import { looksLikeOne } from './split.js';
 import { show, state } from './state.js';
@@ -12,6 +12,8 @@ const FRONT = 64 << 10;
 
 const WITHOUT_FILE = $('text').placeholder;
 
+// The number of what is under way, one thing at a time: an answer that comes late belongs to another.
+let job = 0;
 let worker = null;
 let saved = null; // the address of the canonical lines
 let name = '';
@@ -29,9 +31,16 @@ function stopWorker() {
   worker = null;
 }
 
+/** Begins something that ends what is under way. What it returns says whether it is still that. */
+export function begin() {
+  stopWorker();
+  const mine = ++job;
+  return () => mine === job;
+}
+
 /** Forgets the file. */
 export function closeFile() {
-  stopWorker();
+  const current = begin();
   if (saved) URL.revokeObjectURL(saved);
   saved = null;
   opened = null;
@@ -39,14 +48,15 @@ export function closeFile() {
   $('file-card').hidden = true;
   document.body.classList.remove('has-file');
   $('text').placeholder = WITHOUT_FILE;
+  return current;
 }
 
 /** Reads a file, of any size. `more` others were dropped with it. */
 export async function readFile(file, more = 0) {
-  closeFile();
+  const current = closeFile();
   Object.assign(state, { rows: [], chosen: -1, points: new Float64Array(0), pointsOfFile: 0 });
   opened = { file, more };
-  name = file.name;
+  name = printable(file.name);
   document.body.classList.add('has-file');
   $('text').placeholder = 'Type or paste here to close the file';
   for (const id of ['caret', 'hint', 'message', 'save', 'next']) $(id).hidden = true;
@@ -62,14 +72,15 @@ export async function readFile(file, more = 0) {
   const asked = askedSplit();
   try {
     const whole = asked === 'one' || (asked === 'auto' && looksLikeOne(await file.slice(0, FRONT).text(), file.size > FRONT));
+    if (!current()) return;
     const others = more > 0 ? ` ${count(more, 'other file')} that came with it ${more === 1 ? 'is' : 'are'} not read.` : '';
     say('idle', `Reading ${short(name, 60)}`, (whole ? 'The whole file is one text.' : 'Each line is a text.') + others);
     worker = start();
-    worker.onmessage = ({ data }) => (data.failed ? fail(data.failed) : take(data));
-    worker.onerror = (event) => fail(event.message || 'The worker stopped.');
+    worker.onmessage = ({ data }) => current() && (data.failed ? fail(data.failed) : take(data));
+    worker.onerror = (event) => current() && fail(event.message || 'The worker stopped.');
     worker.postMessage({ module: state.module, file, places: places(), whole });
   } catch (error) {
-    fail(error.message);
+    if (current()) fail(error.message);
   }
 }
 
@@ -129,8 +140,8 @@ function refusals(data, { refusals: first }) {
   if (first.length === 0) return [];
   const block = element('div', { class: 'refusals', tabindex: 0, role: 'region', 'aria-label': 'Refused lines' });
   for (const { line, column, expected, found, hint, caret } of first) {
-    const word = found.trim().split(/\s/)[0];
-    const says = word ? `, and not ${short(word, 40)}` : '';
+    const word = wordIn(found);
+    const says = word ? `, and not ${word}` : '';
     block.append(element('b', {}, `line ${number(line)}, column ${number(column)}: ${withoutCode(expected)} was expected${says}`), `\n${caret}\n`, hint ? `why: ${hint}\n\n` : '\n');
   }
   return [section(first.length < data.refused ? `The first ${first.length} refused lines` : 'Refused lines', block)];
@@ -168,7 +179,7 @@ function offer(data) {
   }
   saved = URL.createObjectURL(data.saved);
   $('save').href = saved;
-  $('save').download = `${name.replace(/\.[^.]*$/, '')}.canonical.wkt`;
+  $('save').download = `${opened.file.name.replace(/\.[^.]*$/, '')}.canonical.wkt`;
   $('save').title = data.refused > 0 ? 'For each line its canonical text, or the word refused' : 'For each line its canonical text';
   $('save').hidden = data.lines === 0;
 }

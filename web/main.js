@@ -1,18 +1,19 @@
 // The page: starts the module, and joins the parts.
 import { load } from '../javascript/src/index.js';
+import { unpacked } from '../javascript/src/load.js';
 import { answer, askedSplit, places, setSplit } from './answers.js';
 import { answerText, showCanonical } from './canonical.js';
 import { goToNextRefusal, goToPlace, rowAtCursor, showMarks, startEditor } from './editor.js';
-import { $, element } from './elements.js';
+import { $, button, element } from './elements.js';
 import { EXAMPLES } from './examples.js';
-import { closeFile, readFile, rereadFile, startFiles } from './file.js';
+import { begin, closeFile, readFile, rereadFile, startFiles } from './file.js';
 import { draw, fit, forgetSingle, startPicture } from './picture.js';
 import { showRows, startRows } from './rows.js';
 import { chosenRow, onShow, show, state } from './state.js';
 import { say, showVerdict } from './verdict.js';
 
-/** A file up to this size is put in the field, and a text up to this many characters is answered while it is typed. */
-const SMALL_FILE = 256 << 10, TYPED = 2 << 20;
+/** A file up to this size, with so many lines, is put in the field; a text up to this many characters is answered while it is typed. */
+const SMALL_FILE = 256 << 10, FEW_LINES = 2000, TYPED = 2 << 20;
 /** A text up to this length stands in the address of the page, and one up to that can be linked to. */
 const IN_ADDRESS = 4000, LINKED = 50000;
 /** The most decimal places that a number may have. */
@@ -21,13 +22,6 @@ const MOST_PLACES = 18;
 const SLOW = 20000, WAIT = 150;
 
 const text = $('text');
-
-/** The module, which stands in the page as base64 of its gzip. */
-async function compiled() {
-  const packed = Uint8Array.from(atob($('module').textContent.trim()), (c) => c.charCodeAt(0));
-  const stream = new Blob([packed]).stream().pipeThrough(new DecompressionStream('gzip'));
-  return WebAssembly.compile(await new Response(stream).arrayBuffer());
-}
 
 /** Answers the text, and shows the row at the cursor where that is asked for, else the first that is refused. */
 function analyse(atCursor = false) {
@@ -49,10 +43,11 @@ function link() {
   return `#${said}`;
 }
 
-function readLink() {
+/** Takes what stands in the address; `set` puts its text in the field. */
+function readLink(set) {
   const said = new URLSearchParams(location.hash.slice(1));
   if (!said.has('wkt')) return false;
-  text.value = said.get('wkt');
+  set(said.get('wkt'));
   const wanted = said.get('places') ?? '';
   $('places').value = /^(1[0-8]|[0-9])$/.test(wanted) ? wanted : String(MOST_PLACES);
   setSplit(['lines', 'one'].includes(said.get('as')) ? said.get('as') : 'auto');
@@ -81,9 +76,28 @@ function changed(atCursor = false) {
   keepInAddress();
 }
 
-/** Puts a text in the field. */
+let replacing = false;
+
+/** Puts a text in the field in place of what stands there, as one change that the browser can undo. */
+function replace(words) {
+  const value = words.replace(/\r\n?/g, '\n'); // as the field has its lines
+  if (value === text.value) return;
+  replacing = true;
+  text.focus();
+  text.select();
+  // Chrome takes seconds for a thousand lines by insertText, and Firefox has no insertHTML here.
+  if (value === '') document.execCommand('delete');
+  else document.execCommand('insertHTML', false, value.replaceAll('&', '&amp;').replaceAll('<', '&lt;')) || document.execCommand('insertText', false, value);
+  // What the browser doesn't put in so (a NUL) can't be undone.
+  if (text.value !== value) text.value = value;
+  text.setSelectionRange(0, 0);
+  text.scrollTop = 0;
+  replacing = false;
+}
+
+/** Puts a text in the field, and answers it. */
 function put(value) {
-  text.value = value;
+  replace(value);
   state.chosen = 0;
   changed();
 }
@@ -134,14 +148,19 @@ async function take(files) {
   const [file] = files;
   if (!file) return;
   if (file.size <= SMALL_FILE) {
+    const current = begin();
     try {
-      put(new TextDecoder('utf-8', { fatal: true, ignoreBOM: true }).decode(await file.arrayBuffer()));
-      return;
+      const words = new TextDecoder('utf-8', { fatal: true, ignoreBOM: true }).decode(await file.arrayBuffer());
+      if (current() && words.split('\n', FEW_LINES + 1).length <= FEW_LINES) {
+        put(words);
+        return;
+      }
     } catch {
       // It isn't UTF-8, or can't be read: the worker says so.
     }
+    if (!current()) return;
   }
-  text.value = '';
+  replace('');
   keepInAddress();
   readFile(file, files.length - 1);
 }
@@ -173,25 +192,42 @@ function startDropping() {
 // ---- The rest of the controls.
 function fillSelects() {
   for (let n = MOST_PLACES; n >= 0; n--) $('places').append(element('option', { value: n }, n === MOST_PLACES ? `${n} (most)` : String(n)));
-  for (const name of Object.keys(EXAMPLES)) $('examples').append(element('option', { value: name }, name));
+}
+
+/** The list of examples: each is a button, so that going through the list changes nothing. */
+function startExamples() {
+  const list = $('examples');
+  for (const [name, example] of Object.entries(EXAMPLES)) {
+    $('example-list').append(button(name, {}, () => {
+      list.open = false;
+      setSplit('auto');
+      put(example);
+    }));
+  }
+  addEventListener('pointerdown', (event) => {
+    if (!list.contains(event.target)) list.open = false;
+  });
+  list.addEventListener('keydown', (event) => {
+    if (event.key !== 'Escape') return;
+    list.open = false;
+    list.querySelector('summary').focus();
+  });
 }
 
 function startControls() {
-  let typing = 0;
   text.addEventListener('input', (event) => {
-    clearTimeout(typing);
+    if (replacing) return;
     const typed = /^(insert(?!From)|delete)/.test(event.inputType);
-    if (text.value.length < SLOW) changed(typed);
-    else typing = setTimeout(changed, WAIT, typed);
+    if (text.value.length < SLOW) {
+      changed(typed);
+      return;
+    }
+    const current = begin();
+    setTimeout(() => current() && changed(typed), WAIT);
   });
   for (const control of [$('places'), ...document.querySelectorAll('input[name=split]')]) {
     control.addEventListener('change', () => rereadFile() || changed());
   }
-  $('examples').addEventListener('change', () => {
-    setSplit('auto');
-    put(EXAMPLES[$('examples').value] ?? '');
-    $('examples').value = '';
-  });
   $('clear').addEventListener('click', () => {
     put('');
     text.focus();
@@ -227,7 +263,7 @@ function startKeys() {
     event.preventDefault();
   });
   addEventListener('hashchange', () => {
-    if (!readLink()) return;
+    if (!readLink(replace)) return;
     state.chosen = 0;
     closeFile();
     analyse();
@@ -238,7 +274,7 @@ async function start() {
   fillSelects();
   try {
     const begun = performance.now();
-    state.module = await compiled();
+    state.module = await unpacked($('module').textContent.trim());
     state.wkt = await load(state.module);
     $('engine').textContent = `The module was ready in ${Math.round(performance.now() - begun)} ms.`;
   } catch (error) {
@@ -252,9 +288,14 @@ async function start() {
   startFiles();
   startCopying();
   startControls();
+  startExamples();
   startKeys();
   startDropping();
-  if (!readLink()) text.value = EXAMPLES[Object.keys(EXAMPLES)[0]];
+  // What stands in the field at first is no change that could be undone.
+  const set = (words) => {
+    text.value = words;
+  };
+  if (!readLink(set)) set(EXAMPLES[Object.keys(EXAMPLES)[0]]);
   analyse();
   document.documentElement.dataset.ready = 'yes';
 }

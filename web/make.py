@@ -44,8 +44,10 @@ def pairs(names):
 class Modules:
     """Modules of JavaScript, by their paths, in an order in which each comes after those that it imports."""
 
-    def __init__(self, package):
+    def __init__(self, package, here="location.href"):
+        """`here` is the address of what they are joined to, in JavaScript."""
         self.package = package
+        self.here = here
         self.texts = {}
 
     def path(self, importer, name):
@@ -106,8 +108,7 @@ class Modules:
 
         text = FORWARD.sub(forwarded, IMPORT.sub(imported, self.texts[path]))
         text = DECLARED.sub(declared, EXPORT.sub(listed, text))
-        # The package's own address is that of the page. It isn't used, since the module is given.
-        text = text.replace("import.meta.url", "location.href")
+        text = text.replace("import.meta.url", self.here)
         left = re.search(r"^(import|export)\b.*", text, re.M)
         assert not left, f"{path}: {left[0]}: a form that isn't understood"
         return f"const {self.name(path)} = (() => {{\n{text}return {{ {', '.join(exported)} }};\n}})();\n"

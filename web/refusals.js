@@ -1,5 +1,6 @@
 // Why lines of a file are refused.
 import { STATUS, WktError } from '../javascript/src/index.js';
+import { printable } from '../javascript/src/printable.js';
 
 /** How many refusals are listed, and how many are asked for their reasons. */
 const LISTED = 100;
@@ -82,7 +83,7 @@ export class Refusals {
         return { column, expected, hint: hint || '', caret, found: foundAt(bytes, error.place) };
       }
       const at = notUtf8At(bytes.subarray(0, LONG));
-      const caret = `${utf8.decode(bytes.subarray(0, Math.min(at, 60)))}\n`;
+      const caret = `${printable(utf8.decode(bytes.subarray(0, Math.min(at, 60))))}\n`;
       return { column: at, expected: 'UTF-8', hint: `byte ${at} of the line is not UTF-8`, caret, found: '' };
     }
     throw new Error('a refused line was read');

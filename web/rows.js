@@ -1,6 +1,6 @@
 // The table of lines.
 import { summaryOf } from './answers.js';
-import { $, button, colored, count, element, number } from './elements.js';
+import { $, button, colored, count, element, number, printable } from './elements.js';
 import { choose, state } from './state.js';
 import { withAxes } from './verdict.js';
 
@@ -32,7 +32,7 @@ function answerCell(row, i) {
 function tableRow(row, i) {
   return element('tr', { 'aria-selected': String(i === state.chosen), tabindex: i === state.chosen ? 0 : -1, 'data-i': i },
     element('td', { class: 'n' }, String(row.line)), element('td', {}, answerCell(row, i)),
-    element('td', { class: 'n' }, row.accepted ? number(summaryOf(row).points) : ''), element('td', { class: 'text' }, row.text.slice(0, 200)));
+    element('td', { class: 'n' }, row.accepted ? number(summaryOf(row).points) : ''), element('td', { class: 'text' }, printable(row.text.slice(0, 200).replace(/[\t\r]/g, ' '))));
 }
 
 export function showRows() {

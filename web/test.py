@@ -21,6 +21,7 @@ sys.path.insert(0, os.path.dirname(os.path.abspath(__file__)) + "/test")
 from access import Access  # noqa: E402 (found by the line above)
 from chromium import Page, Quiet  # noqa: E402
 from files import Files  # noqa: E402
+from selenium.webdriver.common.by import By  # noqa: E402
 from texts import Texts  # noqa: E402
 
 TOP = os.path.dirname(os.path.dirname(os.path.abspath(__file__)))
@@ -94,10 +95,8 @@ class Whole(Page):
     def test_no_console_error(self):
         self.open()
         self.console()
-        for option in self.script(
-            "return [...document.getElementById('examples').options].map((o) => o.value).filter(Boolean)"
-        ):
-            self.choose_example(option)
+        for button in self.driver.find_elements(By.CSS_SELECTOR, "#example-list button"):
+            self.choose_example(button.get_attribute("textContent"))
         for name in ("in", "out-zoom", "fit", "copy", "copy-link", "theme", "clear"):
             self.by_id(name).click() if self.by_id(name).is_displayed() else None
         self.assertEqual([], self.console())

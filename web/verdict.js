@@ -1,7 +1,7 @@
 // Whether the text is accepted, and why it isn't.
 import { STATUS } from '../javascript/src/index.js';
 import { summaryOf, lineOf } from './answers.js';
-import { $, count, element, listed, number, short, withCode, withoutCode } from './elements.js';
+import { $, count, element, listed, number, withCode, withoutCode, wordIn } from './elements.js';
 import { chosenRow, state } from './state.js';
 
 const line = (d, width) => `<svg viewBox="0 0 16 16"><path d="${d}" fill="none" stroke="currentColor" stroke-width="${width}" stroke-linecap="round" stroke-linejoin="round"/></svg>`;
@@ -36,8 +36,7 @@ function holds(summary) {
 /** What stands at the place of a refusal, as nodes. */
 function found({ text, place }) {
   if (place.start >= place.stop) return ['The text ends there'];
-  const word = text.slice(place.start, Math.min(place.stop, place.start + 60)).trim().split(/\s/)[0];
-  return ['It says ', element('code', {}, short(word, 40))];
+  return ['It says ', element('code', {}, wordIn(text.slice(place.start, Math.min(place.stop, place.start + 60))))];
 }
 
 /** Why a row is refused, as nodes. */

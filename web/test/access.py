@@ -4,7 +4,7 @@ from selenium import webdriver
 from selenium.webdriver.common.by import By
 from selenium.webdriver.common.keys import Keys
 
-CONTROLS = "button, a[href], input, select, textarea, [tabindex='0'], progress, [role=region]"
+CONTROLS = "button, summary, a[href], input, select, textarea, [tabindex='0'], progress, [role=region]"
 
 
 class Access(Page):

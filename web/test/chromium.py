@@ -128,6 +128,12 @@ class Page(unittest.TestCase):
     def press(self, *keys):
         webdriver.ActionChains(self.driver).send_keys(*keys).perform()
 
+    def undo(self):
+        self.by_id("text").send_keys(Keys.CONTROL, "z")
+
+    def value(self):
+        return self.by_id("text").get_attribute("value")
+
     def drop(self, *paths):
         """Drops files on the page, as a file manager does."""
         for kind in ("dragEnter", "dragOver", "drop"):
@@ -153,11 +159,12 @@ class Page(unittest.TestCase):
         return " ".join(self.said("facts").split())
 
     def choose_example(self, name):
-        self.script(
-            "const e = document.getElementById('examples'); e.value = arguments[0];"
-            " e.dispatchEvent(new Event('change'))",
-            name,
-        )
+        self.by_id("examples-button").click()
+        for button in self.driver.find_elements(By.CSS_SELECTOR, "#example-list button"):
+            if button.text == name:
+                button.click()
+                return
+        self.fail(f"no example {name}")
 
     def console(self):
         return [line["message"] for line in self.driver.get_log("browser") if line["level"] in ("SEVERE", "WARNING")]

@@ -82,6 +82,50 @@ class Files(Page):
         self.assertEqual("Accepted: Point", self.said("say"))
         self.assertFalse(self.by_id("file-card").is_displayed())
 
+    def test_files_close_together(self):
+        """A file that is slow to open says nothing under the name of the next, nor takes the place of what is typed."""
+        # Drops files one after the other, each of a text so many times; the first is slow to open.
+        dropped = """
+            const [files, typed] = arguments;
+            files.forEach(([name, line, times], i) => {
+              const file = new File([line.repeat(times)], name);
+              if (i === 0) {
+                const later = () => new Promise((done) => setTimeout(done, 700));
+                const late = (blob, read) => () => later().then(() => read.call(blob));
+                const { slice } = file;
+                file.arrayBuffer = late(file, file.arrayBuffer);
+                file.slice = (...range) => {
+                  const part = slice.apply(file, range);
+                  part.text = late(part, part.text);
+                  return part;
+                };
+              }
+              const event = new Event('drop', { cancelable: true });
+              event.dataTransfer = { files: [file], types: ['Files'] };
+              dispatchEvent(event);
+            });
+            const field = document.getElementById('text');
+            if (!typed) return;
+            field.value = typed;
+            field.dispatchEvent(new Event('input'));
+        """
+        large = ["second.wkt", "POINT(1 2)\n", 40000]
+        for first in (["first.wkt", "POINT(1 2)\nPOINT(1)\n", 30000], ["first.wkt", "POINT(9 9)\n", 2]):
+            with self.subTest(first):
+                self.open()
+                self.script(dropped, [first, large])
+                time.sleep(1.5)
+                self.wait(lambda: "40,000" in self.said("say"))
+                self.assertEqual("All 40,000 lines accepted", self.said("say"))
+                self.assertEqual("second.wkt", self.said("h-file"))
+                self.assertIn("40,000\nlines", self.said("file-out"))
+                self.assertEqual("", self.value())
+                self.open()
+                self.script(dropped, [first], "POINT(3 4)")
+                time.sleep(1.5)
+                self.assertEqual("POINT(3 4)", self.value())
+                self.assertEqual("Accepted: Point", self.said("say"))
+
     def test_file_read_again(self):
         self.open()
         self.drop(self.file(f"LINESTRING({'1.25 2,' * 60}3 4)\n" * 1000))

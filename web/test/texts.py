@@ -172,6 +172,81 @@ class Texts(Page):
         self.by_id("in").click()
         self.wait(lambda: self.script(shape)[0][0] > 1.4 * width)
 
+    def test_undo(self):
+        """What is put in place of typed text is undone by the browser's own history, step by step."""
+        self.open()
+        typed = "POINT(12 34)"
+        self.type(typed)
+        self.by_id("clear").click()
+        self.assertEqual("", self.value())
+        self.undo()
+        self.assertEqual(typed, self.value())
+        self.assertEqual("Accepted: Point", self.said("say"))
+        self.script("location.hash = '#wkt=POINT%2878+9%29'")
+        self.wait(lambda: self.value() == "POINT(78 9)")
+        self.undo()
+        self.assertEqual(typed, self.value())
+        self.choose_example("Collection")
+        collection = self.value()
+        self.assertEqual("Accepted: GeometryCollection", self.said("say"))
+        self.choose_example("Islands")
+        islands = self.value()
+        self.assertTrue(islands.startswith("MULTIPOLYGON"))
+        for wanted in (collection, typed):
+            self.undo()
+            self.assertEqual(wanted, self.value())
+        self.by_id("text").send_keys(Keys.CONTROL, Keys.SHIFT, "z")
+        self.assertEqual(collection, self.value())
+        self.drop(self.file("POINT(5 6)\n" * 3))
+        self.wait(lambda: self.said("say") == "All 3 lines accepted")
+        self.undo()
+        self.assertEqual(collection, self.value())
+        self.drop(self.file("POINT(5 6)\n" * 30000))
+        self.wait(lambda: self.said("say") == "All 30,000 lines accepted")
+        self.undo()
+        self.assertEqual((collection, "Accepted: GeometryCollection"), (self.value(), self.said("say")))
+
+    def test_examples_by_keys(self):
+        """Arrow keys on the closed list change nothing; it opens, and Escape closes it."""
+        self.open()
+        self.type("POINT(12 34)")
+        button = self.script(
+            "const e = document.getElementById('examples'), b = e.querySelector('summary') ?? e; b.focus(); return b"
+        )
+        for key in (Keys.ARROW_DOWN, Keys.ARROW_UP, Keys.END, "P"):
+            button.send_keys(key)
+        self.assertEqual("POINT(12 34)", self.value())
+        button.send_keys(Keys.ENTER)
+        self.assertTrue(self.by_id("example-list").is_displayed())
+        self.press(Keys.TAB, Keys.ESCAPE)
+        self.assertFalse(self.by_id("example-list").is_displayed())
+        self.assertEqual(button, self.driver.switch_to.active_element)
+        self.press(Keys.ENTER, Keys.TAB, Keys.TAB, Keys.ENTER)
+        self.assertIn("TRIANGLE", self.value())
+
+    def test_what_is_not_printable(self):
+        """A stranger's characters that turn words around, or aren't seen, are shown by their numbers."""
+        self.open()
+        line, shown = "POINT(\u202e\x1b\x9b\u2028\u00a0x 2)\n", "\\u{202e}\\x1b\\u{9b}\\u{2028}\\u{a0}x"
+        self.paste("POINT(1 2)\n" + line)
+        self.assertIn(f"It says {shown}, and", self.said("why"))
+        self.assertIn(f"POINT({shown} 2)", self.said("caret"))
+        self.assertIn(f"POINT({shown} 2)", self.said("rows"))
+        self.assertEqual(["text"], self.raw())
+        self.drop(self.file(line.encode() + b"POINT(\xe2\x80\xae\xff 2)\n" * 30000, "a\u202eb.wkt"))
+        self.wait(lambda: "lines refused" in self.said("say"))
+        self.assertEqual("a\\u{202e}b.wkt", self.said("h-file"))
+        self.assertIn(f"and not {shown}", self.said("file-out"))
+        self.assertEqual([], self.raw())
+
+    def raw(self):
+        """The elements in which such a character stands."""
+        return self.script(
+            r"const own = (e) => [...e.childNodes].map((n) => n.data ?? '').join('') + (e.value ?? '');"
+            r"return [...document.querySelectorAll('body *')].filter((e) => !e.closest('script, .mirror')"
+            r" && /[\x1b\x80-\xa0\u2028\u202e]/.test(own(e))).map((e) => e.id || e.tagName)"
+        )
+
     def test_deep(self):
         self.open()
         self.paste("GEOMETRYCOLLECTION(" * 100000 + "POINT(1 2)" + ")" * 100000)
