@@ -56,17 +56,17 @@ bytes() {
     echo "release: the same bytes under umask 077, of the changelog's date"
 }
 
-# faces: what else the release has is built where nothing else of the repository is
+# faces: what else the release has is built where nothing else of the repository is, in a folder with a space
 faces() {
-    mkdir "$dir/faces" && tar -C "$dir/faces" --strip-components=1 -xzf "$out"/wkt-proved-*.tar.gz
+    mkdir "$dir/the faces" && tar -C "$dir/the faces" --strip-components=1 -xzf "$out"/wkt-proved-*.tar.gz
     if ! skips sqlite; then
-        make -s -C "$dir/faces/sqlite" > "$dir/log" 2>&1 || { cat "$dir/log"; fail "make -C sqlite"; }
-        [ "$(sqlite3 -cmd ".load $dir/faces/sqlite/mod_wkt" :memory: "SELECT wkt_canonical('$text')")" = "$answer" ] || fail "mod_wkt"
+        make -s -C "$dir/the faces/sqlite" > "$dir/log" 2>&1 || { cat "$dir/log"; fail "make -C sqlite"; }
+        [ "$(sqlite3 -cmd ".load '$dir/the faces/sqlite/mod_wkt'" :memory: "SELECT wkt_canonical('$text')")" = "$answer" ] || fail "mod_wkt"
     fi
-    skips postgres || make -s -C "$dir/faces/postgres" > "$dir/log" 2>&1 || { cat "$dir/log"; fail "make -C postgres"; }
+    skips postgres || make -s -C "$dir/the faces/postgres" > "$dir/log" 2>&1 || { cat "$dir/log"; fail "make -C postgres"; }
     if ! skips rust; then
         "$root/tests/lib/cargo_home.sh" "$dir/cargo" || fail "cargo"
-        CARGO_HOME=$dir/cargo CARGO_TARGET_DIR=$dir/target cargo run -q --offline --manifest-path "$dir/faces/rust/Cargo.toml" --example show -- "$text" > "$dir/said" 2> "$dir/log" ||
+        CARGO_HOME=$dir/cargo CARGO_TARGET_DIR="$dir/the target" cargo run -q --offline --manifest-path "$dir/the faces/rust/Cargo.toml" --example show -- "$text" > "$dir/said" 2> "$dir/log" ||
             { cat "$dir/log"; fail "cargo run"; }
         grep -qF "$answer" "$dir/said" || { cat "$dir/said"; fail "the crate's example"; }
     fi
