@@ -1,5 +1,5 @@
 #!/usr/bin/env python3
-"""Checks the pages: README's size, long sentences, links that lead nowhere, commands that don't exist, counts, API.md.
+"""Checks the pages: long sentences, links that lead nowhere, README's commands, counts, API.md.
 
     tests/gate/pages.py      prints what is wrong, a line each; status 1 where anything is
 """
@@ -9,8 +9,6 @@ import subprocess
 import sys
 
 TOP = os.path.dirname(os.path.dirname(os.path.dirname(os.path.abspath(__file__))))
-README_BYTES = 7 * 1024
-ALL_BYTES = 156 * 1024
 WORDS = 35
 # Made from the sources, so neither read by sentences nor counted.
 MADE = {"docs/API.md"}
@@ -138,24 +136,17 @@ def stale_counts():
 
 
 def wrong():
-    total = 0
     for path in pages():
         text = text_of(path)
-        if path not in MADE:
-            yield from lost_links(path, text)
-            total += len(text.encode())
-    readme = text_of("README.md")
-    size = len(readme.encode())
-    if size > README_BYTES:
-        yield f"README.md: {size} bytes, of {README_BYTES} at most"
-    for sentence in sentences(readme):
-        count = len(sentence.split())
-        if count > WORDS:
-            yield f"README.md: a sentence of {count} words: {sentence[:60]}.."
-    yield from lost_commands("README.md", readme)
+        if path in MADE:
+            continue
+        yield from lost_links(path, text)
+        for sentence in sentences(text):
+            count = len(sentence.split())
+            if count > WORDS:
+                yield f"{path}: a sentence of {count} words: {sentence[:60]}.."
+    yield from lost_commands("README.md", text_of("README.md"))
     yield from stale_counts()
-    if total > ALL_BYTES:
-        yield f"all pages: {total} bytes, of {ALL_BYTES} at most"
     made = subprocess.run([sys.executable, f"{TOP}/tests/gate/api.py"], capture_output=True, text=True, check=True)
     if made.stdout != text_of("docs/API.md"):
         yield "docs/API.md: not what tests/gate/api.py makes of the sources"
