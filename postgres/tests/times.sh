@@ -21,17 +21,21 @@ most=0
 for row in "wkt_canonical(t) 1" "wkt_canonical(t) 2" "wkt_canonical(t) 3" "wkt_canonical(t) 4" "wkt_canonical(t) 5" "wkt_reads(t) 1" "wkt_same(t,t) 1" \
     "wkt_explain(t||',') 2" "wkt_explain(t||',') 5" "t::wkt 1" "t::wkt(6) 5"; do
     read -r call id <<< "$row"
-    read -r from_length _ <<< "$(took 0 "select length(t || '') from long where id = $id")"
-    read -r whole whole_cpu <<< "$(took 0 "select length(($call)::text) from long where id = $id")"
-    timeout=$(((from_length + whole) / 2))
-    # A machine with other work may be faster the next time, and the call end before its timeout.
-    for _ in 1 2 3 4 5 6; do
-        read -r clock cpu <<< "$(took $timeout "select length(($call)::text) from long where id = $id")"
-        ! grep -q 'canceling statement due to statement timeout' "$dir/said" || break
-        timeout=$((timeout / 2 + 1))
+    # The processor's time, since by the clock another program's work counts too: no longer than the call alone. Another
+    # program slows it down by the caches too, so a call that takes longer is measured again.
+    for _ in 1 2 3; do
+        read -r from_length _ <<< "$(took 0 "select length(t || '') from long where id = $id")"
+        read -r whole whole_cpu <<< "$(took 0 "select length(($call)::text) from long where id = $id")"
+        timeout=$(((from_length + whole) / 2))
+        # A machine with other work may be faster the next time, and the call end before its timeout.
+        for _ in 1 2 3 4 5 6; do
+            read -r clock cpu <<< "$(took $timeout "select length(($call)::text) from long where id = $id")"
+            ! grep -q 'canceling statement due to statement timeout' "$dir/said" || break
+            timeout=$((timeout / 2 + 1))
+        done
+        grep -q 'canceling statement due to statement timeout' "$dir/said" || wrong "cancel: $row: $(head -c 200 "$dir/said")"
+        [ "$cpu" -gt $((whole_cpu * 3 / 2 + 500)) ] || break
     done
-    grep -q 'canceling statement due to statement timeout' "$dir/said" || wrong "cancel: $row: $(head -c 200 "$dir/said")"
-    # By the processor's time, since by the clock another program's work counts too: no longer than the call alone.
     [ "$cpu" -le $((whole_cpu * 3 / 2 + 500)) ] || wrong "cancel: $row took $cpu ms, and $whole_cpu ms without a timeout"
     [ "$cpu" -le $most ] || most=$cpu which=$row
     [ -z "${VERBOSE:-}" ] || echo "$row: timeout $timeout ms, ended at $clock ms, processor $cpu of $whole_cpu ms"
