@@ -47,14 +47,14 @@ first() { cell "$1" 2 | head -n 1; }
 answer='POINT(1 2.5)'
 
 # The first block: each command, and what the page says that it prints.
-sed -n '/^```console$/,/^```$/{//!p}' "$root/README.md" | sed '/^\$ rt try$/,$d' > "$dir/block"
+sed -n '/^```console$/,/^```$/{//!p}' "$root/README.md" > "$dir/block"
 grep -v '^\$ ' "$dir/block" > "$dir/want"
 cp "$dir/want" "$debian/want"
 row "the first block" "" "{ $(sed -n 's/^\$ \(.*\)/\1 || [ $? = 1 ]/p' "$dir/block")
 } > /tmp/said; cmp /want /tmp/said"
 row "make install" "" "sudo make -s -C dist install; sudo ldconfig; echo 'point ( 1 2.50 )' | wktline | grep -qxF '$answer'"
-row "run" "" "$(sed -n 's/^\(make -C dist && .*\)#.*/\1/p' "$root/README.md") | cmp - crates/wktline/stdout"
-row "make check" "" "$(sed -n 's/^\(make -C dist check\) *#.*/\1/p' "$root/README.md")"
+row "run" "" "$(sed -n 's/^\(make -C dist && .*\)#.*/\1/p' "$root/CONTRIBUTING.md") | cmp - crates/wktline/stdout"
+row "make check" "" "$(sed -n 's/^\(make -C dist check\) *#.*/\1/p' "$root/CONTRIBUTING.md")"
 row Python "$(packages Python)" "python3 -m venv /tmp/venv && . /tmp/venv/bin/activate; $(first Python)
 cd /; python -c \"import wkt; assert wkt.canonical('point ( 1 2.50 )') == '$answer'\"; rm -rf /tmp/venv"
 row "C, C++" "" "$(first "C, C++")"

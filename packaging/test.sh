@@ -120,9 +120,10 @@ vendor() {
     (cd "$dir/other" && rt new crates/theirs start_io > /dev/null) || fail "rt new"
     printf '%s\n' 'theirs:' 'mine: wkt anyhow' > "$dir/other/crates.txt"
     "$here/vendor.sh" "$dir/other" > /dev/null || fail "vendor.sh"
-    # The first program of README, and what it prints there.
-    sed -n '/^```rust$/,/^```$/{//!p}' "$root/README.md" > "$dir/other/crates/mine/src/main.rt"
-    sed -n '/^\$ rt try$/,/^```$/{//!p}' "$root/README.md" > "$dir/want"
+    # The first program of docs/CALLING.md, and what it prints there.
+    sed -n '/^## A first program$/,/^## Make/p' "$root/docs/CALLING.md" > "$dir/first"
+    sed -n '/^```rust$/,/^```$/{//!p}' "$dir/first" > "$dir/other/crates/mine/src/main.rt"
+    sed -n '/^\$ rt try$/,/^```$/{//!p}' "$dir/first" > "$dir/want"
     # Where `rt try` is ended from outside, as without memory, its only words are run=none.
     (cd "$dir/other/crates/mine" && rt try < /dev/null) > "$dir/said" 2> "$dir/log" && cmp "$dir/said" "$dir/want" ||
         { cat "$dir/log"; fail "rt try"; }

@@ -31,6 +31,8 @@ KNOWN = {
     "psql",
     "pkg-config",
     "git",
+    "comm",
+    "sort",
 }
 
 
@@ -131,8 +133,8 @@ def stale_counts():
     ):
         if count not in trust:
             yield f"docs/TRUST.md: it has to say {count}"
-    if f"the {lines} lines" not in text_of("README.md"):
-        yield f"README.md: it has to say the {lines} lines"
+    if f"[{read_lines} lines](docs/TRUST.md)" not in text_of("README.md"):
+        yield f"README.md: it has to say {read_lines} lines"
 
 
 def wrong():
@@ -145,7 +147,8 @@ def wrong():
             count = len(sentence.split())
             if count > WORDS:
                 yield f"{path}: a sentence of {count} words: {sentence[:60]}.."
-    yield from lost_commands("README.md", text_of("README.md"))
+    for path in ("README.md", "CONTRIBUTING.md", "docs/REBUILD.md"):
+        yield from lost_commands(path, text_of(path))
     yield from stale_counts()
     made = subprocess.run([sys.executable, f"{TOP}/tests/gate/api.py"], capture_output=True, text=True, check=True)
     if made.stdout != text_of("docs/API.md"):
