@@ -107,6 +107,35 @@ HINTS = (
     "a third number needs Z or M, as in POINT Z(1 2 3), and a fourth ZM",
     "what holds nothing is written EMPTY, without parentheses",
 )
+# The same as one stable word, for tables: EXPECTED.
+EXPECTED_WORDS = (
+    "kind",
+    "member",
+    "dimension",
+    "opening",
+    "point",
+    "x",
+    "y",
+    "z",
+    "m",
+    "more",
+    "closing",
+)
+# The same as one stable word, for tables: HINT.
+HINT_WORDS = (
+    "none",
+    "byte_order_mark",
+    "hexadecimal",
+    "srid",
+    "curve",
+    "surface",
+    "exponent",
+    "no_number",
+    "places",
+    "large",
+    "dimension",
+    "empty",
+)
 # Statuses.
 OK = 0
 LAST_REFUSAL = 14

@@ -152,6 +152,9 @@ def python_table(groups):
     lines = []
     for name, what, items in lists(groups):
         lines += [f"# {what}", f"{name} = ("] + [f"    {item}," for item in items] + [")"]
+    for group in ("expected", "hint"):
+        lines += [f"# The same as one stable word, for tables: {group.upper()}.", f"{group.upper()}_WORDS = ("]
+        lines += [f'    "{capitals(row.name).lower()}",' for row in groups[group]] + [")"]
     lines.append("# Statuses.")
     return lines + [f"{row.name} = {row.number}" for row in groups["status"]]
 
