@@ -90,12 +90,28 @@ bool are_same(const Question asked[2], bool *same) {
     return status == WKT_OK;
 }
 
-/* The kind that the header of a text names, with its dimension; NULL where it names none. */
-text *kind_of(const Question *asked) {
-    uint32_t kind = 0, dimension = 0;
-    wkt_status status = wkt_infer(asked->utf8, asked->length, &kind, &dimension);
+/* A kind and a dimension as a header names them. */
+char *header_of(uint32_t kind, uint32_t dimension) {
+    return psprintf("%s%s%s", kinds[kind], dimension ? " " : "", dimensions[dimension]);
+}
+
+/* The front of a text: so many bytes, if it is long. What is stored elsewhere isn't fetched for it as a whole. */
+text *front_of(Datum given, int32 length) {
+    struct varlena *held = (struct varlena *)DatumGetPointer(given);
+    return (text *)(VARATT_IS_EXTENDED(held) && !VARATT_IS_SHORT(held) ? PG_DETOAST_DATUM_SLICE(given, 0, length)
+                                                                       : held);
+}
+
+/* The kind and the dimension that the header of a text names; false where it names none. The header ends at the first
+ * parenthesis, so a text that has one in its front is read no further. */
+bool header_from(Datum given, uint32_t *kind, uint32_t *dimension) {
+    text *front = front_of(given, LONGEST_FRONT);
+    const char *opening = memchr(VARDATA_ANY(front), '(', VARSIZE_ANY_EXHDR(front));
+    Question asked;
+    wkt_status status;
+    if (opening == NULL) front = DatumGetTextPP(given);
+    asked = question_of(VARDATA_ANY(front), opening ? opening + 1 - VARDATA_ANY(front) : VARSIZE_ANY_EXHDR(front), 0);
+    status = wkt_infer(asked.utf8, asked.length, kind, dimension);
     if (status == WKT_NO_MEMORY) fail_with(status);
-    return status == WKT_OK
-               ? cstring_to_text(psprintf("%s%s%s", kinds[kind], dimension ? " " : "", dimensions[dimension]))
-               : NULL;
+    return status == WKT_OK;
 }

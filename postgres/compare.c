@@ -1,4 +1,4 @@
-/* Comparisons and hashes: PostgreSQL's own of bytea. They are named here, since a function in LANGUAGE internal is looked for
+/* Comparisons, hashes and the digest: PostgreSQL's own of bytea. They are named here, since a function in LANGUAGE internal is looked for
  * by its name among all of the server's, each time that an exclusion constraint checks a row. */
 #include "wkt_pg.h"
 
@@ -16,3 +16,4 @@ IS_NOW(pg_wkt_gt, byteagt)
 IS_NOW(pg_wkt_ge, byteage)
 IS_NOW(pg_wkt_hash, hashvarlena)
 IS_NOW(pg_wkt_hash_extended, hashvarlenaextended)
+IS_NOW(pg_wkt_digest, sha256_bytea)

@@ -3,6 +3,7 @@
 
 #include "lib/stringinfo.h"
 #include "mb/pg_wchar.h"
+#include "miscadmin.h"
 #include "utils/builtins.h"
 #if PG_VERSION_NUM >= 160000
 #include "nodes/miscnodes.h"
@@ -17,6 +18,7 @@ static const char *expected_of(const Question *asked, size_t *start, wkt_status 
     uint32_t message, what;
     size_t stop;
     *status = wkt_explain(asked->utf8, asked->length, asked->places | WKT_WHOLE, &message, start, &stop, &what);
+    CHECK_FOR_INTERRUPTS();
     return *status == WKT_OK ? expected[what] : *status == WKT_NOT_WHOLE ? "the end of the text" : NULL;
 }
 
@@ -24,11 +26,18 @@ static const char *expected_of(const Question *asked, size_t *start, wkt_status 
 static const char *hint_of(const Question *asked) {
     static const char *const hints[] = WKT_HINTS;
     uint32_t hint = WKT_HINT_NONE;
+    wkt_status status = wkt_hint(asked->utf8, asked->length, asked->places, &hint);
     char *said;
-    if (wkt_hint(asked->utf8, asked->length, asked->places, &hint) != WKT_OK || hint == WKT_HINT_NONE) return NULL;
+    CHECK_FOR_INTERRUPTS();
+    if (status != WKT_OK || hint == WKT_HINT_NONE) return NULL;
     said = psprintf(hints[hint], asked->places);
     said[0] = (char)pg_toupper((unsigned char)said[0]);
     return psprintf("%s.", said);
+}
+
+/* The number of the character at a place, from 1 on. */
+static int character_at(const Question *asked, size_t place) {
+    return pg_mbstrlen_with_len(asked->given, (int)place) + 1;
 }
 
 /* The error of a refusal, soft where the caller has a context for it. */
@@ -40,14 +49,41 @@ Datum refuse(Node *context, const Question *asked) {
 
     if ((expected = expected_of(asked, &start, &status)) != NULL) {
         hint = hint_of(asked);
-        detail =
-            psprintf("At character %d: %s was expected.", pg_mbstrlen_with_len(asked->given, (int)start) + 1, expected);
+        detail = psprintf("At character %d: %s was expected.", character_at(asked, start), expected);
     } else
         detail = psprintf("%s.", wkt_message(status));
     ereturn(context, (Datum)0,
             (errcode(ERRCODE_INVALID_TEXT_REPRESENTATION),
              errmsg("invalid well-known text: \"%.*s%s\"", shown, asked->given, more), errdetail("%s", detail),
              hint ? errhint("%s", hint) : 0));
+}
+
+/* The columns place, expected and hint of a text that is refused. */
+static void put_refusal(const Question *asked, Datum *row, bool *nulls) {
+    wkt_status status;
+    size_t start;
+    const char *expected = expected_of(asked, &start, &status), *hint = expected ? hint_of(asked) : wkt_message(status);
+    nulls[0] = nulls[1] = expected == NULL;
+    nulls[2] = hint == NULL;
+    if (expected) row[0] = Int32GetDatum(character_at(asked, start));
+    if (expected) row[1] = CStringGetTextDatum(expected);
+    if (hint) row[2] = CStringGetTextDatum(hint);
+}
+
+/* The value of a text, or why there is none: a row, and no error. */
+PG_FUNCTION_INFO_V1(pg_wkt_read);
+Datum pg_wkt_read(PG_FUNCTION_ARGS) {
+    Question asked = question_of_text(PG_GETARG_TEXT_PP(0), places_of(PG_GETARG_INT32(1)));
+    Datum row[4] = {0};
+    bool nulls[4] = {false, true, true, true};
+    text *answer;
+    if (canonical_of(&asked, &answer))
+        row[0] = PointerGetDatum(answer);
+    else {
+        nulls[0] = true;
+        put_refusal(&asked, row + 1, nulls + 1);
+    }
+    return row_of(fcinfo, row, nulls);
 }
 
 /* From the place back, and on, so many characters at most, and not past the line. */

@@ -21,6 +21,9 @@ COMMENT ON FUNCTION @extschema@.wkt_explain(pg_catalog.text, pg_catalog.int4)
 CREATE FUNCTION @extschema@.wkt_kind(pg_catalog.text) RETURNS pg_catalog.text
     AS 'MODULE_PATHNAME', 'pg_wkt_kind' LANGUAGE C IMMUTABLE STRICT PARALLEL SAFE;
 COMMENT ON FUNCTION @extschema@.wkt_kind(pg_catalog.text) IS 'the kind and dimension that the header of a text names';
+CREATE FUNCTION @extschema@.wkt_dimension(pg_catalog.text) RETURNS pg_catalog.text
+    AS 'MODULE_PATHNAME', 'pg_wkt_dimension' LANGUAGE C IMMUTABLE STRICT PARALLEL SAFE;
+COMMENT ON FUNCTION @extschema@.wkt_dimension(pg_catalog.text) IS 'the dimension that the header of a text names';
 CREATE FUNCTION @extschema@.wkt_version() RETURNS pg_catalog.text
     AS 'MODULE_PATHNAME', 'pg_wkt_version' LANGUAGE C STABLE STRICT PARALLEL SAFE;
 COMMENT ON FUNCTION @extschema@.wkt_version() IS 'the version of the library that answers';
@@ -50,7 +53,7 @@ CREATE FUNCTION @extschema@.wkt(pg_catalog.text, pg_catalog.int4, pg_catalog.boo
 CREATE FUNCTION @extschema@.wkt_support(pg_catalog.internal) RETURNS pg_catalog.internal
     AS 'MODULE_PATHNAME', 'pg_wkt_support' LANGUAGE C IMMUTABLE STRICT PARALLEL SAFE;
 CREATE FUNCTION @extschema@.wkt(@extschema@.wkt, pg_catalog.int4, pg_catalog.bool) RETURNS @extschema@.wkt
-    AS 'MODULE_PATHNAME', 'pg_wkt_cast' LANGUAGE C IMMUTABLE STRICT PARALLEL SAFE SUPPORT @extschema@.wkt_support;
+    AS 'MODULE_PATHNAME', 'pg_wkt_recast' LANGUAGE C IMMUTABLE STRICT PARALLEL SAFE SUPPORT @extschema@.wkt_support;
 -- A text is cast explicitly: else wkt = text would compare the bytes of a text that isn't canonical. A wkt may be assigned
 -- to a text. The third cast applies the modifier of a column, as that of varchar does, and rewrites no table where the
 -- modifier is wider.
@@ -67,6 +70,39 @@ CREATE FUNCTION @extschema@.length(@extschema@.wkt) RETURNS pg_catalog.int4
 COMMENT ON FUNCTION @extschema@.length(@extschema@.wkt) IS 'the number of characters, which are ASCII';
 CREATE FUNCTION @extschema@.wkt_kind(@extschema@.wkt) RETURNS pg_catalog.text
     AS 'MODULE_PATHNAME', 'pg_wkt_kind' LANGUAGE C IMMUTABLE STRICT PARALLEL SAFE;
+COMMENT ON FUNCTION @extschema@.wkt_kind(@extschema@.wkt) IS 'the kind and dimension of a value';
+CREATE FUNCTION @extschema@.wkt_dimension(@extschema@.wkt) RETURNS pg_catalog.text
+    AS 'MODULE_PATHNAME', 'pg_wkt_dimension' LANGUAGE C IMMUTABLE STRICT PARALLEL SAFE;
+COMMENT ON FUNCTION @extschema@.wkt_dimension(@extschema@.wkt) IS 'the dimension of a value: XY, XYZ, XYM or XYZM';
+CREATE FUNCTION @extschema@.wkt_digest(@extschema@.wkt) RETURNS pg_catalog.bytea
+    AS 'MODULE_PATHNAME', 'pg_wkt_digest' LANGUAGE C IMMUTABLE STRICT PARALLEL SAFE COST 10;
+COMMENT ON FUNCTION @extschema@.wkt_digest(@extschema@.wkt) IS 'the SHA-256 of the canonical text: a key of 32 bytes for a geometry of any length';
+
+-- What a value holds. Paths are those of ST_DumpPoints and ST_Dump in PostGIS; numbers are exact.
+CREATE FUNCTION @extschema@.wkt_points(@extschema@.wkt, OUT path pg_catalog.int4[],
+    OUT x pg_catalog.numeric, OUT y pg_catalog.numeric, OUT z pg_catalog.numeric, OUT m pg_catalog.numeric) RETURNS SETOF pg_catalog.record
+    AS 'MODULE_PATHNAME', 'pg_wkt_points' LANGUAGE C IMMUTABLE STRICT PARALLEL SAFE COST 100;
+COMMENT ON FUNCTION @extschema@.wkt_points(@extschema@.wkt) IS 'the points of a value, a row each';
+CREATE FUNCTION @extschema@.wkt_each(@extschema@.wkt, OUT path pg_catalog.int4[], OUT kind pg_catalog.text, OUT part @extschema@.wkt)
+    RETURNS SETOF pg_catalog.record AS 'MODULE_PATHNAME', 'pg_wkt_each' LANGUAGE C IMMUTABLE STRICT PARALLEL SAFE COST 20 ROWS 10;
+COMMENT ON FUNCTION @extschema@.wkt_each(@extschema@.wkt) IS 'the points, line strings and polygons of which a value is made, a row each';
+CREATE FUNCTION @extschema@.wkt_num_points(@extschema@.wkt) RETURNS pg_catalog.int4
+    AS 'MODULE_PATHNAME', 'pg_wkt_num_points' LANGUAGE C IMMUTABLE STRICT PARALLEL SAFE COST 10;
+COMMENT ON FUNCTION @extschema@.wkt_num_points(@extschema@.wkt) IS 'how many points a value has';
+CREATE FUNCTION @extschema@.wkt_num_parts(@extschema@.wkt) RETURNS pg_catalog.int4
+    AS 'MODULE_PATHNAME', 'pg_wkt_num_parts' LANGUAGE C IMMUTABLE STRICT PARALLEL SAFE COST 10;
+COMMENT ON FUNCTION @extschema@.wkt_num_parts(@extschema@.wkt) IS 'how many rows wkt_each has';
+CREATE FUNCTION @extschema@.wkt_bounds(@extschema@.wkt, OUT min_x pg_catalog.numeric, OUT min_y pg_catalog.numeric,
+    OUT max_x pg_catalog.numeric, OUT max_y pg_catalog.numeric, OUT min_z pg_catalog.numeric, OUT max_z pg_catalog.numeric,
+    OUT min_m pg_catalog.numeric, OUT max_m pg_catalog.numeric) RETURNS pg_catalog.record
+    AS 'MODULE_PATHNAME', 'pg_wkt_bounds' LANGUAGE C IMMUTABLE STRICT PARALLEL SAFE COST 20;
+COMMENT ON FUNCTION @extschema@.wkt_bounds(@extschema@.wkt) IS 'the least and the greatest number of each axis; null where there is none';
+
+-- A text that is read once: its value, or where it is refused, what was expected there, and what helps.
+CREATE FUNCTION @extschema@.wkt_read(pg_catalog.text, places pg_catalog.int4 DEFAULT 18, OUT value @extschema@.wkt,
+    OUT place pg_catalog.int4, OUT expected pg_catalog.text, OUT hint pg_catalog.text) RETURNS pg_catalog.record
+    AS 'MODULE_PATHNAME', 'pg_wkt_read' LANGUAGE C IMMUTABLE STRICT PARALLEL SAFE COST 10;
+COMMENT ON FUNCTION @extschema@.wkt_read(pg_catalog.text, pg_catalog.int4) IS 'the value of a text, or why it is refused';
 
 -- Compared by their bytes, in btrees and hashes, by the functions that PostgreSQL has for bytea: equality compares lengths
 -- before it fetches a long value, and no index depends on a collation.
@@ -106,14 +142,23 @@ CREATE OPERATOR @extschema@.> (LEFTARG = @extschema@.wkt, RIGHTARG = @extschema@
 CREATE OPERATOR @extschema@.>= (LEFTARG = @extschema@.wkt, RIGHTARG = @extschema@.wkt, FUNCTION = @extschema@.wkt_ge,
     COMMUTATOR = OPERATOR(@extschema@.<=), NEGATOR = OPERATOR(@extschema@.<),
     RESTRICT = pg_catalog.scalargesel, JOIN = pg_catalog.scalargejoinsel);
+CREATE FUNCTION @extschema@.wkt_sortsupport(pg_catalog.internal) RETURNS pg_catalog.void
+    AS 'MODULE_PATHNAME', 'pg_wkt_sortsupport' LANGUAGE C IMMUTABLE STRICT PARALLEL SAFE;
 CREATE OPERATOR CLASS @extschema@.wkt_ops DEFAULT FOR TYPE @extschema@.wkt USING btree AS
     OPERATOR 1 @extschema@.<, OPERATOR 2 @extschema@.<=, OPERATOR 3 @extschema@.=,
     OPERATOR 4 @extschema@.>=, OPERATOR 5 @extschema@.>,
     FUNCTION 1 @extschema@.wkt_cmp(@extschema@.wkt, @extschema@.wkt),
-    FUNCTION 2 pg_catalog.bytea_sortsupport(pg_catalog.internal), FUNCTION 4 pg_catalog.btequalimage(pg_catalog.oid);
+    FUNCTION 2 @extschema@.wkt_sortsupport(pg_catalog.internal), FUNCTION 4 pg_catalog.btequalimage(pg_catalog.oid);
 CREATE OPERATOR CLASS @extschema@.wkt_ops DEFAULT FOR TYPE @extschema@.wkt USING hash AS
     OPERATOR 1 @extschema@.=, FUNCTION 1 @extschema@.wkt_hash(@extschema@.wkt),
     FUNCTION 2 @extschema@.wkt_hash_extended(@extschema@.wkt, pg_catalog.int8);
+CREATE OPERATOR CLASS @extschema@.wkt_minmax_ops DEFAULT FOR TYPE @extschema@.wkt USING brin AS
+    OPERATOR 1 @extschema@.<, OPERATOR 2 @extschema@.<=, OPERATOR 3 @extschema@.=,
+    OPERATOR 4 @extschema@.>=, OPERATOR 5 @extschema@.>,
+    FUNCTION 1 pg_catalog.brin_minmax_opcinfo(pg_catalog.internal),
+    FUNCTION 2 pg_catalog.brin_minmax_add_value(pg_catalog.internal, pg_catalog.internal, pg_catalog.internal, pg_catalog.internal),
+    FUNCTION 3 pg_catalog.brin_minmax_consistent(pg_catalog.internal, pg_catalog.internal, pg_catalog.internal),
+    FUNCTION 4 pg_catalog.brin_minmax_union(pg_catalog.internal, pg_catalog.internal, pg_catalog.internal);
 
 -- The first and the last in that order.
 CREATE FUNCTION @extschema@.wkt_smaller(@extschema@.wkt, @extschema@.wkt) RETURNS @extschema@.wkt

@@ -36,12 +36,20 @@ Datum pg_wkt_explain(PG_FUNCTION_ARGS) {
     PG_RETURN_TEXT_P(explained(&asked));
 }
 
+/* Of a text and of a value. */
 PG_FUNCTION_INFO_V1(pg_wkt_kind);
 Datum pg_wkt_kind(PG_FUNCTION_ARGS) {
-    Question asked = question_of_text(PG_GETARG_TEXT_PP(0), MOST_PLACES);
-    text *kind = kind_of(&asked);
-    if (kind == NULL) PG_RETURN_NULL();
-    PG_RETURN_TEXT_P(kind);
+    uint32_t kind, dimension;
+    if (!header_from(PG_GETARG_DATUM(0), &kind, &dimension)) PG_RETURN_NULL();
+    PG_RETURN_TEXT_P(cstring_to_text(header_of(kind, dimension)));
+}
+
+PG_FUNCTION_INFO_V1(pg_wkt_dimension);
+Datum pg_wkt_dimension(PG_FUNCTION_ARGS) {
+    static const char *const names[] = WKT_DIMENSIONS;
+    uint32_t kind, dimension;
+    if (!header_from(PG_GETARG_DATUM(0), &kind, &dimension)) PG_RETURN_NULL();
+    PG_RETURN_TEXT_P(cstring_to_text(names[dimension]));
 }
 
 PG_FUNCTION_INFO_V1(pg_wkt_version);

@@ -13,6 +13,8 @@
 #include <wkt.h>
 
 #define MOST_PLACES 18
+/* A canonical text has its header's end in so many bytes. */
+#define LONGEST_FRONT 64
 
 /* A text as the database holds it, and as the library reads it: the same bytes, or in place of those that aren't ASCII,
  * which no geometry has, others that none has. So a place is the same in both. */
@@ -29,10 +31,15 @@ extern Question question_of(const char *given, size_t length, uint32_t places);
 extern Question question_of_text(text *given, uint32_t places);
 extern bool canonical_of(const Question *asked, text **answer);
 extern bool are_same(const Question asked[2], bool *same);
-extern text *kind_of(const Question *asked);
+extern char *header_of(uint32_t kind, uint32_t dimension);
+extern text *front_of(Datum given, int32 length);
+extern bool header_from(Datum given, uint32_t *kind, uint32_t *dimension);
 
 /* refusals.c */
 extern Datum refuse(Node *context, const Question *asked);
 extern text *explained(const Question *asked);
+
+/* parts.c */
+extern Datum row_of(FunctionCallInfo fcinfo, Datum *row, bool *nulls);
 
 #endif

@@ -4,6 +4,7 @@
 #include <ctype.h>
 
 #include "libpq/pqformat.h"
+#include "miscadmin.h"
 #include "nodes/nodeFuncs.h"
 #include "nodes/supportnodes.h"
 #include "utils/array.h"
@@ -90,10 +91,27 @@ Datum pg_wkt_typmod_in(PG_FUNCTION_ARGS) {
 PG_FUNCTION_INFO_V1(pg_wkt_typmod_out);
 Datum pg_wkt_typmod_out(PG_FUNCTION_ARGS) { PG_RETURN_CSTRING(psprintf("(%d)", PG_GETARG_INT32(0))); }
 
-/* A text as a wkt, or a wkt under another modifier: more digits than that has places for are refused. */
+/* A text as a wkt. */
 PG_FUNCTION_INFO_V1(pg_wkt_cast);
 Datum pg_wkt_cast(PG_FUNCTION_ARGS) {
     return value_of(NULL, question_of_text(PG_GETARG_TEXT_PP(0), MOST_PLACES), PG_GETARG_INT32(1));
+}
+
+/* A wkt under another modifier: it stays as it is, or is refused, if a number has more digits behind its point than that has
+ * places. It isn't read for that. */
+PG_FUNCTION_INFO_V1(pg_wkt_recast);
+Datum pg_wkt_recast(PG_FUNCTION_ARGS) {
+    text *held = PG_GETARG_TEXT_PP(0);
+    int32 modifier = PG_GETARG_INT32(1);
+    uint32_t places = places_of_modifier(modifier);
+    const char *at = VARDATA_ANY(held), *end = at + VARSIZE_ANY_EXHDR(held);
+    while ((at = memchr(at, '.', end - at)) != NULL) {
+        uint32_t digits = 0;
+        CHECK_FOR_INTERRUPTS();
+        while (++at < end && isdigit((unsigned char)*at)) digits++;
+        if (digits > places) return value_of(NULL, question_of_text(held, MOST_PLACES), modifier);
+    }
+    PG_RETURN_TEXT_P(held);
 }
 
 /* The value of a text; null where it is refused. */
