@@ -98,8 +98,8 @@ char *header_of(uint32_t kind, uint32_t dimension) {
 /* The front of a text: so many bytes, if it is long. What is stored elsewhere isn't fetched for it as a whole. */
 text *front_of(Datum given, int32 length) {
     struct varlena *held = (struct varlena *)DatumGetPointer(given);
-    return (text *)(VARATT_IS_EXTENDED(held) && !VARATT_IS_SHORT(held) ? PG_DETOAST_DATUM_SLICE(given, 0, length)
-                                                                       : held);
+    bool is_elsewhere = VARATT_IS_EXTERNAL(held) || VARATT_IS_COMPRESSED(held);
+    return (text *)(is_elsewhere ? PG_DETOAST_DATUM_SLICE(given, 0, length) : held);
 }
 
 /* The kind and the dimension that the header of a text names; false where it names none. The header ends at the first

@@ -31,17 +31,23 @@ COMMENT ON FUNCTION @extschema@.wkt_version() IS 'the version of the library tha
 -- The type: a value is a canonical text, so equal values are one geometry. wkt(6): numbers of at most six places.
 CREATE TYPE @extschema@.wkt;
 CREATE FUNCTION @extschema@.wkt_in(pg_catalog.cstring, pg_catalog.oid, pg_catalog.int4) RETURNS @extschema@.wkt
-    AS 'MODULE_PATHNAME', 'pg_wkt_in' LANGUAGE C IMMUTABLE STRICT PARALLEL SAFE;
+    AS 'MODULE_PATHNAME', 'pg_wkt_in' LANGUAGE C IMMUTABLE STRICT PARALLEL SAFE COST 10;
+COMMENT ON FUNCTION @extschema@.wkt_in(pg_catalog.cstring, pg_catalog.oid, pg_catalog.int4) IS 'input: makes a text canonical';
 CREATE FUNCTION @extschema@.wkt_out(@extschema@.wkt) RETURNS pg_catalog.cstring
     AS 'MODULE_PATHNAME', 'pg_wkt_out' LANGUAGE C IMMUTABLE STRICT PARALLEL SAFE;
+COMMENT ON FUNCTION @extschema@.wkt_out(@extschema@.wkt) IS 'output: the canonical text';
 CREATE FUNCTION @extschema@.wkt_recv(pg_catalog.internal, pg_catalog.oid, pg_catalog.int4) RETURNS @extschema@.wkt
-    AS 'MODULE_PATHNAME', 'pg_wkt_recv' LANGUAGE C IMMUTABLE STRICT PARALLEL SAFE;
+    AS 'MODULE_PATHNAME', 'pg_wkt_recv' LANGUAGE C IMMUTABLE STRICT PARALLEL SAFE COST 10;
+COMMENT ON FUNCTION @extschema@.wkt_recv(pg_catalog.internal, pg_catalog.oid, pg_catalog.int4) IS 'binary input: makes a text canonical';
 CREATE FUNCTION @extschema@.wkt_send(@extschema@.wkt) RETURNS pg_catalog.bytea
     AS 'MODULE_PATHNAME', 'pg_wkt_send' LANGUAGE C IMMUTABLE STRICT PARALLEL SAFE;
+COMMENT ON FUNCTION @extschema@.wkt_send(@extschema@.wkt) IS 'binary output: the canonical text';
 CREATE FUNCTION @extschema@.wkt_typmod_in(pg_catalog.cstring[]) RETURNS pg_catalog.int4
     AS 'MODULE_PATHNAME', 'pg_wkt_typmod_in' LANGUAGE C IMMUTABLE STRICT PARALLEL SAFE;
+COMMENT ON FUNCTION @extschema@.wkt_typmod_in(pg_catalog.cstring[]) IS 'the modifier of wkt(places)';
 CREATE FUNCTION @extschema@.wkt_typmod_out(pg_catalog.int4) RETURNS pg_catalog.cstring
     AS 'MODULE_PATHNAME', 'pg_wkt_typmod_out' LANGUAGE C IMMUTABLE STRICT PARALLEL SAFE;
+COMMENT ON FUNCTION @extschema@.wkt_typmod_out(pg_catalog.int4) IS 'the modifier as it is written';
 -- Long values are stored as they are, since compressing them by pglz takes five times as long as all else.
 CREATE TYPE @extschema@.wkt (
     INPUT = @extschema@.wkt_in, OUTPUT = @extschema@.wkt_out, RECEIVE = @extschema@.wkt_recv, SEND = @extschema@.wkt_send,
@@ -49,11 +55,14 @@ CREATE TYPE @extschema@.wkt (
     INTERNALLENGTH = VARIABLE, ALIGNMENT = int4, STORAGE = external, CATEGORY = 'U', COLLATABLE = false
 );
 CREATE FUNCTION @extschema@.wkt(pg_catalog.text, pg_catalog.int4, pg_catalog.bool) RETURNS @extschema@.wkt
-    AS 'MODULE_PATHNAME', 'pg_wkt_cast' LANGUAGE C IMMUTABLE STRICT PARALLEL SAFE;
+    AS 'MODULE_PATHNAME', 'pg_wkt_cast' LANGUAGE C IMMUTABLE STRICT PARALLEL SAFE COST 10;
+COMMENT ON FUNCTION @extschema@.wkt(pg_catalog.text, pg_catalog.int4, pg_catalog.bool) IS 'the cast of a text';
 CREATE FUNCTION @extschema@.wkt_support(pg_catalog.internal) RETURNS pg_catalog.internal
     AS 'MODULE_PATHNAME', 'pg_wkt_support' LANGUAGE C IMMUTABLE STRICT PARALLEL SAFE;
+COMMENT ON FUNCTION @extschema@.wkt_support(pg_catalog.internal) IS 'leaves out casts to places that a value has';
 CREATE FUNCTION @extschema@.wkt(@extschema@.wkt, pg_catalog.int4, pg_catalog.bool) RETURNS @extschema@.wkt
     AS 'MODULE_PATHNAME', 'pg_wkt_recast' LANGUAGE C IMMUTABLE STRICT PARALLEL SAFE SUPPORT @extschema@.wkt_support;
+COMMENT ON FUNCTION @extschema@.wkt(@extschema@.wkt, pg_catalog.int4, pg_catalog.bool) IS 'checks the places of a value';
 -- A text is cast explicitly: else wkt = text would compare the bytes of a text that isn't canonical. A wkt may be assigned
 -- to a text. The third cast applies the modifier of a column, as that of varchar does, and rewrites no table where the
 -- modifier is wider.
@@ -108,22 +117,31 @@ COMMENT ON FUNCTION @extschema@.wkt_read(pg_catalog.text, pg_catalog.int4) IS 't
 -- before it fetches a long value, and no index depends on a collation.
 CREATE FUNCTION @extschema@.wkt_eq(@extschema@.wkt, @extschema@.wkt) RETURNS pg_catalog.bool
     AS 'MODULE_PATHNAME', 'pg_wkt_eq' LANGUAGE C IMMUTABLE STRICT LEAKPROOF PARALLEL SAFE;
+COMMENT ON FUNCTION @extschema@.wkt_eq(@extschema@.wkt, @extschema@.wkt) IS 'implements =';
 CREATE FUNCTION @extschema@.wkt_ne(@extschema@.wkt, @extschema@.wkt) RETURNS pg_catalog.bool
     AS 'MODULE_PATHNAME', 'pg_wkt_ne' LANGUAGE C IMMUTABLE STRICT LEAKPROOF PARALLEL SAFE;
+COMMENT ON FUNCTION @extschema@.wkt_ne(@extschema@.wkt, @extschema@.wkt) IS 'implements <>';
 CREATE FUNCTION @extschema@.wkt_lt(@extschema@.wkt, @extschema@.wkt) RETURNS pg_catalog.bool
     AS 'MODULE_PATHNAME', 'pg_wkt_lt' LANGUAGE C IMMUTABLE STRICT LEAKPROOF PARALLEL SAFE;
+COMMENT ON FUNCTION @extschema@.wkt_lt(@extschema@.wkt, @extschema@.wkt) IS 'implements <';
 CREATE FUNCTION @extschema@.wkt_le(@extschema@.wkt, @extschema@.wkt) RETURNS pg_catalog.bool
     AS 'MODULE_PATHNAME', 'pg_wkt_le' LANGUAGE C IMMUTABLE STRICT LEAKPROOF PARALLEL SAFE;
+COMMENT ON FUNCTION @extschema@.wkt_le(@extschema@.wkt, @extschema@.wkt) IS 'implements <=';
 CREATE FUNCTION @extschema@.wkt_gt(@extschema@.wkt, @extschema@.wkt) RETURNS pg_catalog.bool
     AS 'MODULE_PATHNAME', 'pg_wkt_gt' LANGUAGE C IMMUTABLE STRICT LEAKPROOF PARALLEL SAFE;
+COMMENT ON FUNCTION @extschema@.wkt_gt(@extschema@.wkt, @extschema@.wkt) IS 'implements >';
 CREATE FUNCTION @extschema@.wkt_ge(@extschema@.wkt, @extschema@.wkt) RETURNS pg_catalog.bool
     AS 'MODULE_PATHNAME', 'pg_wkt_ge' LANGUAGE C IMMUTABLE STRICT LEAKPROOF PARALLEL SAFE;
+COMMENT ON FUNCTION @extschema@.wkt_ge(@extschema@.wkt, @extschema@.wkt) IS 'implements >=';
 CREATE FUNCTION @extschema@.wkt_cmp(@extschema@.wkt, @extschema@.wkt) RETURNS pg_catalog.int4
     AS 'MODULE_PATHNAME', 'pg_wkt_cmp' LANGUAGE C IMMUTABLE STRICT LEAKPROOF PARALLEL SAFE;
+COMMENT ON FUNCTION @extschema@.wkt_cmp(@extschema@.wkt, @extschema@.wkt) IS 'less, equal or greater: below 0, 0, above 0';
 CREATE FUNCTION @extschema@.wkt_hash(@extschema@.wkt) RETURNS pg_catalog.int4
     AS 'MODULE_PATHNAME', 'pg_wkt_hash' LANGUAGE C IMMUTABLE STRICT LEAKPROOF PARALLEL SAFE;
+COMMENT ON FUNCTION @extschema@.wkt_hash(@extschema@.wkt) IS 'hash of 32 bits';
 CREATE FUNCTION @extschema@.wkt_hash_extended(@extschema@.wkt, pg_catalog.int8) RETURNS pg_catalog.int8
     AS 'MODULE_PATHNAME', 'pg_wkt_hash_extended' LANGUAGE C IMMUTABLE STRICT LEAKPROOF PARALLEL SAFE;
+COMMENT ON FUNCTION @extschema@.wkt_hash_extended(@extschema@.wkt, pg_catalog.int8) IS 'hash of 64 bits with a seed';
 CREATE OPERATOR @extschema@.= (LEFTARG = @extschema@.wkt, RIGHTARG = @extschema@.wkt, FUNCTION = @extschema@.wkt_eq,
     COMMUTATOR = OPERATOR(@extschema@.=), NEGATOR = OPERATOR(@extschema@.<>),
     RESTRICT = pg_catalog.eqsel, JOIN = pg_catalog.eqjoinsel, HASHES, MERGES);
@@ -144,6 +162,7 @@ CREATE OPERATOR @extschema@.>= (LEFTARG = @extschema@.wkt, RIGHTARG = @extschema
     RESTRICT = pg_catalog.scalargesel, JOIN = pg_catalog.scalargejoinsel);
 CREATE FUNCTION @extschema@.wkt_sortsupport(pg_catalog.internal) RETURNS pg_catalog.void
     AS 'MODULE_PATHNAME', 'pg_wkt_sortsupport' LANGUAGE C IMMUTABLE STRICT PARALLEL SAFE;
+COMMENT ON FUNCTION @extschema@.wkt_sortsupport(pg_catalog.internal) IS 'sorts by packed fronts first';
 CREATE OPERATOR CLASS @extschema@.wkt_ops DEFAULT FOR TYPE @extschema@.wkt USING btree AS
     OPERATOR 1 @extschema@.<, OPERATOR 2 @extschema@.<=, OPERATOR 3 @extschema@.=,
     OPERATOR 4 @extschema@.>=, OPERATOR 5 @extschema@.>,
@@ -163,9 +182,13 @@ CREATE OPERATOR CLASS @extschema@.wkt_minmax_ops DEFAULT FOR TYPE @extschema@.wk
 -- The first and the last in that order.
 CREATE FUNCTION @extschema@.wkt_smaller(@extschema@.wkt, @extschema@.wkt) RETURNS @extschema@.wkt
     AS 'MODULE_PATHNAME', 'pg_wkt_smaller' LANGUAGE C IMMUTABLE STRICT PARALLEL SAFE;
+COMMENT ON FUNCTION @extschema@.wkt_smaller(@extschema@.wkt, @extschema@.wkt) IS 'the first of two in the order of the type';
 CREATE FUNCTION @extschema@.wkt_larger(@extschema@.wkt, @extschema@.wkt) RETURNS @extschema@.wkt
     AS 'MODULE_PATHNAME', 'pg_wkt_larger' LANGUAGE C IMMUTABLE STRICT PARALLEL SAFE;
+COMMENT ON FUNCTION @extschema@.wkt_larger(@extschema@.wkt, @extschema@.wkt) IS 'the last of two in the order of the type';
 CREATE AGGREGATE @extschema@.min(@extschema@.wkt) (SFUNC = @extschema@.wkt_smaller, STYPE = @extschema@.wkt,
     SORTOP = OPERATOR(@extschema@.<), COMBINEFUNC = @extschema@.wkt_smaller, PARALLEL = SAFE);
 CREATE AGGREGATE @extschema@.max(@extschema@.wkt) (SFUNC = @extschema@.wkt_larger, STYPE = @extschema@.wkt,
     SORTOP = OPERATOR(@extschema@.>), COMBINEFUNC = @extschema@.wkt_larger, PARALLEL = SAFE);
+COMMENT ON AGGREGATE @extschema@.min(@extschema@.wkt) IS 'the first value in the order of the type';
+COMMENT ON AGGREGATE @extschema@.max(@extschema@.wkt) IS 'the last value in the order of the type';

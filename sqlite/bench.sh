@@ -11,8 +11,7 @@ wkt=$(cd "$wkt" && pwd)
 rows=${2:-1000000}
 dir=$(mktemp -d)
 trap 'rm -rf "$dir"' EXIT
-cp "$here"/{Makefile,wkt_sqlite.c} "$dir"
-make -s -C "$dir" WKT_LIB_DIR="$wkt"
+make -s -C "$dir" -f "$here/Makefile" WKT_LIB_DIR="$wkt"
 python3 "$here/../bench/lines.py" points 6 $((rows * 30)) 2> /dev/null | head -n "$rows" > "$dir/points"
 python3 "$here/../bench/lines.py" mixed 6 $((rows * 60)) > "$dir/mixed"
 echo "$(git -C "$here" describe --always --dirty 2> /dev/null), $(nproc) processors$(sed -n 's/^model name[^:]*:/,/p' /proc/cpuinfo | head -n 1)"

@@ -106,13 +106,35 @@ print(
     f"Python: wkt_same of a constant of 2 MB and 200 rows takes {once:.2f} s, and {each:.2f} s where each row's is read"
 )
 
-# A database in UTF-16, and one in a file that is opened again.
+# Places: a whole number from 0 to 18, as a number or as its text.
+for places in 6, 6.0, "6", "6.0", " 6 ", 18.0:
+    same(ask(db, "wkt_or_null('POINT(1.5 2)', ?)", places), "POINT(1.5 2)")
+for places in 0.0, False, -0.0:
+    same(ask(db, "wkt_or_null('POINT(1.5 2)', ?)", places), None)
+for places in 6.5, "6.5", "six", "", b"6", -1, "-1", 19, 1e300, float("inf"), 2**40:
+    same(ask(db, "wkt_or_null('POINT(1.5 2)', ?)", places), "error: places must be between 0 and 18")
+
+# A database in UTF-16, and one in a file that is opened again. A blob is a text in UTF-8 in any.
 for encoding in ("UTF-16le", "UTF-16be"):
     wide = connect()
     wide.execute(f"pragma encoding = '{encoding}'")
     wide.execute("create table t (g text, key text as (wkt_canonical(g)) stored)")
     wide.execute("insert into t values ('point ( 1.0 2 )')")
     same(wide.execute("select key, wkt_reads('PÖINT(1 2)') from t").fetchone(), ("POINT(1 2)", 0))
+    same(wide.execute("select x, path from wkt_points('multipoint(1 2.0)')").fetchone(), ("1", "[1,1]"))
+for encoding in ("UTF-8", "UTF-16le", "UTF-16be"):
+    wide = connect()
+    wide.execute(f"pragma encoding = '{encoding}'")
+    wide.execute("create table t (g blob)")
+    for blob in b"point ( 1.0 2 )", b"POINT(1", b"", b"P\xc3\x96INT(1 2)", b"POINT(1 2)\xff":
+        wide.execute("delete from t")
+        wide.execute("insert into t values (?)", (blob,))
+        key = "POINT(1 2)" if blob.startswith(b"p") else None
+        kind = None if not blob.isascii() or blob == b"" else "POINT"
+        found = wide.execute("select wkt_or_null(g), wkt_reads(g), wkt_kind(g) from t").fetchone()
+        same(found, (key, int(key is not None), kind))
+        found = wide.execute("select count(*) from t, wkt_points(g) where wkt_reads(g)").fetchone()
+        same(found, (int(key is not None),))
 with tempfile.TemporaryDirectory() as there:
     for _ in range(2):
         file = connect(there + "/file")
@@ -159,6 +181,10 @@ with open(repository + "/tests/data/keys.tsv", encoding="utf-8", newline="\n") a
 print("Python:", rows, "keys")
 
 # Long texts, and deep ones, also on a thread that has little stack.
+same(ask(db, "count(*) from wkt_points(?)", long), 100_001)
+same(ask(db, "wkt_num_points(?)", long), 100_001)
+collection = "GEOMETRYCOLLECTION(" * 20 + "POINT(1 2)" + ")" * 20
+same(ask(db, "path from wkt_each(?)", collection), "[" + ",".join("1" * 20) + "]")
 line = "LINESTRING(" + "12.345678 34.567891, " * 5_000_000 + "0 0)"
 same(ask(db, "wkt_canonical(?)", line), line.replace(", ", ","))
 same(ask(db, "wkt_reads(?)", line + ","), 0)
@@ -172,6 +198,7 @@ def nested():
     answers.append(ask(db, "wkt_reads(?)", deep + ")"))
     answers.append(ask(db, "wkt_reads(?)", "(" * 10_000_000))
     answers.append(ask(db, "wkt_kind(?)", deep))
+    answers.append(ask(db, "length(path) + x from wkt_points(?)", deep))
 
 
 for stack in (0, 262144):
@@ -181,6 +208,12 @@ for stack in (0, 262144):
     thread.start()
     thread.join()
     same(answers[:4], [deep.replace("point(1 2.0)", "POINT(1 2)"), 1, 0, 0])
-    same(answers[4], "GEOMETRYCOLLECTION")
+    same(answers[4:], ["GEOMETRYCOLLECTION", 2_000_004])
 same(ask(db, "wkt_reads(?)", "GEOMETRYCOLLECTION(" * 999 + "POINT(1 2)" + ")" * 999), 1)
 print("Python: a million nested collections are answered")
+
+# Rows come one by one, so a query over one long value can be interrupted.
+rows = []
+db.set_progress_handler(lambda: rows.append(1) or len(rows) > 10, 1000)
+same(ask(db, "count(*) from wkt_points(?)", long), "error: interrupted")
+db.set_progress_handler(None, 0)

@@ -11,9 +11,9 @@ wkt=$(cd "$wkt" && pwd)
 command -v sqlite3 > /dev/null || { echo "no sqlite3: not run"; exit 1; }
 dir=$(mktemp -d)
 trap 'rm -rf "$dir"' EXIT
-cp "$here"/{Makefile,wkt_sqlite.c,test.sql,test.py} "$dir"
-make -s -C "$dir" WKT_LIB_DIR="$wkt" CFLAGS="-O2 -Werror"
+cp "$here"/test.{sql,py} "$dir"
 cd "$dir"
+make -s -f "$here/Makefile" WKT_LIB_DIR="$wkt" CFLAGS="-O2 -Werror"
 [[ $(readelf -d mod_wkt.so) == *BIND_NOW* ]] && [[ $(nm -D mod_wkt.so) == *__stack_chk_fail* ]] || { echo "mod_wkt.so isn't hardened"; exit 1; }
 [ "$(nm -D --defined-only mod_wkt.so | sed 's/.* T //' | paste -sd ' ')" = "sqlite3_modwkt_init sqlite3_wkt_init" ] || { echo "mod_wkt.so has other names"; exit 1; }
 # asked [VARIABLE=..]: the answers of the statements of test.sql. The shell's own words around an error differ from version
@@ -32,7 +32,7 @@ grep -qF "$(sed -n '/^sqlite> /{n;p}' "$here/README.md")" said || { echo "README
 # The statements of test.sql by an extension that looks for errors of memory and of arithmetic.
 mkdir checked
 mv mod_wkt.so checked
-make -s WKT_LIB_DIR="$wkt" CFLAGS="-O1 -g -Werror -fsanitize=address,undefined -fno-sanitize-recover=all"
+make -s -f "$here/Makefile" WKT_LIB_DIR="$wkt" CFLAGS="-O1 -g -Werror -fsanitize=address,undefined -fno-sanitize-recover=all"
 asked LD_PRELOAD="$(gcc -print-file-name=libasan.so) $(gcc -print-file-name=libubsan.so)" > said
 diff "$here/expected" said || { echo "sqlite3: other answers under the sanitizers"; exit 1; }
 mv checked/mod_wkt.so .
@@ -48,8 +48,7 @@ printf 'int wkt_supported(void);\nint wkt_supported(void) { return 0; }\n' > uns
 gcc -fPIC -c unsupported.c
 objcopy --redefine-sym wkt_supported=is_supported library/libwkt.a
 ar r library/libwkt.a unsupported.o
-cp Makefile wkt_sqlite.c library
-make -s -C library WKT_LIB_DIR="$PWD/library"
+make -s -C library -f "$here/Makefile" WKT_LIB_DIR="$PWD/library"
 [[ $(sqlite3 :memory: ".load library/mod_wkt" 2>&1) == *"wkt: the processor is not supported"* ]] || { echo "loaded on a processor that isn't supported"; exit 1; }
 "$python" test.py "$dir" "$wkt" "$here/.."
 echo "SQLite $(sqlite3 --version | cut -d ' ' -f 1): all as expected"

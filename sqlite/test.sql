@@ -61,3 +61,23 @@ select * from of_views;
 create trigger before_insert before insert on checked begin select raise(abort, 'not a point') where wkt_kind(new.t) <> 'POINT'; end;
 insert into checked values ('LINESTRING(0 0,1 1)');
 pragma integrity_check;
+-- Points, parts and bounds as rows: paths and parts are those of PostGIS's ST_DumpPoints and ST_Dump
+create table shapes (id integer primary key, g text);
+insert into shapes (g) values ('point zm (1 2.50 -3 4)'), ('POINT EMPTY'), ('polygon((0 0,4 0,2 4,0 0),(1 1,2 1,2 2,1 1))'),
+    ('MULTIPOINT M(EMPTY,3 4 5)'), ('GEOMETRYCOLLECTION(POINT Z(1 2 3),GEOMETRYCOLLECTION(MULTILINESTRING((0 0,1 1),EMPTY)),POINT M(5 6 7))'), (null);
+select id, path, x, y, z, m, typeof(x) from shapes, wkt_points(g) where id <> 3;
+select path, x, y from shapes, wkt_points(g) where id = 3 and path like '[2,%';
+select id, path, kind, part from shapes, wkt_each(g);
+select id, b.* from shapes, wkt_bounds(g) b;
+select min_x, max_x, min_y, max_y from wkt_bounds('linestring(-10 9.5,-9.75 10,-10.25 9.123456789012345678)');
+select id, wkt_num_points(g), wkt_num_parts(g), wkt_kind(g), wkt_dimension(g) from shapes;
+select count(*) from wkt_points('POINT(1.5 2)', 1), wkt_each('MULTIPOINT(1 2,3 4)', '6.0') where x = '1.5';
+select count(*) from wkt_points;
+select count(*) from wkt_points('POINT(1 2)', null);
+select count(*) from wkt_points('POINT(1 2', 6);
+select count(*) from wkt_each('POINT(1.5 2)', 0);
+select count(*) from wkt_bounds('POINT(1 2)', 19);
+select wkt_num_points('POINT(1)');
+-- They may be called in a view, also by those who trust no schema
+create view points as select id, x from shapes, wkt_points(g);
+select count(*) from points;

@@ -3,10 +3,9 @@
  * Each function takes a text whole: white space may follow the geometry, and nothing else. A null argument gives null.
  * All are deterministic, so indexes on expressions, generated columns and CHECK may call them, and innocuous, so a
  * schema may. places is 18 where it isn't given. */
-#include <sqlite3ext.h>
+#include "wkt_sqlite.h"
 SQLITE_EXTENSION_INIT1
 #include <string.h>
-#include <wkt.h>
 
 #define MOST_PLACES 18
 
@@ -21,12 +20,6 @@ EXPORTED int sqlite3_modwkt_init(sqlite3 *db, char **error, const sqlite3_api_ro
 static const char *const kinds[] = WKT_KIND_WORDS;
 static const char *const dimensions[] = WKT_DIMENSION_WORDS;
 
-typedef struct Question {
-    const uint8_t *text;
-    size_t length;
-    uint32_t places;
-} Question;
-
 /* Whether an argument is null, so that the answer is null too. */
 static int some_null(int count, sqlite3_value **values) {
     for (int i = 0; i < count; i++)
@@ -34,25 +27,28 @@ static int some_null(int count, sqlite3_value **values) {
     return 0;
 }
 
-/* The argument `at` as places, or 18 where it isn't given; what is no whole number from 0 to 18 is one too many. */
-static uint32_t places_of(int count, sqlite3_value **values, int at) {
-    sqlite3_int64 places = MOST_PLACES;
-    if (count > at)
-        places = sqlite3_value_numeric_type(values[at]) == SQLITE_INTEGER ? sqlite3_value_int64(values[at]) : -1;
-    return places < 0 || places > MOST_PLACES ? MOST_PLACES + 1 : (uint32_t)places;
+/* The argument `at` as places, or 18 where it isn't given: a whole number from 0 to 18, as a number or as its text, as 6, 6.0
+ * or '6.0'. What is none is one too many. */
+uint32_t places_of(int count, sqlite3_value **values, int at) {
+    int type = count > at ? sqlite3_value_numeric_type(values[at]) : SQLITE_NULL;
+    double places = type == SQLITE_INTEGER || type == SQLITE_FLOAT ? sqlite3_value_double(values[at]) : -1;
+    if (count <= at) return MOST_PLACES;
+    return places >= 0 && places <= MOST_PLACES && places == (uint32_t)places ? (uint32_t)places : MOST_PLACES + 1;
 }
 
+/* A blob is a text in UTF-8, whatever the encoding of the database. */
 static wkt_status question_of(sqlite3_value *value, uint32_t places, Question *asked) {
-    asked->text = sqlite3_value_text(value);
+    int is_blob = sqlite3_value_type(value) == SQLITE_BLOB;
+    asked->text = is_blob ? sqlite3_value_blob(value) : sqlite3_value_text(value);
     asked->length = (size_t)sqlite3_value_bytes(value);
     asked->places = places;
-    if (asked->text == NULL) return WKT_NO_MEMORY;
-    return WKT_OK;
+    if (asked->text == NULL && is_blob && asked->length == 0) asked->text = (const uint8_t *)"";
+    return asked->text == NULL ? WKT_NO_MEMORY : WKT_OK;
 }
 
 /* The canonical text of a value, in memory of SQLite's, if `out` is asked for; or why there is none. A text of n bytes
  * is answered in at most some 2n + 8. */
-static wkt_status canonical_of(sqlite3_value *value, uint32_t places, Question *asked, char **out, size_t *length) {
+wkt_status canonical_of(sqlite3_value *value, uint32_t places, Question *asked, char **out, size_t *length) {
     size_t room, end;
     wkt_status status = question_of(value, places, asked);
     if (status != WKT_OK) return status;
@@ -81,7 +77,37 @@ static size_t characters(const uint8_t *text, size_t length) {
     return count;
 }
 
-static void fail_with(sqlite3_context *context, char *said) {
+static int is_refusal(wkt_status status) {
+    return status <= WKT_LAST_REFUSAL || status == WKT_NOT_UTF8 || status == WKT_NOT_WHOLE;
+}
+
+/* The words of an error, in memory of SQLite's. */
+char *error_of(const Question *asked, wkt_status status) {
+    static const char *const hints[] = WKT_HINTS;
+    uint32_t hint = WKT_HINT_NONE;
+    size_t start;
+    const char *expected;
+    char *why, *said;
+    if (status == WKT_NO_PLACES) return sqlite3_mprintf("places must be between 0 and %d", MOST_PLACES);
+    if (!is_refusal(status)) return sqlite3_mprintf("wkt: %s", wkt_message(status));
+    if (!(expected = expected_of(asked, &start)))
+        return sqlite3_mprintf("invalid well-known text: %s", wkt_message(status));
+    if (wkt_hint(asked->text, asked->length, asked->places, &hint) != WKT_OK) hint = WKT_HINT_NONE;
+    if (!(why = sqlite3_mprintf(hints[hint], asked->places))) return NULL;
+    said = sqlite3_mprintf(hint ? "invalid well-known text: at character %llu: %s was expected (%s)"
+                                : "invalid well-known text: at character %llu: %s was expected",
+                           (sqlite3_uint64)characters(asked->text, start) + 1, expected, why);
+    sqlite3_free(why);
+    return said;
+}
+
+static void refuse(sqlite3_context *context, const Question *asked, wkt_status status) {
+    char *said;
+    if (status == WKT_TOO_SMALL) {
+        sqlite3_result_error_toobig(context);
+        return;
+    }
+    said = status == WKT_NO_MEMORY ? NULL : error_of(asked, status);
     if (said)
         sqlite3_result_error(context, said, -1);
     else
@@ -90,37 +116,10 @@ static void fail_with(sqlite3_context *context, char *said) {
 }
 
 /* What no text brings about: an error. */
-static int is_limit(sqlite3_context *context, wkt_status status) {
-    if (status <= WKT_LAST_REFUSAL || status == WKT_NOT_UTF8 || status == WKT_NOT_WHOLE) return 0;
-    if (status == WKT_NO_MEMORY)
-        sqlite3_result_error_nomem(context);
-    else if (status == WKT_NO_PLACES)
-        fail_with(context, sqlite3_mprintf("places must be between 0 and %d", MOST_PLACES));
-    else if (status == WKT_TOO_SMALL)
-        sqlite3_result_error_toobig(context);
-    else
-        fail_with(context, sqlite3_mprintf("wkt: %s", wkt_message(status)));
+static int is_limit(sqlite3_context *context, const Question *asked, wkt_status status) {
+    if (is_refusal(status)) return 0;
+    refuse(context, asked, status);
     return 1;
-}
-
-static void refuse(sqlite3_context *context, const Question *asked, wkt_status status) {
-    static const char *const hints[] = WKT_HINTS;
-    uint32_t hint = WKT_HINT_NONE;
-    size_t start;
-    const char *expected;
-    char *why;
-    if (is_limit(context, status)) return;
-    if (!(expected = expected_of(asked, &start))) {
-        fail_with(context, sqlite3_mprintf("invalid well-known text: %s", wkt_message(status)));
-        return;
-    }
-    if (wkt_hint(asked->text, asked->length, asked->places, &hint) != WKT_OK) hint = WKT_HINT_NONE;
-    why = sqlite3_mprintf(hints[hint], asked->places);
-    fail_with(context, why ? sqlite3_mprintf(hint ? "invalid well-known text: at character %llu: %s was expected (%s)"
-                                                  : "invalid well-known text: at character %llu: %s was expected",
-                                             (sqlite3_uint64)characters(asked->text, start) + 1, expected, why)
-                           : NULL);
-    sqlite3_free(why);
 }
 
 /* Returns the canonical text, if the text has one, and why it has none. */
@@ -143,7 +142,8 @@ static void canonical(sqlite3_context *context, int count, sqlite3_value **value
 /* The canonical text; null where the text is refused. */
 static void or_null(sqlite3_context *context, int count, sqlite3_value **values) {
     Question asked;
-    is_limit(context, answered(context, count, values, &asked));
+    wkt_status status = answered(context, count, values, &asked);
+    is_limit(context, &asked, status);
 }
 
 static void reads(sqlite3_context *context, int count, sqlite3_value **values) {
@@ -152,7 +152,7 @@ static void reads(sqlite3_context *context, int count, sqlite3_value **values) {
     wkt_status status;
     if (some_null(count, values)) return;
     status = canonical_of(values[0], places_of(count, values, 1), &asked, NULL, &length);
-    if (!is_limit(context, status)) sqlite3_result_int(context, status == WKT_OK);
+    if (!is_limit(context, &asked, status)) sqlite3_result_int(context, status == WKT_OK);
 }
 
 /* The canonical text of an argument of wkt_same. SQLite keeps that of a constant from row to row. */
@@ -203,20 +203,61 @@ static void same(sqlite3_context *context, int count, sqlite3_value **values) {
         if (made[i]) sqlite3_set_auxdata(context, i, made[i], free_key);
 }
 
+/* The kind and the dimension of a header; 0 where it names none, or after an error. */
+static int has_header(sqlite3_context *context, int count, sqlite3_value **values, uint32_t *kind,
+                      uint32_t *dimension) {
+    Question asked;
+    wkt_status status;
+    if (some_null(count, values)) return 0;
+    status = question_of(values[0], MOST_PLACES, &asked);
+    if (status == WKT_OK) status = wkt_infer(asked.text, asked.length, kind, dimension);
+    return !is_limit(context, &asked, status) && status == WKT_OK;
+}
+
 static void kind(sqlite3_context *context, int count, sqlite3_value **values) {
     uint32_t k, d;
-    const uint8_t *text;
-    wkt_status status;
     char *said;
-    if (some_null(count, values)) return;
-    text = sqlite3_value_text(values[0]);
-    status = text ? wkt_infer(text, (size_t)sqlite3_value_bytes(values[0]), &k, &d) : WKT_NO_MEMORY;
-    if (is_limit(context, status) || status != WKT_OK) return;
+    if (!has_header(context, count, values, &k, &d)) return;
     said = sqlite3_mprintf("%s%s%s", kinds[k], d ? " " : "", dimensions[d]);
     if (said)
         sqlite3_result_text(context, said, -1, sqlite3_free);
     else
         sqlite3_result_error_nomem(context);
+}
+
+static void dimension(sqlite3_context *context, int count, sqlite3_value **values) {
+    static const char *const names[] = WKT_DIMENSIONS;
+    uint32_t k, d;
+    if (has_header(context, count, values, &k, &d)) sqlite3_result_text(context, names[d], -1, SQLITE_STATIC);
+}
+
+/* What a function says of a canonical text. */
+static void counted(sqlite3_context *context, int count, sqlite3_value **values, int (*call)(const char *, size_t)) {
+    Question asked;
+    char *out;
+    size_t length;
+    int found;
+    wkt_status status;
+    if (some_null(count, values)) return;
+    status = canonical_of(values[0], places_of(count, values, 1), &asked, &out, &length);
+    if (status != WKT_OK) {
+        refuse(context, &asked, status);
+        return;
+    }
+    found = call(out, length);
+    sqlite3_free(out);
+    if (found < 0)
+        sqlite3_result_error_nomem(context);
+    else
+        sqlite3_result_int(context, found);
+}
+
+static void num_points(sqlite3_context *context, int count, sqlite3_value **values) {
+    counted(context, count, values, points_in);
+}
+
+static void num_parts(sqlite3_context *context, int count, sqlite3_value **values) {
+    counted(context, count, values, parts_in);
 }
 
 static void version(sqlite3_context *context, int count, sqlite3_value **values) {
@@ -248,7 +289,7 @@ static void explain(sqlite3_context *context, int count, sqlite3_value **values)
     sqlite3_str *said;
     if (some_null(count, values)) return;
     status = canonical_of(values[0], places_of(count, values, 1), &asked, NULL, &length);
-    if (status == WKT_OK || is_limit(context, status)) return;
+    if (status == WKT_OK || is_limit(context, &asked, status)) return;
     expected = expected_of(&asked, &start);
     if (!expected) {
         sqlite3_result_text(context, wkt_message(status), -1, SQLITE_STATIC);
@@ -279,10 +320,23 @@ int sqlite3_wkt_init(sqlite3 *db, char **error, const sqlite3_api_routines *api)
         const char *name;
         int count;
         void (*call)(sqlite3_context *, int, sqlite3_value **);
-    } functions[] = {{"wkt_canonical", 1, canonical}, {"wkt_canonical", 2, canonical}, {"wkt_same", 2, same},
-                     {"wkt_same", 3, same},           {"wkt_reads", 1, reads},         {"wkt_reads", 2, reads},
-                     {"wkt_explain", 1, explain},     {"wkt_explain", 2, explain},     {"wkt_or_null", 1, or_null},
-                     {"wkt_or_null", 2, or_null},     {"wkt_kind", 1, kind},           {"wkt_version", 0, version}};
+    } functions[] = {{"wkt_canonical", 1, canonical},
+                     {"wkt_canonical", 2, canonical},
+                     {"wkt_same", 2, same},
+                     {"wkt_same", 3, same},
+                     {"wkt_reads", 1, reads},
+                     {"wkt_reads", 2, reads},
+                     {"wkt_explain", 1, explain},
+                     {"wkt_explain", 2, explain},
+                     {"wkt_or_null", 1, or_null},
+                     {"wkt_or_null", 2, or_null},
+                     {"wkt_kind", 1, kind},
+                     {"wkt_version", 0, version},
+                     {"wkt_dimension", 1, dimension},
+                     {"wkt_num_points", 1, num_points},
+                     {"wkt_num_points", 2, num_points},
+                     {"wkt_num_parts", 1, num_parts},
+                     {"wkt_num_parts", 2, num_parts}};
     int status = SQLITE_OK;
     SQLITE_EXTENSION_INIT2(api);
     if (!wkt_supported()) {
@@ -295,7 +349,7 @@ int sqlite3_wkt_init(sqlite3 *db, char **error, const sqlite3_api_routines *api)
         status = sqlite3_create_function_v2(db, functions[i].name, functions[i].count,
                                             SQLITE_UTF8 | SQLITE_DETERMINISTIC | SQLITE_INNOCUOUS, NULL,
                                             functions[i].call, NULL, NULL, NULL);
-    return status;
+    return status == SQLITE_OK ? create_tables(db) : status;
 }
 
 /* The name under which SQLite looks where the file is mod_wkt.so, as a package of a system has it. */

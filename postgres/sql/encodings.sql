@@ -10,7 +10,7 @@ SELECT wkt_canonical(U&'GEOMETRYCOLLECTION(POINT(1 2),\00D6\00D6(1 2))');
 SELECT wkt_explain(U&'POINT(1 2) \00D6\00E9');
 SELECT wkt_explain(U&'LINESTRING(1 2,\00D6\00E9 3)');
 -- Others: what isn't ASCII is refused where it stands, also without an equivalent in UTF-8. In SQL_ASCII it is any bytes.
-\set asked 'SELECT wkt_reads(t), wkt_or_null(t) IS NULL AS none, wkt_kind(t), wkt_explain(t) = t || E''\\n           ^ the end of the text was expected'' AS the_end, wkt_explain(:it) = :it || E''\\n^ a kind of geometry, such as POINT, was expected'' AS a_kind FROM (SELECT ''POINT(1 2) '' || :it) a(t); SELECT wkt_canonical(:it); SELECT wkt_same(''POINT(1 2)'', :it); SELECT :it::text::wkt;'
+\set asked 'SELECT wkt_reads(t), wkt_or_null(t) IS NULL AS none, wkt_kind(t), wkt_explain(t) = t || E''\\n           ^ the end of the text was expected'' AS the_end, wkt_explain(:it) = :it || E''\\n^ a kind of geometry, such as POINT, was expected'' AS a_kind, (wkt_read(t)).place, (wkt_read(:it)).expected FROM (SELECT ''POINT(1 2) '' || :it) a(t); SELECT wkt_canonical(:it); SELECT wkt_same(''POINT(1 2)'', :it); SELECT :it::text::wkt;'
 \c contrib_regression
 CREATE DATABASE wkt_win1252 ENCODING 'WIN1252' LOCALE 'C' TEMPLATE template0;
 CREATE DATABASE wkt_euc_jp ENCODING 'EUC_JP' LOCALE 'C' TEMPLATE template0;

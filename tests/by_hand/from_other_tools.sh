@@ -57,7 +57,7 @@ else
     echo "no headers of GEOS"
 fi
 if command -v sqlite3 > /dev/null && sqlite3 :memory: "select load_extension('mod_spatialite')" > /dev/null 2>&1; then
-    cp "$root"/sqlite/{Makefile,wkt_sqlite.c} "$work" && make -s -C "$work" WKT_LIB_DIR="$wkt" > "$work/make.log" 2>&1 || { cat "$work/make.log"; exit 1; }
+    make -s -C "$work" -f "$root/sqlite/Makefile" WKT_LIB_DIR="$wkt" > "$work/make.log" 2>&1 || { cat "$work/make.log"; exit 1; }
     sqlite3 -cmd ".load $work/mod_wkt" -cmd ".load mod_spatialite" "$work/db" ".mode tabs" "create table doubles (sort text, x real, y real)" ".import $work/doubles doubles" \
         "create table given (sort text, key text)" ".import $work/given given" "create table kinds (key text)" ".import $there/kinds kinds" ".read $there/spatialite.sql" > "$work/spatialite"
     figures "$work/spatialite"

@@ -179,9 +179,7 @@ def rust(work):
 
 def sqlite(work):
     os.makedirs(f"{work}/sqlite")
-    for name in ("Makefile", "wkt_sqlite.c"):
-        shutil.copy(f"{TOP}/sqlite/{name}", f"{work}/sqlite")
-    ran("make", "-s", "-C", f"{work}/sqlite", f"WKT_LIB_DIR={LIBRARY}")
+    ran("make", "-s", "-C", f"{work}/sqlite", "-f", f"{TOP}/sqlite/Makefile", f"WKT_LIB_DIR={LIBRARY}")
     return [PYTHON, f"{HERE}/sqlite.py"], [f"{work}/sqlite"], {}
 
 

@@ -1,0 +1,24 @@
+/* What the files of the extension share. */
+#ifndef WKT_SQLITE_H
+#define WKT_SQLITE_H
+
+#include <sqlite3ext.h>
+#include <wkt.h>
+
+typedef struct Question {
+    const uint8_t *text;
+    size_t length;
+    uint32_t places;
+} Question;
+
+/* wkt_sqlite.c */
+extern uint32_t places_of(int count, sqlite3_value **values, int at);
+extern wkt_status canonical_of(sqlite3_value *value, uint32_t places, Question *asked, char **out, size_t *length);
+extern char *error_of(const Question *asked, wkt_status status);
+
+/* tables.c. The counts are -1 where there is no memory. */
+extern int points_in(const char *canonical, size_t length);
+extern int parts_in(const char *canonical, size_t length);
+extern int create_tables(sqlite3 *db);
+
+#endif
