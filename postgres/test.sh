@@ -38,6 +38,7 @@ sed -n 's/^=> //p' "$here/README.md" > "$dir/page.sql"
 "$bin/psql" -X -q -At -d page < "$dir/page.sql" > "$dir/said" 2>&1 || true
 is "page: its error" "$(sed -n '/^=> /,/^```$/p' "$here/README.md" | grep -v '^=> \|^```')" "$(cat "$dir/said")"
 echo "page: the statements of README.md run"
+. "$here/tests/queries.sh"
 . "$here/tests/updates.sh"
 . "$here/tests/dump.sh"
 # Whoever may create in a database creates the extension there, and no one else.

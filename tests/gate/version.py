@@ -20,6 +20,9 @@ PLACES = [
     ("python/wkt/_version.py", rf'^__version__ = "({WHOLE})"$'),
     ("javascript/package.json", rf'^  "version": "({WHOLE})",$'),
     ("rust/Cargo.toml", rf'^version = "({WHOLE})"$'),
+    ("postgres/META.json", rf'^    "version": "({WHOLE})",$'),
+    ("postgres/META.json", rf'"wkt": {{[^}}]*"version": "({WHOLE})"'),
+    ("postgres/META.json", rf'"wkt_postgis": {{[^}}]*"version": "({WHOLE})"'),
     ("postgres/wkt.control", r"^default_version = '(\d+\.\d+)'$"),
     ("postgres/Makefile", r"^DATA = .*\bwkt--(\d+\.\d+)\.sql\b"),
 ]

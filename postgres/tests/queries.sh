@@ -1,0 +1,30 @@
+# Sourced by test.sh, once the statements of README.md have run in the database page: what the tables there answer.
+is "queries: the rejects" "" "$(ask page "table rejects")"
+ask page "insert into lines (t) values ('point(3 4.0)'), ('POINT(3'), ('POINT(3 4)'), (null)" "$(sed -n '/^WITH read/,/;$/p' "$here/README.md")"
+is "queries: loaded" "POINT(1 2) POINT(3 4)" "$(ask page "select at from places order by at" | paste -sd ' ')"
+is "queries: refused" "2 8 a second number,4  " "$(ask page "select format('%s %s %s', n, place, expected) from rejects order by n" | paste -sd ,)"
+# Extents: exact, by the index, and nothing for what is empty.
+ask page "insert into places select 10 + n, at::wkt from unnest('{POINT EMPTY,MULTIPOINT(EMPTY),\"LINESTRING(5.000001 0,6 1)\",\"POLYGON((-1 5,-2 6,0 7,-1 5))\",\"POLYGON((0 5,9 5,9 9,0 5))\"}'::text[])
+    with ordinality a(at, n)"
+extents="from places where (extent(at)).x && '[0,5]' and (extent(at)).y && '[0,5]'"
+is "queries: extents" "1 1 14 15" "$(ask page "set enable_seqscan = off" "select id $extents order by id" | paste -sd ' ')"
+[[ $(ask page "set enable_seqscan = off" "explain select id $extents") == *"Index Scan using places_x_y_idx"* ]] || wrong "queries: extents without their index"
+# An exclusion with another column, and long values: as many as don't overlap.
+long="('LINESTRING(' || repeat('0.123456 1,', 1000) || '2 3)')::wkt"
+ask page "insert into bookings values ($long, '[2026-01-01, 2026-01-02)'), ($long, '[2026-01-02, 2026-01-03)'), ('POINT(1 2)', '[2026-01-01, 2026-01-02)')"
+fails page "insert into bookings values ('point(1.0 2)', '[2026-01-01 12:00, 2026-01-01 13:00)')" "conflicting key value violates exclusion constraint"
+fails page "insert into bookings values ($long, '[2026-01-02, infinity)')" "conflicting key value violates exclusion constraint"
+# A foreign table over this server: what is sent there.
+ask page "alter server other options (add host '$PGHOST', set dbname 'page')" "create user mapping for public server other" \
+    "create foreign table elsewhere (id int, at wkt(6)) server other options (table_name 'places')"
+sent() { ask page "explain (verbose, costs off) $1" | sed -n 's/.*Remote SQL: //p'; }
+for asked in "at = 'point(3.0 4)'|WHERE ((at OPERATOR(public.=) 'POINT(3 4)'" "wkt_num_points(at) > 1 order by at|WHERE ((public.wkt_num_points(at) > 1)) ORDER BY at"; do
+    [[ $(sent "select at from elsewhere where ${asked%|*}") == *"${asked#*|}"* ]] || wrong "queries: not sent: $asked: $(sent "select at from elsewhere where ${asked%|*}")"
+done
+is "queries: answered from there" "POINT(3 4)" "$(ask page "select at from elsewhere where at = 'point(3.0 4)'")"
+# META.json names what is there, in the version of the library.
+meta="'$(sed "s/'/''/g" "$here/META.json")'::jsonb"
+is "META.json: versions" "$(sed -n 's/^#define WKT_VERSION "\(.*\)"/\1/p' "$wkt/wkt.h")" \
+    "$(ask page "select distinct v from (select $meta ->> 'version' union all select value ->> 'version' from jsonb_each($meta -> 'provides')) m(v)")"
+is "META.json: files" "$(cd "$here" && printf '%s\n' wkt*--*.sql | sort)" "$(ask page "select value ->> 'file' from jsonb_each($meta -> 'provides')" | sort)"
+echo "queries: as README.md says"
