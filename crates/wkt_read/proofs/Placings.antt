@@ -2,7 +2,7 @@
 use Rattle.std.proofs.Common.{◌≤◌, ◌≡◌, length, arith, List, [], ◌∷◌, ◌++◌, sym, refl, ap, ◌∙◌, subst, append_assoc, Option, Some, None, ◌≢◌, ℕ, suc, ◌+◌, inl, inr, length-append, ◌-◌, ◌<◌, drop, ◌↔◌, get_or, add-one, take, slice_range, append-nil, IsUtf8, ⊎_elim}
 use Rattle.std.specs.Prelude.{◌⊎◌}
 use Rattle.std.proofs.Math.Seq.{drop-cons, drop-length}
-use Rattle.std.proofs.lemmas.List.{drop_all, take_rest, length-drop, take_more, get_or-drop, length-take}
+use Rattle.std.proofs.lemmas.List.{drop_all, length-drop, take_more, get_or-drop, length-take}
 use Rattle.std.specs.Str.{IsCharBoundary}
 use Rattle.std.proofs.lemmas.Str.{IsCharBoundary-end, IsCharBoundary-before_ascii, IsCharBoundary-after_ascii}
 use borrow.Author.Tests.{ne_eqb}
@@ -149,13 +149,11 @@ marks-few White at later = omega arith
 marks-few (Mark l) at later = omega arith
 marks-few Run at later = omega arith
 
-pub coming-few : (c : Cursor) (kind : Class) → length (coming_at c.text.now kind (taken_in c)) ≤ length c.remaining.now + 1
-unfolding taken_in
+pub coming-few : (c : Cursor) (kind : Class) → length (coming_at c.text.now kind (taken_in c)) ≤ length c.text.now - taken_in c + 1
 coming-few c kind =
-    let end = c.is_end in
-    let few = spanned-from-few (length c.text.now - length c.remaining.now) (drop (length c.text.now - length c.remaining.now) c.text.now) in
-    let more = marks-few kind (length c.text.now - length c.remaining.now) (spanned_from (length c.text.now - length c.remaining.now) (drop (length c.text.now - length c.remaining.now) c.text.now)) in
-    omega (arith, few, more, ap length end)
+    let few = spanned-from-few c.taken (drop c.taken c.text.now) in
+    let more = marks-few kind c.taken (spanned_from c.taken (drop c.taken c.text.now)) in
+    omega (arith, few, more, length-drop c.taken c.text.now)
 
 -- What is left of a list of bytes at each byte of it.
 
@@ -173,22 +171,9 @@ white_here bs i h was a = ((first_left bs i h).0 (was.0 a)).0
 pub none_left : (bs : List ℕ) (i : ℕ) → length bs ≤ i → AllWhite (drop i bs)
 none_left bs i h = rw (drop_all i bs h) tt
 
--- The end of a text, and what stands behind its first byte.
-
--- what stands behind the first byte of a text's end is a text's end too
-pub behind : (text remaining : List ℕ) → 1 ≤ length remaining → length remaining ≤ length text → remaining ≡ drop (length text - length remaining) text
-    → take (length remaining - 1) (drop 1 remaining) ≡ drop (length text - length (take (length remaining - 1) (drop 1 remaining))) text
-behind text remaining some within is =
-    let at = length text - length remaining in
-    let len : length (take (length remaining - 1) (drop 1 remaining)) ≡ length remaining - 1 = ap length (take_rest remaining 1) ∙ length-drop 1 remaining in
-    let one_on : at + 1 ≡ length text - length (take (length remaining - 1) (drop 1 remaining)) = omega (arith, some, within, len) in
-    let rest : drop 1 remaining ≡ drop (at + 1) text = ap (drop 1) is ∙ ap (drop 1) (drop-cons text at 0 (omega (arith, some, within))) ∙ rw add-one refl in
-    take_rest remaining 1 ∙ rest ∙ ap (λ n. drop n text) one_on
-
 -- no more was taken than the text has
 pub taken-within : (c : Cursor) → taken_in c ≤ length c.text.now
-unfolding taken_in
-taken-within c = omega arith
+taken-within c = c.in_range
 
 pub ruleset goes_moves = (goes-moves, takes-moves)
 

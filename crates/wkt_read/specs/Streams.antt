@@ -14,8 +14,8 @@ use Rattle.wkt_read.specs.declared.tokenizer.tokens.Tokens.TheInside.{Inside}
 -- How far a text was taken. Private contracts and the model of `Tokens` cite these words.
 
 -- how many bytes of its text were taken
-unfoldable pub taken_in : Cursor → ℕ
-taken_in c = length c.text.now - length c.remaining.now
+abbrev pub taken_in : Cursor → ℕ
+taken_in c = c.taken
 
 -- The classes of bytes as the code names them, and what the scanner knows at a place of a text. Private contracts and the model of `Tokens` cite these words.
 

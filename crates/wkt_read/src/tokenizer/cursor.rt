@@ -1,5 +1,5 @@
 //! The bytes of a text, taken one at a time.
-ghost use Rattle.std.specs.Prelude.{◌≡◌, ℕ, ◌+◌, ◌-◌, ◌≤◌, ◌<◌, length, drop, slice_index, slice_range, MatchOption};
+ghost use Rattle.std.specs.Prelude.{◌≡◌, ◌+◌, ◌-◌, ◌≤◌, ◌<◌, length, slice_index, slice_range, MatchOption};
 ghost use Rattle.std.specs.Str.{IsCharBoundary, IsUtf8};
 
 /// The bytes of a text, of which some were taken.
@@ -9,13 +9,11 @@ ghost use Rattle.std.specs.Str.{IsCharBoundary, IsUtf8};
 #[derive(Drop)]
 pub(crate) struct Cursor<'a> {
     text: &'a str,
-    // The bytes that were not taken yet, to the text's end.
-    remaining: &'a [u8],
-    ghost in_range: { length remaining.now ≤ length text.now },
-    ghost is_end: { remaining.now ≡ drop (length text.now - length remaining.now) text.now },
+    // How many bytes were taken.
+    taken: usize,
+    ghost in_range: { taken ≤ length text.now },
 }
 
-#[tactic(auto, unfolding(crate::specs::Streams::taken_in))]
 impl<'a> Cursor<'a> {
     ghost use Rattle.wkt_read.specs.Streams.{taken_in};
 
@@ -24,10 +22,7 @@ impl<'a> Cursor<'a> {
         ensures taken { taken_in result ≡ 0 }
         ensures boundary { IsCharBoundary result.text.now (taken_in result) }
     {
-        Cursor {
-            text,
-            remaining: text.as_bytes(),
-        }
+        Cursor { text, taken: 0 }
     }
 
     /// How many bytes were taken.
@@ -35,14 +30,14 @@ impl<'a> Cursor<'a> {
     pub(crate) fn taken(&self) -> usize
         ensures { result ≡ taken_in self.now }
     {
-        self.text.len() - self.remaining.len()
+        self.taken
     }
 
     /// More than the bytes that are left, by two.
     pub(crate) fn most_left(&self) -> usize
-        ensures { result ≡ length self.now.remaining.now + 2 }
+        ensures { result ≡ length self.now.text.now - taken_in self.now + 2 }
     {
-        self.remaining.len() + 2
+        self.text.len() - self.taken + 2
     }
 
     /// The next byte.
@@ -56,14 +51,13 @@ impl<'a> Cursor<'a> {
             × (b ≡ slice_index self.old.text.now (taken_in self.old))) }
     {
         // As the bytes of a text they are UTF-8, on which the readers of runs rest.
-        let _ = self.text.as_bytes();
-        match self.remaining {
-            [byte, remaining @ ..] => {
-                self.remaining = remaining;
-                Some(*byte)
-            }
-            [] => None,
+        let bytes = self.text.as_bytes();
+        if self.taken == bytes.len() {
+            return None;
         }
+        let byte = bytes[self.taken];
+        self.taken += 1;
+        Some(byte)
     }
 
     /// The part of the taken text between two places where characters begin.

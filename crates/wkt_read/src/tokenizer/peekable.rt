@@ -122,6 +122,7 @@ impl<'a, T: WktNum> PeekableTokens<'a, T> {
     }
 
     /// Takes the next lexeme if it is a number that is read.
+    #[inline(always)]
     pub fn take_number(&mut self) -> Option<T>
         ensures { MatchOption result (StaysUnread T.read self.old self.new) (λ n. TakesNumber T.read self.old n self.new) }
     {

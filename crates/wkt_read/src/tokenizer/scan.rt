@@ -24,6 +24,9 @@ pub(crate) enum ByteClass {
 pub(crate) fn class_of(byte: u8) -> ByteClass
     ensures { meant result ≡ class_of byte }
 {
+    if byte > b',' {
+        return ByteClass::Run;
+    }
     match byte {
         0 => ByteClass::Nul,
         b' ' | b'\n' | b'\r' | b'\t' => ByteClass::White,
@@ -72,14 +75,18 @@ pub(crate) fn first_class(bytes: &mut Cursor<'_>, ahead: ByteClass) -> ByteClass
         (taken_in bytes.new) }
     ensures stops { result ≢ ByteClass.White }
 {
-    let mut class = ahead;
-    'white: while let ByteClass::White = class {
+    if !matches!(ahead, ByteClass::White) {
+        return ahead;
+    }
+    'white: loop {
         match bytes.next_byte() {
-            Some(byte) => class = class_of(byte),
+            Some(byte) => match class_of(byte) {
+                ByteClass::White => {}
+                class => return class,
+            },
             None => return ByteClass::Nul,
         }
     }
-    class
 }
 
 /// Takes the next byte: the end of a run that came so far, and the class of the byte, if it is no part of the run.
