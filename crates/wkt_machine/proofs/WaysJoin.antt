@@ -151,6 +151,13 @@ module _ {N S B : Type 0} (read : List ℕ → Option N) (view : View S) (maker 
   refuses_if m s b a (Ok to) h k = tt
   refuses_if m s b a (Err to) h k = refuses_after read view maker m s b a to h k
 
+-- What is refused where the source was only looked at is refused before.
+
+module _ {N S B : Type 0} (read : List ℕ → Option N) (view : View S) (maker : Maker N B) where
+  pub stays_refused : (m : Machine) (s t : S) (b : B) (r : Result (At S B) (At S B)) → Stays view s t → IfErr r (Refuses read view maker m t b) → IfErr r (Refuses read view maker m s b)
+  stays_refused m s t b (Ok to) stays h = tt
+  stays_refused m s t b (Err to) stays h = from_refuses read view maker m s t b to stays h
+
 -- A way goes on where the source was only looked at, with the machine at a state and a part that are known.
 
 pub known_machine : (m : Machine) (x : Next) (p : Part) → m.state ≡ x → m.part ≡ p → record { state = x; part = p; dim = m.dim; depth = m.depth } ≡ m

@@ -64,7 +64,7 @@ impl Machine {
 
     /// A geometry begins here.
     #[inline(always)]
-    fn at_kind<T: WktNum, S: Source<T>, B: Builder<T>>(
+    pub(crate) fn at_kind<T: WktNum, S: Source<T>, B: Builder<T>>(
         self,
         seen: Seen,
         source: S,
@@ -118,7 +118,7 @@ impl Machine {
 
     /// A kind word stands before.
     #[inline(always)]
-    fn at_dimension<T: WktNum, S: Source<T>, B: Builder<T>>(
+    pub(crate) fn at_dimension<T: WktNum, S: Source<T>, B: Builder<T>>(
         self,
         seen: Seen,
         source: S,

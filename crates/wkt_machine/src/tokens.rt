@@ -5,9 +5,10 @@ ghost use Rattle.wkt_read.specs.Peeks.{found};
 ghost use Rattle.wkt_machine.specs.View.{seen_word, seen_found, tokens_of};
 
 use crate::builder::Builder;
-use crate::machine::{Machine, Seen};
+use crate::machine::{Machine, Seen, State};
 use crate::part::{Axis, Part};
-use crate::source::{Source, Walk, Walked};
+use crate::source::{At, Source, Walk, Walked};
+use crate::step::on;
 use wkt_num::WktNum;
 use wkt_read::PeekableTokens;
 use wkt_read::words::{Lexeme, dimension_of, is_empty, kind_of};
@@ -107,16 +108,40 @@ impl<'t, 'a, T: WktNum> Source<T> for OneByOne<'t, 'a, T> {
 impl<'t, 'a, T: WktNum> Walk<T> for OneByOne<'t, 'a, T> {
     #[inline(always)]
     fn header<B: Builder<T>>(self, machine: Machine, builder: B) -> Walked<Self, B> {
-        machine.step(self, builder)
+        let (seen, source) = self.look();
+        let At {
+            source: behind,
+            machine: next,
+            builder: made,
+        } = machine.at_kind(seen, source, builder)?;
+        match next.state {
+            State::Dimension => {
+                let (seen, source) = behind.look();
+                next.anew().at_dimension(seen, source, made)
+            }
+            _ => on(behind, next.anew(), made),
+        }
     }
 
     #[inline(always)]
     fn first<B: Builder<T>>(self, machine: Machine, builder: B) -> Walked<Self, B> {
-        machine.step(self, builder)
+        self.header(machine, builder)
     }
 
     #[inline(always)]
     fn coordinates<B: Builder<T>>(self, machine: Machine, builder: B) -> Walked<Self, B> {
-        machine.step(self, builder)
+        let (seen, source) = self.look();
+        let At {
+            source: behind,
+            machine: next,
+            builder: made,
+        } = machine.at_number(Axis::X, seen, source, builder)?;
+        match next.state {
+            State::Y => {
+                let (seen, source) = behind.look();
+                next.anew().at_number(Axis::Y, seen, source, made)
+            }
+            _ => on(behind, next.anew(), made),
+        }
     }
 }
