@@ -1,6 +1,4 @@
 //! A custom number type: halves of at most one, with the four laws of `WktNum`.
-ghost use Rattle.std.proofs.Common.{rules};
-
 use std::fmt;
 use wkt::WktNum;
 use wkt::to_wkt::TextSink;
@@ -14,6 +12,8 @@ pub enum Half {
 }
 
 impl WktNum for Half {
+    ghost use denote.Enum.Bare.{same_true, true_same};
+    ghost use Rattle.wkt_examples.specs.contracts.my_number.Half.{the_type};
     ghost use Rattle.wkt_examples.specs.Halves.{AnyHalf, half_text, read_half, half_reads_back, any_half, half_number_text};
 
     ghost is_value = { AnyHalf };
@@ -28,7 +28,7 @@ impl WktNum for Half {
 
     ghost number_text = { half_number_text };
 
-    ghost same = { Prim.search rules };
+    ghost same = { λ x y. (same_true the_type tt x y, true_same the_type x y) };
 
     fn read_number(text: &str) -> Option<Half> {
         match text.as_bytes() {

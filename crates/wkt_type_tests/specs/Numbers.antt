@@ -97,3 +97,10 @@ any_long (Some x) = tt
 pub long_number_text : (x : longs.Long) → AnyLong x → IsNumberText (long_text x)
 unfolding class_of
 long_number_text x h = (refl, (refl, (refl, (refl, (refl, (refl, (refl, (refl, (refl, (refl, (refl, (refl, (refl, (refl, (refl, (refl, (refl, (refl, (refl, (refl, (refl, (refl, tt))))))))))))))))))))))
+
+-- There is one of each.
+pub one_dash : (x y : dashes.Dash) → x ≡ y
+one_dash dashes.TheVariants.Dash dashes.TheVariants.Dash = refl
+
+pub one_long : (x y : longs.Long) → x ≡ y
+one_long longs.TheVariants.Long longs.TheVariants.Long = refl

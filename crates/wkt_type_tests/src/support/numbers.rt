@@ -10,7 +10,8 @@ pub enum Letter {
 }
 
 impl WktNum for Letter {
-    ghost use Rattle.std.proofs.Common.{rules};
+    ghost use denote.Enum.Bare.{same_true, true_same};
+    ghost use Rattle.wkt_type_tests.specs.contracts.support.numbers.Letter.{the_type};
     ghost use Rattle.wkt_type_tests.specs.Numbers.{AnyLetter, letter_text, read_letter};
     ghost use Rattle.wkt_type_tests.specs.Numbers.{letter_reads_back, any_letter, letter_number_text};
     ghost use Rattle.wkt_type_tests.specs.WrongNumbers.{plus_text, read_plus, plus_reads_back, comma_text, read_comma, comma_reads_back};
@@ -27,7 +28,7 @@ impl WktNum for Letter {
 
     ghost number_text = { letter_number_text };
 
-    ghost same = { Prim.search rules };
+    ghost same = { λ x y. (same_true the_type tt x y, true_same the_type x y) };
 
     fn read_number(text: &str) -> Option<Letter> {
         match text.as_bytes() {
@@ -54,9 +55,9 @@ pub enum Dash {
 }
 
 impl WktNum for Dash {
-    ghost use Rattle.std.proofs.Common.{rules};
+    ghost use Rattle.std.proofs.Common.{refl};
     ghost use Rattle.wkt_type_tests.specs.Numbers.{AnyDash, dash_text, read_dash};
-    ghost use Rattle.wkt_type_tests.specs.Numbers.{dash_reads_back, any_dash, dash_number_text};
+    ghost use Rattle.wkt_type_tests.specs.Numbers.{dash_reads_back, any_dash, dash_number_text, one_dash};
 
     ghost is_value = { AnyDash };
 
@@ -70,7 +71,7 @@ impl WktNum for Dash {
 
     ghost number_text = { dash_number_text };
 
-    ghost same = { Prim.search rules };
+    ghost same = { λ x y. (λ _. one_dash x y, λ _. refl) };
 
     fn read_number(text: &str) -> Option<Dash> {
         match text.as_bytes() {
@@ -97,9 +98,9 @@ pub enum Long {
 const LONG: &str = ".llllllllllllllllllll";
 
 impl WktNum for Long {
-    ghost use Rattle.std.proofs.Common.{rules};
+    ghost use Rattle.std.proofs.Common.{refl};
     ghost use Rattle.wkt_type_tests.specs.Numbers.{AnyLong, long_text, read_long};
-    ghost use Rattle.wkt_type_tests.specs.Numbers.{long_reads_back, any_long, long_number_text};
+    ghost use Rattle.wkt_type_tests.specs.Numbers.{long_reads_back, any_long, long_number_text, one_long};
 
     ghost is_value = { AnyLong };
 
@@ -113,7 +114,7 @@ impl WktNum for Long {
 
     ghost number_text = { long_number_text };
 
-    ghost same = { Prim.search rules };
+    ghost same = { λ x y. (λ _. one_long x y, λ _. refl) };
 
     fn read_number(text: &str) -> Option<Long> {
         if text == ".l" || text == LONG {
