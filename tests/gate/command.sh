@@ -12,7 +12,7 @@
 #   ! TEXT          the same on standard error
 #   ? STATUS        its status, if not 0
 # In a TEXT, \xHH is a byte, \\ a backslash, and \c at its end says that no end of a line follows.
-# Then, with REST=no without them: standard output that is full or closed, a line of 100 MB, and progress.
+# Then, with REST=no without them: standard output that is full or closed, a line of 100 MB, progress, and completions.
 set -u
 cd "$(dirname "$0")/../.." || exit 1
 cases=$PWD/tests/data/command
@@ -98,6 +98,8 @@ rest() {
     [ "$(tail -c 4 "$dir/stderr")" = $'\r\e[K' ] || fail "progress isn't taken away"
     { cat "$dir/many"; sleep 0.5; cat "$dir/many"; } | "$@" check > "$dir/stdout" 2> "$dir/stderr"
     [ ! -s "$dir/stderr" ] || fail "progress where no terminal is"
+
+    tests/gate/completions.sh "$@" || fail "completions"
 }
 [ "${REST:-yes}" = no ] || rest "$@"
 
