@@ -252,7 +252,7 @@ typedef struct {
  * rings of each kind but MultiPolygon as one polygon. So a Point has rings {0, 1} and polygons {0, 1}, and
  * POLYGON EMPTY has rings {0} and polygons {0, 0}. (GeoArrow: numbers are the interleaved coordinates, rings and
  * polygons its offsets.) WKT_TOO_SMALL: *sizes has all sizes. 1..14, 20, 23, 24, 25, and WKT_NOT_WHOLE, with
- * WKT_WHOLE; 22 only of a text of more than 64 bytes, or of more than 18 numbers, 10 offsets of rings or 7 of polygons.
+ * WKT_WHOLE; 22 only of a text of more than 64 bytes.
  * The arrays are those of the value as it is read. So POLYGON(EMPTY,(1 2)) has other arrays than POLYGON EMPTY, which is its
  * canonical text. For the same arrays of the same canonical text, pass that text. */
 wkt_status wkt_arrays(const uint8_t *text, size_t text_len, uint32_t places, WktSizes *sizes,

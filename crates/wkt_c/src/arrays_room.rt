@@ -101,8 +101,8 @@ pub(crate) fn arrays_long(
 ) -> u32
     requires places { places_in places ≤ 18 }
     requires long { 64 < length text.now }
-    ensures { AnswersArrays places text.now result sizes.old sizes.new numbers.old numbers.new rings.old rings.new
-        polygons.old polygons.new }
+    ensures { AnswersArrays places text.now (64 < length text.now) result sizes.old sizes.new numbers.old numbers.new
+        rings.old rings.new polygons.old polygons.new }
 {
     let mut room = ArraysRoom::new(alloc);
     match room.make(text.len()) {

@@ -6,7 +6,7 @@ ghost use Rattle.wkt_c.specs.Chunks.{AnswersSome, AnswersNone};
 ghost use Rattle.wkt_calls.specs.Calls.{ends_here};
 ghost use Rattle.wkt_c.specs.Column.{AreColumnAnswers, IsColumn, IsNoColumn, row_count};
 ghost use Rattle.wkt_c.specs.ColumnArrays.{IsTextOf, IsNoTextAt};
-ghost use Rattle.wkt_calls.specs.Arrays.{IsNotFlat, HasMoreAt, HasNoPlaceFor, AreHandedOut, HaveNoRoom};
+ghost use Rattle.wkt_calls.specs.Arrays.{IsNotFlat, HasMoreAt, AreHandedOut, HaveNoRoom};
 
 use crate::arrays_room::arrays_long;
 use crate::canonical::canonical;
@@ -305,7 +305,7 @@ pub extern "C" fn wkt_arrays(
     ensures small { result ≡ SMALL → HaveNoRoom (places_in places) text.now sizes.new numbers.old rings.old polygons.old }
     ensures as_asked { (result ≡ DONE) ⊎ (result ≡ SMALL) → EndsAsAsked (asks_whole places) text.now sizes.new.end }
     ensures more { result ≡ NOT_WHOLE → HasMoreAt (places_in places) (asks_whole places) text.now sizes.new }
-    ensures memory { result ≡ MEMORY → (64 < length text.now) ⊎ HasNoPlaceFor (places_in places) text.now 18 10 7 }
+    ensures memory { result ≡ MEMORY → 64 < length text.now }
     ensures others { 1 ≤ result → result ≢ SMALL → result ≢ MEMORY → result ≢ NOT_WHOLE →
         IsNotFlat (places_in places) text.now result }
     ensures no_places { 18 < places_in places → result ≡ NO_PLACES }

@@ -19,11 +19,11 @@ use Rattle.wkt_lines.specs.Lines.{input_lines, before_feed, after_feed}
 use Rattle.wkt_lines.specs.Replies.{AreReplies}
 use Rattle.wkt_lines.proofs.Outcomes.{lines_step}
 use Rattle.wkt_calls.specs.Calls.{AreWholeLines}
-use Rattle.wkt_calls.specs.Answer.{RefusesText, RefusesOne, HasFront, kind_number, dimension_number, read_at}
+use Rattle.wkt_calls.specs.Answer.{RefusesText, RefusesOne, HasFront, kind_number, dimension_number}
 use Rattle.wkt_fill.specs.Filled.{view, FillsFront, HoldsAll}
 use Rattle.wkt_fill.specs.declared.filler.Filler.{Filler}
 use Rattle.wkt_fill.specs.declared.filler.Room.{Room}
-use Rattle.wkt_calls.specs.Arrays.{AreOf, IsNotFlatIn, HasNoPlaceFor}
+use Rattle.wkt_calls.specs.Arrays.{AreOf, IsNotFlatIn}
 use Rattle.wkt_num.specs.Decimal.{read_decimal, IsUnits}
 use Rattle.wkt_num.specs.DecimalLaws.{decimal_reads_values}
 use Rattle.wkt_access.specs.declared.dimensions.Dimension.TheVariants.{XY}
@@ -346,29 +346,6 @@ module _ (places : ℕ) (text : List ℕ) (r : Room) (f : Filler) (end : ℕ) (h
     | inl m ↦ inl (m.0, record { utf8 = utf8; value = h.value; end = end; front = h.front; lack = m.1 })
     | inr k ↦ inr (inr (inl (record { utf8 = utf8; value = h.value; end = end; front = h.front; why = k })))
   ]
-
--- What has no place in rooms of some sizes has none in smaller ones, and in the least room of a text that takes no memory.
-pub no-place-in-less : (places : ℕ) (text : List ℕ) (n r p n' r' p' : ℕ) → n' ≤ n → r' ≤ r → p' ≤ p → 1 ≤ r' → 1 ≤ p' → HasNoPlaceFor places text n r p → HasNoPlaceFor places text n' r' p'
-no-place-in-less places text n r p n' r' p' a b c some other h = record {
-  utf8 = h.utf8;
-  value = h.value;
-  end = h.end;
-  front = h.front;
-  lack = elim h.lack [
-    | inl z ↦ absurd (omega (arith, z, b, some))
-    | inr k ↦ elim k [
-      | inl z ↦ absurd (omega (arith, z, c, other))
-      | inr m ↦ inr (inr (
-        m.0,
-        m.1,
-        elim m.2 [
-          | inl l ↦ inl (omega (arith, l, a))
-          | inr q ↦ elim q [ inl l ↦ inr (inl (omega (arith, l, b))) | inr l ↦ inr (inr (omega (arith, l, c))) ]
-        ],
-      ))
-    ]
-  ];
-}
 
 -- The text isn't UTF-8.
 pub not-text : {N : Type 0} (read : List ℕ → Option N) (text : List ℕ) → (IsUtf8 text → ⊥) → RefusesText read text 20

@@ -99,14 +99,13 @@ pub record HaveNoRoom (places : ℕ) (text : List ℕ) (s : WktSizes) (numbers :
 
 -- What a call for the arrays of a text returns.
 
--- By its status, what a call says of a text, and what is in the buffers then.
-pub record AnswersArrays (asked : ℕ) (text : List ℕ) (status : ℕ) (sizes sizes' : WktSizes) (numbers numbers' : List ℤ) (rings rings' polygons polygons' : List ℕ) : Type 0 where
+-- By its status, what a call says of a text, and what is in the buffers then. `Full` holds where room was lacking.
+pub record AnswersArrays (asked : ℕ) (text : List ℕ) (Full : Type 0) (status : ℕ) (sizes sizes' : WktSizes) (numbers numbers' : List ℤ) (rings rings' polygons polygons' : List ℕ) : Type 0 where
   pub filled : status ≡ 0 → AreHandedOut (places_in asked) text sizes' numbers numbers' rings rings' polygons polygons'
   pub small : status ≡ 21 → HaveNoRoom (places_in asked) text sizes' numbers rings polygons
   pub as_asked : (status ≡ 0) ⊎ (status ≡ 21) → EndsAsAsked (asks_whole asked) text sizes'.end
   pub more : status ≡ 30 → HasMoreAt (places_in asked) (asks_whole asked) text sizes'
-  -- Memory is taken for texts of more than 64 bytes; the least room of a shorter one has so many places.
-  pub memory : status ≡ 22 → (64 < length text) ⊎ HasNoPlaceFor (places_in asked) text 18 10 7
+  pub memory : status ≡ 22 → Full
   pub others : 1 ≤ status → status ≢ 21 → status ≢ 22 → status ≢ 30 → IsNotFlat (places_in asked) text status
   pub kept : 1 ≤ status → (numbers' ≡ numbers) × (rings' ≡ rings) × (polygons' ≡ polygons)
   pub sizes_kept : 1 ≤ status → status ≢ 21 → status ≢ 30 → sizes' ≡ sizes

@@ -128,8 +128,8 @@ pub fn arrays_short(
     polygons: &mut [usize],
 ) -> u32
     requires { places_in places ≤ 18 }
-    ensures { AnswersArrays places text.now result sizes.old sizes.new numbers.old numbers.new rings.old rings.new
-        polygons.old polygons.new }
+    ensures { AnswersArrays places text.now (64 < length text.now) result sizes.old sizes.new numbers.old numbers.new
+        rings.old rings.new polygons.old polygons.new }
 {
     let mut point = FastPoint { x: 0, y: 0, end: 0 };
     if find_point(text, places, &mut point) {
@@ -149,8 +149,8 @@ fn arrays_few(
     polygons: &mut [usize],
 ) -> u32
     requires { places_in places ≤ 18 }
-    ensures { AnswersArrays places text.now result sizes.old sizes.new numbers.old numbers.new rings.old rings.new
-        polygons.old polygons.new }
+    ensures { AnswersArrays places text.now (64 < length text.now) result sizes.old sizes.new numbers.old numbers.new
+        rings.old rings.new polygons.old polygons.new }
 {
     if text.len() <= FEWEST_ARRAYS {
         return arrays_shortest(text, places, sizes, numbers, rings, polygons);
@@ -179,8 +179,8 @@ fn arrays_shortest(
     polygons: &mut [usize],
 ) -> u32
     requires { places_in places ≤ 18 }
-    ensures { AnswersArrays places text.now result sizes.old sizes.new numbers.old numbers.new rings.old rings.new
-        polygons.old polygons.new }
+    ensures { AnswersArrays places text.now (HasNoPlaceFor (places_in places) text.now 18 10 7) result sizes.old sizes.new
+        numbers.old numbers.new rings.old rings.new polygons.old polygons.new }
 {
     let mut few_numbers = [0i64; FEWEST_ARRAYS / 2 + 2];
     let mut few_rings = [0usize; FEWEST_ARRAYS / 4 + 2];

@@ -1,5 +1,5 @@
 -- The first text is refused, or the other isn't UTF-8.
-use Rattle.std.proofs.Common.{subst, sym}
+use Rattle.std.proofs.Common.{subst}
 use Rattle.wkt_calls.specs.Answer.{read_at, places_in, RefusesText}
 use Rattle.wkt_calls.proofs.Pieces.{refused-first}
 use Rattle.wkt_calls.proofs.compare.same_unlikely.Goals as goal
