@@ -1,8 +1,8 @@
 -- What becomes of a text that `wkt canon` answers, bytes that are replaced one by one, and keys that are compared by
 -- their bytes.
-use Rattle.std.proofs.Common.{◌≡◌, ℕ, ℤ, List, [], ◌∷◌, ◌++◌, take, drop, min, Option, Result, Ok, Err, OnOk, IsUtf8, ◌⊎◌, ⊎_elim, true, false, sym, ap, ◌∙◌, subst, refl, Bool, Some, None, if◌then◌else◌, unwrap_or, zero, suc, ◌+◌, ◌<◌, ◌≤◌, length, get_or, slice_set, map, add-one, arith}
-use Rattle.std.specs.Io.KnownBytes.{Appends, Keeps}
-use Rattle.std.proofs.KnownBytes.{Appends-kept}
+use Rattle.std.proofs.Common.{◌≡◌, ℕ, ℤ, List, [], ◌∷◌, ◌++◌, take, drop, min, Option, Result, Ok, Err, OnOk, IsUtf8, ⊎_elim, true, false, sym, ap, ◌∙◌, subst, refl, Bool, Some, None, if◌then◌else◌, unwrap_or, zero, suc, ◌+◌, ◌<◌, ◌≤◌, length, get_or, slice_set, map, add-one, arith, append_assoc, append-nil, IfSome}
+use Rattle.std.specs.Io.KnownBytes.{Appends, Keeps, IsAtEnd}
+use Rattle.std.proofs.KnownBytes.{Appends-kept, Appends-nil, Appends-trans}
 use Rattle.std.specs.Str.{bytes_eq}
 use Rattle.std.specs.Map.{lookup, KeepsOthers}
 use Rattle.std.specs.Cmp.Lexicographic.{bytes_decides, nat_list_eq_equiv}
@@ -13,8 +13,13 @@ use Rattle.wkt_access.specs.Texts.{shape_text}
 use Rattle.wkt_access.specs.Values.{Value}
 use Rattle.wkt_read.proofs.OneForm.{front_one}
 use Rattle.wkt_explain.specs.declared.explanation.Explanation.{Explanation}
-use Rattle.wkt_command.specs.Canon.{IsReadAs, refused_line, Canonizes, IsVerdict}
+use Rattle.wkt_lines.specs.Lines.{input_lines}
+use Rattle.wkt_lines.specs.Reading.{GivesLine}
+use Rattle.wkt_command.specs.Canon.{IsReadAs, refused_line, AreAnswers, text_of, Canonizes, IsVerdict}
 use Rattle.wkt_command.specs.declared.options.Options.{Options}
+use Rattle.wkt_command.specs.declared.options.Ends.{Ends}
+use Rattle.wkt_command.specs.declared.options.Ends.TheVariants as ends
+use Rattle.wkt_command.specs.Place.{other_end}
 use Rattle.wkt_command.specs.declared.verdict.Verdict.TheVariants.{Read, Refused, Rest}
 
 -- What becomes of a text that `wkt canon` answers.
@@ -27,16 +32,20 @@ module _ (o : Options) (text : List ℕ) (old new : Option (List ℕ)) where
   -- it was read, and its canonical text was put out
   pub canonizes-read : (room : List ℕ) (len : ℕ) → IsVerdict (read_decimal 127 36 (min o.places 18)) (decimal_text (min o.places 18)) o.front text room (Read len)
       → IsUtf8 text → Appends old new (take len room ++ 10 ∷ []) → Canonizes o text old new
-  canonizes-read room len (end, w, whole) utf8 out = record {
-    read = λ u v e is.
-        let same = front_one (read_decimal 127 36 (min o.places 18)) text w.value v end e w.front is.front in
-        subst (λ bs. Appends old new (bs ++ 10 ∷ [])) (w.is ∙ ap (λ x. shape_text (decimal_text (min o.places 18)) (shape_of x)) same.0) out;
-    refused = λ none. absurd (none utf8 w.value end (record { front = w.front; whole = whole }));
-  }
+  canonizes-read room len (end, w, whole) utf8 out = (
+    take len room ++ 10 ∷ [],
+    record {
+      read = λ u v e is.
+          let same = front_one (read_decimal 127 36 (min o.places 18)) text w.value v end e w.front is.front in
+          ap (λ bs. bs ++ 10 ∷ []) (w.is ∙ ap (λ x. shape_text (decimal_text (min o.places 18)) (shape_of x)) same.0);
+      refused = λ none. absurd (none utf8 w.value end (record { front = w.front; whole = whole }));
+    },
+    out,
+  )
 
   -- it wasn't read, and what was asked for was put out
   pub canonizes-refused : (IsUtf8 text → (v : Value ℤ) (end : ℕ) → IsReadAs o text v end → ⊥) → Appends old new (refused_line o.refused) → Canonizes o text old new
-  canonizes-refused none out = record { read = λ u v e is. absurd (none u v e is); refused = λ _. out }
+  canonizes-refused none out = (refused_line o.refused, record { read = λ u v e is. absurd (none u v e is); refused = λ _. refl }, out)
 
   -- a text that is refused somewhere isn't read
   pub none-refused : (room : List ℕ) (why : Explanation) → IsVerdict (read_decimal 127 36 (min o.places 18)) (decimal_text (min o.places 18)) o.front text room (Refused why)
@@ -51,10 +60,58 @@ module _ (o : Options) (text : List ℕ) (old new : Option (List ℕ)) where
       ⊎_elim (λ (e : o.front ≡ true). let clash : true ≡ false = sym e ∙ whole in cc) (λ white. more (subst (λ n. AllWhite (drop n text)) same.1 white)) is.whole
 
 pub canonizes-kept : (o : Options) (text : List ℕ) (old middle new : Option (List ℕ)) → Canonizes o text old middle → Keeps middle new → Canonizes o text old new
-canonizes-kept o text old middle new h k = record {
-  read = λ u v e is. Appends-kept old middle new _ (h.read u v e is) k;
-  refused = λ none. Appends-kept old middle new _ (h.refused none) k;
-}
+canonizes-kept o text old middle new (out, is, went) k = (out, is, Appends-kept old middle new out went k)
+
+-- The texts of an input, answered one by one.
+
+-- a line is its own text, but where texts end at a NUL
+pub text-plain : (e : Ends) (line : List ℕ) → (e ≡ ends.Nul → ⊥) → text_of e line ≡ line
+text-plain ends.Line line h = refl
+text-plain ends.Nul line h = absurd (h refl)
+text-plain ends.File line h = refl
+
+pub text-swapped : (e : Ends) (line text : List ℕ) → e ≡ ends.Nul → text ≡ map other_end line → text_of e line ≡ text
+text-swapped e line text is same = ap (λ e. text_of e line) is ∙ sym same
+
+module _ (is : List ℕ → List ℕ → Type 0) where
+  -- the answers to some texts, and to those behind them
+  answers-on : (ts us : List (List ℕ)) (out more : List ℕ) → AreAnswers is ts out → AreAnswers is us more → AreAnswers is (ts ++ us) (out ++ more)
+  answers-on [] us out more h k = subst (λ l. AreAnswers is us (l ++ more)) (sym h) k
+  answers-on (t ∷ ts) us out more (first, rest, e, one, h) k =
+      (first, rest ++ more, ap (λ l. l ++ more) e ∙ append_assoc first rest more, one, answers-on ts us rest more h k)
+
+  module _ (f : List ℕ → List ℕ) where
+    -- Some lines of an input were answered, and the others are still to come.
+    abbrev pub Answered : Option (List ℕ) → Option (List ℕ) → Option (List ℕ) → Option (List ℕ) → Type 0
+    Answered None left old new = Unit {0}
+    Answered (Some input) None old new = ⊥
+    Answered (Some input) (Some left) old new =
+        (done : List (List ℕ)) × (out : List ℕ) × (map f (input_lines input) ≡ done ++ map f (input_lines left)) × AreAnswers is done out × Appends old new out
+
+    pub answered-none : (input old : Option (List ℕ)) → Answered input input old old
+    answered-none None old = tt
+    answered-none (Some input) old = ([], [], refl, refl, Appends-nil old)
+
+    pub answered-line : (input left more old middle new : Option (List ℕ)) (line : List ℕ) → Answered input left old middle → GivesLine left more line
+        → (first : List ℕ) × is (f line) first × Appends middle new first → Answered input more old new
+    answered-line None left more old middle new line h k c = tt
+    answered-line (Some input) None more old middle new line h k c = absurd h
+    answered-line (Some input) (Some left) None old middle new line h k c = absurd k
+    answered-line (Some input) (Some left) (Some more) old middle new line (done, out, split, are, went) k (first, one, goes) = (
+      done ++ (f line ∷ []),
+      out ++ first,
+      split ∙ (ap (λ ls. done ++ map f ls) k ∙ sym (append_assoc done (f line ∷ []) (map f (input_lines more)))),
+      answers-on done (f line ∷ []) out first are (first, [], sym (append-nil first), one, refl),
+      Appends-trans old middle new out first went goes,
+    )
+
+    pub answered-all : (input left old new : Option (List ℕ)) → Answered input left old new → IsAtEnd left
+        → IfSome input (λ bs. (out : List ℕ) × AreAnswers is (map f (input_lines bs)) out × Appends old new out)
+    answered-all None left old new h end = tt
+    answered-all (Some input) None old new h end = absurd h
+    answered-all (Some input) (Some left) old new (done, out, split, are, went) end =
+        let all : map f (input_lines input) ≡ done = split ∙ (ap (λ xs. done ++ map f (input_lines xs)) end ∙ append-nil done) in
+        (out, subst (λ ts. AreAnswers is ts out) (sym all) are, went)
 
 -- Bytes that are replaced one by one, and keys that are compared by their bytes.
 

@@ -1,5 +1,5 @@
 -- What becomes of a text, what `wkt canon` writes, and the geometries that were seen.
-use Rattle.std.specs.Prelude.{◌≡◌, ℕ, List, take, drop, Option, Bool, true, false, ◌⊎◌, ℤ, [], ◌∷◌, ◌++◌, min, Some, None, String, string_bytes, IsUtf8, codes, if◌then◌else◌}
+use Rattle.std.specs.Prelude.{◌≡◌, ℕ, List, take, drop, Option, Bool, true, false, ◌⊎◌, ℤ, [], ◌∷◌, ◌++◌, min, Some, None, String, string_bytes, IsUtf8, codes, if◌then◌else◌, map, IfSome}
 use Rattle.std.specs.declared.alloc.Global.{Global}
 use Rattle.std.specs.Io.KnownBytes.{Appends}
 use Rattle.std.specs.Io.Buffered.{writer_contents}
@@ -16,6 +16,10 @@ use Rattle.wkt_access.specs.Values.{Value}
 use Rattle.wkt_access.specs.Shapes.{shape_of}
 use Rattle.wkt_access.specs.Texts.{shape_text}
 use Rattle.wkt_command.specs.declared.options.Options.{Options}
+use Rattle.wkt_command.specs.declared.options.Ends.{Ends}
+use Rattle.wkt_command.specs.declared.options.Ends.TheVariants.{Nul}
+use Rattle.wkt_lines.specs.Lines.{input_lines}
+use Rattle.wkt_command.specs.Place.{other_end}
 use Rattle.wkt_command.specs.declared.output.Output.{Output}
 use Rattle.wkt_command.specs.declared.dups.Seen.{Seen}
 use Rattle.wkt_command.specs.declared.dups.Spot.{Spot}
@@ -47,11 +51,29 @@ abbrev pub refused_line : Option (String Global) → List ℕ
 refused_line None = []
 refused_line (Some word) = if bytes_eq (codes "skip") (string_bytes word) then [] else string_bytes word ++ 10 ∷ []
 
--- Of a text that is read the canonical text was written, with a line feed, and of another what was asked for.
-pub record Canonizes (o : Options) (text : List ℕ) (old new : Option (List ℕ)) : Type 0 where
+-- What `wkt canon` writes for a text: of one that is read the canonical text, with a line feed, and of another what was asked for.
+pub record IsAnswerTo (o : Options) (text out : List ℕ) : Type 0 where
   pub read : IsUtf8 text → (v : Value ℤ) (end : ℕ) → IsReadAs o text v end
-      → Appends old new (shape_text (decimal_text (min o.places 18)) (shape_of v) ++ 10 ∷ [])
-  pub refused : (IsUtf8 text → (v : Value ℤ) (end : ℕ) → IsReadAs o text v end → ⊥) → Appends old new (refused_line o.refused)
+      → out ≡ shape_text (decimal_text (min o.places 18)) (shape_of v) ++ 10 ∷ []
+  pub refused : (IsUtf8 text → (v : Value ℤ) (end : ℕ) → IsReadAs o text v end → ⊥) → out ≡ refused_line o.refused
+
+-- That was written.
+abbrev pub Canonizes : Options → List ℕ → Option (List ℕ) → Option (List ℕ) → Type 0
+Canonizes o text old new = (out : List ℕ) × IsAnswerTo o text out × Appends old new out
+
+-- What was written for these texts, one after the other.
+abbrev pub AreAnswers : (List ℕ → List ℕ → Type 0) → List (List ℕ) → List ℕ → Type 0
+AreAnswers is [] out = out ≡ []
+AreAnswers is (text ∷ texts) out = (first : List ℕ) × (rest : List ℕ) × (out ≡ first ++ rest) × is text first × AreAnswers is texts rest
+
+-- The text that a line stands for: where texts end at a NUL, line feeds and NULs have changed places.
+abbrev pub text_of : Ends → List ℕ → List ℕ
+text_of Nul line = map other_end line
+text_of _ line = line
+
+-- What was written answers the texts of all lines that were to come, where the source reveals them.
+abbrev pub CanonizesAll : Options → Option (List ℕ) → Option (List ℕ) → Option (List ℕ) → Type 0
+CanonizesAll o left old new = IfSome left (λ input. (out : List ℕ) × AreAnswers (IsAnswerTo o) (map (text_of o.ends) (input_lines input)) out × Appends old new out)
 
 -- The geometries that were seen.
 

@@ -1,7 +1,8 @@
 //! A run over files.
-ghost use Rattle.std.specs.Prelude.{◌≡◌, [], ◌∷◌, ◌++◌, OnOk, take};
+ghost use Rattle.std.specs.Prelude.{◌≡◌, [], ◌∷◌, ◌++◌, OnOk, take, false};
 ghost use Rattle.std.specs.Io.KnownBytes.{Appends};
-ghost use Rattle.wkt_command.specs.Canon.{out_bytes, refused_line, Canonizes};
+ghost use Rattle.wkt_lines.specs.Reading.{to_come};
+ghost use Rattle.wkt_command.specs.Canon.{out_bytes, refused_line, text_of, Canonizes, CanonizesAll};
 ghost use Rattle.wkt_command.specs.declared.options.Command.TheVariants.{Canon};
 
 use crate::dups::{self, Seen, Spot};
@@ -14,7 +15,7 @@ use crate::progress::{Progress, Tally};
 use crate::report::{Origin, TextRefusal, Thousands, push_not_utf8, push_refusal};
 use crate::shown::Shown;
 use crate::verdict::{Verdict, verdict_at, written};
-use std::alloc::Global;
+use std::alloc::{AllocError, Global};
 use std::io::{Stdout, Write};
 use wkt_bytes::{ByteSource, Counted, ReadAllError, read_all};
 use wkt_lines::Lines;
@@ -73,7 +74,9 @@ impl<'a, W: Write + Drop> Run<'a, W> {
     }
 
     /// Whether no more texts are looked at: `check` has printed as many refusals as were asked for.
-    pub fn is_over(&self) -> bool {
+    pub fn is_over(&self) -> bool
+        ensures { self.now.options.now.command ≡ Canon → result ≡ false }
+    {
         let refused = self.tally.refused;
         self.options.command == Command::Check
             && (self.options.quiet && refused > 0
@@ -113,23 +116,52 @@ impl<'a, W: Write + Drop> Run<'a, W> {
         rt: &HostRuntime,
         name: &str,
         lines: Lines<R>,
-    ) -> Result<(), CommandError> {
+    ) -> Result<(), CommandError>
+        ensures { self.old.options.now.command ≡ Canon → OnOk result (CanonizesAll self.old.options.now
+            (to_come R.left lines) (out_bytes W.contents self.old.out) (out_bytes W.contents self.new.out)) }
+    {
         let mut lines = lines;
         let mut text = Vec::new(self.alloc);
-        for _ in 0..u64::MAX {
-            if self.is_over() || !lines.advance()? {
-                break;
+        'lines: for _ in 0..u64::MAX {
+            if self.is_over() {
+                return Ok(());
             }
-            if self.options.ends == Ends::Nul {
-                text.clear();
-                text.extend_from_slice(lines.line())?;
-                swap_ends(text.as_mut_slice());
-                self.take(rt, name, text.as_slice())?;
-            } else {
-                self.take(rt, name, lines.line())?;
+            match lines.advance() {
+                Ok(true) => {}
+                Ok(false) => return Ok(()),
+                Err(error) => return Err(CommandError::from(error)),
+            }
+            match self.take_line(rt, name, lines.line(), &mut text) {
+                Ok(()) => {}
+                Err(error) => return Err(error),
             }
         }
-        Ok(())
+        // The source never ends.
+        Err(CommandError::Memory(AllocError))
+    }
+
+    /// Answers the text that a line stands for. What the vector holds means nothing.
+    fn take_line(
+        &mut self,
+        rt: &HostRuntime,
+        name: &str,
+        line: &[u8],
+        text: &mut Vec<u8>,
+    ) -> Result<(), CommandError>
+        ensures options { self.new.options ≡ self.old.options }
+        ensures canon { self.old.options.now.command ≡ Canon → OnOk result (Canonizes self.old.options.now
+            (text_of self.old.options.now.ends line.now)
+            (out_bytes W.contents self.old.out) (out_bytes W.contents self.new.out)) }
+    {
+        if self.options.ends != Ends::Nul {
+            return self.take(rt, name, line);
+        }
+        text.clear();
+        if let Err(error) = text.extend_from_slice(line) {
+            return Err(CommandError::Memory(error));
+        }
+        swap_ends(text.as_mut_slice());
+        self.take(rt, name, text.as_slice())
     }
 
     fn read_whole<R: ByteSource + Drop>(
@@ -145,6 +177,7 @@ impl<'a, W: Write + Drop> Run<'a, W> {
 
     /// Answers a text, and goes on to the next.
     fn take(&mut self, rt: &HostRuntime, name: &str, text: &[u8]) -> Result<(), CommandError>
+        ensures options { self.new.options ≡ self.old.options }
         ensures canon { self.old.options.now.command ≡ Canon → OnOk result (Canonizes self.old.options.now text.now
             (out_bytes W.contents self.old.out) (out_bytes W.contents self.new.out)) }
     {
@@ -168,6 +201,7 @@ impl<'a, W: Write + Drop> Run<'a, W> {
     }
 
     fn answer(&mut self, rt: &HostRuntime, name: &str, text: &[u8]) -> Result<(), CommandError>
+        ensures options { self.new.options ≡ self.old.options }
         ensures canon { self.old.options.now.command ≡ Canon → OnOk result (Canonizes self.old.options.now text.now
             (out_bytes W.contents self.old.out) (out_bytes W.contents self.new.out)) }
     {
@@ -200,6 +234,7 @@ impl<'a, W: Write + Drop> Run<'a, W> {
         origin: Origin<'_>,
         refusal: TextRefusal<'_>,
     ) -> Result<(), CommandError>
+        ensures options { self.new.options ≡ self.old.options }
         ensures canon { self.old.options.now.command ≡ Canon → OnOk result
             (Appends (out_bytes W.contents self.old.out) (out_bytes W.contents self.new.out)
             (refused_line self.old.options.now.refused)) }
@@ -212,6 +247,7 @@ impl<'a, W: Write + Drop> Run<'a, W> {
 
     /// Answers a text that is read, whose canonical text has so many bytes in the room.
     fn put_answer(&mut self, origin: Origin<'_>, text: &str, len: usize) -> Result<(), CommandError>
+        ensures options { self.new.options ≡ self.old.options }
         ensures canon { self.old.options.now.command ≡ Canon → OnOk result
             (Appends (out_bytes W.contents self.old.out) (out_bytes W.contents self.new.out)
             (take len self.old.room.items ++ 10 ∷ [])) }
@@ -254,6 +290,7 @@ impl<'a, W: Write + Drop> Run<'a, W> {
 
     /// Counts a refused text, and prints its report.
     fn refuse(&mut self, rt: &HostRuntime) -> Result<(), CommandError>
+        ensures options { self.new.options ≡ self.old.options }
         ensures canon { self.old.options.now.command ≡ Canon → OnOk result
             (Appends (out_bytes W.contents self.old.out) (out_bytes W.contents self.new.out)
             (refused_line self.old.options.now.refused)) }

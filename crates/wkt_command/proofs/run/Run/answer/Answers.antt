@@ -5,6 +5,7 @@ use Rattle.wkt_command.proofs.run.Run.answer.Goals as goal
 
 pub returns-in-Read : goal.returns-in-Read
 returns-in-Read g c = record {
+  options = c.put_answer.ensures.options;
   canon = λ is.
       let verdict = rw (c.in-Read.is, c.in-Ok.ensures.cases.0) at c.in_ok-len.ensures in
       ok-map c.put_answer.result _ _ (canonizes-read c.args.self.now.options.now c.args.text.now _ _ _ c.in-Read.len verdict c.in-Ok.ensures.cases.1) (c.put_answer.ensures.canon is);
@@ -12,6 +13,7 @@ returns-in-Read g c = record {
 
 pub returns-in-Refused : goal.returns-in-Refused
 returns-in-Refused g c = record {
+  options = c.refuse_text.ensures.options;
   canon = λ is.
       let verdict = rw (c.in-Refused.is, c.in-Ok.ensures.cases.0) at c.in_ok-len.ensures in
       ok-map c.refuse_text.result _ _ (canonizes-refused c.args.self.now.options.now c.args.text.now _ _ (none-refused c.args.self.now.options.now c.args.text.now (out_bytes g.W.Write.contents c.args.self.now.out) (out_bytes g.W.Write.contents c.args.self.now.out) c.verdict_at.new.room.items c.in-Refused.why verdict)) (c.refuse_text.ensures.canon is);
@@ -19,7 +21,12 @@ returns-in-Refused g c = record {
 
 pub returns-in-Rest : goal.returns-in-Rest
 returns-in-Rest g c = record {
+  options = c.refuse_text-in-Rest.ensures.options;
   canon = λ is.
       let verdict = rw (c.in-Rest.is, c.in-Ok.ensures.cases.0) at c.in_ok-len.ensures in
       ok-map c.refuse_text-in-Rest.result _ _ (canonizes-refused c.args.self.now.options.now c.args.text.now _ _ (none-rest c.args.self.now.options.now c.args.text.now (out_bytes g.W.Write.contents c.args.self.now.out) (out_bytes g.W.Write.contents c.args.self.now.out) _ _ verdict)) (c.refuse_text-in-Rest.ensures.canon is);
 }
+
+pub returns-in-Err-clause-canon : goal.returns-in-Err-clause-canon
+returns-in-Err-clause-canon g c = λ is.
+    ok-map c.refuse.result _ _ (canonizes-refused c.args.self.now.options.now c.args.text.now _ _ (λ utf8 v end read. c.in-Err.ensures.cases.0 utf8)) (c.refuse.ensures.canon is)
