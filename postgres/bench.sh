@@ -40,6 +40,23 @@ measured() {
 }
 copied() { measured "$1" "$4 create table t ($2);" "copy t (g) from '$dir/$3';"; }
 lz4="set local default_toast_compression = lz4;"
+# Squares of a hundredth of a degree, as many as a quarter of the points.
+sql -c "create table squares as select s as g, s::wkt as w, s::geometry as p from (select format('POLYGON((%s %s,%s %s,%s %s,%s %s,%s %s))', x, y, x + a, y, x + a, y + a, x, y + a, x, y) s
+    from (select (random() * 360 - 180)::numeric(9,6) x, (random() * 180 - 90)::numeric(9,6) y, 0.01 a from generate_series(1, $((rows / 4)))) c) t" -c "analyze squares"
+alone="set local max_parallel_workers_per_gather = 0;"
+printf '\n| %s of squares | server | clock |\n|---|---|---|\n' $((rows / 4))
+for memory in 4MB 256MB; do
+    for column in w p; do
+        measured "order by $column, $(sql -At -c "select format_type(atttypid, -1) from pg_attribute where attrelid = 'squares'::regclass and attname = '$column'"), work_mem $memory" \
+            "$alone set local work_mem = '$memory';" "select $column from squares order by $column offset $rows;"
+    done
+done
+measured "count(*) from wkt_points(w)" "$alone" "select count(*) from squares, wkt_points(w);"
+measured "count(*) from ST_DumpPoints(p)" "$alone" "select count(*) from squares, ST_DumpPoints(p);"
+measured "sum(max_x) from wkt_bounds(w)" "$alone" "select sum(max_x) from squares, wkt_bounds(w);"
+measured "count(value) from wkt_read(g)" "$alone" "select count(value) from squares, wkt_read(g);"
+measured "count(wkt_or_null(g))" "$alone" "select count(wkt_or_null(g)) from squares;"
+sql -c "drop table squares"
 for what in points mixed; do
     printf '\n| %s of %s: COPY into | server | clock |\n|---|---|---|\n' "$(wc -l < "$dir/$what")" "$what"
     copied "text" "g text" $what ""
@@ -65,7 +82,6 @@ for what in points mixed; do
     fi
     sql -c "create table t (g text)" -c "copy t from '$dir/$what'" -c "analyze t"
     printf '\n| %s of %s: SELECT | server | clock |\n|---|---|---|\n' "$(wc -l < "$dir/$what")" "$what"
-    alone="set local max_parallel_workers_per_gather = 0;"
     measured "sum(length(g))" "$alone" "select sum(length(g)) from t;"
     measured "sum(length(wkt_canonical(g)))" "$alone" "select sum(length(wkt_canonical(g))) from t;"
     measured "count(*) where wkt_reads(g)" "$alone" "select count(*) from t where wkt_reads(g);"

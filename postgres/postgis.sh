@@ -31,6 +31,22 @@ is "the geometry has no SRID" 0 "$(ask places "select ST_SRID('POINT(1 2)'::wkt:
 is "a modifier" "POINT(1.5 2)" "$(ask places "select ST_MakePoint(1.5, 2)::wkt(1)")"
 is "rounded by PostGIS" "POINT(0.3 0.333333)" "$(ask places "select ST_AsText(ST_MakePoint(0.1 + 0.2::float8, 1 / 3::float8), 6)::wkt(6)")"
 is "null" "" "$(ask places "select null::geometry::wkt, null::wkt::geometry" | tr -d '|')"
+# Points, parts and bounds of the kept keys that PostGIS takes, as its own calls have them.
+grep -v '^#' "$here/../tests/data/keys.tsv" | cut -f 5 | grep -vx refused | sort -u > "$dir/kept"
+chmod 644 "$dir/kept"
+ask places "create function taken(t text) returns geometry language plpgsql as \$\$ begin return ST_GeomFromText(t); exception when others then return null; end \$\$" \
+    "create table kept (k text)" "copy kept from '$dir/kept'" "create table both_of as select k::wkt at, g from (select k, taken(k) g from kept) k where g is not null" \
+    "create view points_of as select at, array(select (p.path, x::float8, y::float8, z::float8, m::float8)::text from wkt_points(at) p) one,
+        array(select (p.path, ST_X(p.geom), ST_Y(p.geom), ST_Z(p.geom), ST_M(p.geom))::text from ST_DumpPoints(g) p) other from both_of" \
+    "create view parts_of as select at, array(select (p.path, ST_AsEWKB(part::geometry))::text from wkt_each(at) p) one,
+        array(select (p.path, ST_AsEWKB(p.geom))::text from ST_Dump(g) p) other from both_of" \
+    "create view bounds_of as select at, array[min_x, max_x, min_y, max_y, min_z, max_z]::float8[] one, array[ST_XMin(g), ST_XMax(g), ST_YMin(g), ST_YMax(g),
+        case when ST_Zmflag(g) > 1 then ST_ZMin(g) end, case when ST_Zmflag(g) > 1 then ST_ZMax(g) end] other from both_of, wkt_bounds(at)" \
+    "create view counts_of as select at, array[wkt_num_points(at), wkt_num_parts(at)] one, array[ST_NPoints(g), (select count(*) from ST_Dump(g))::int] other from both_of"
+for what in points parts bounds counts; do
+    is "$what: other than PostGIS's" "" "$(ask places "select at from ${what}_of where one is distinct from other limit 3")"
+done
+echo "of $(wc -l < "$dir/kept") kept keys PostGIS takes $(ask places "select count(*) from both_of"), with the same points, parts and bounds"
 # Each double as its shortest decimal, which float8's text is too, in each dimension and kind; what has more places is refused.
 ask places "create function drawn(name text, i int) returns float8 language sql return ('x' || left(md5(name || i), 13))::bit(52)::int8 / (2::float8 ^ 52)" \
     "create table doubles as select drawn('x', i) x, drawn('y', i) y, drawn('z', i) z, drawn('m', i) m from generate_series(1, 10000) i" \

@@ -41,6 +41,10 @@ for row in "wkt_canonical(t) 1" "wkt_canonical(t) 2" "wkt_canonical(t) 3" "wkt_c
     [ -z "${VERBOSE:-}" ] || echo "$row: timeout $timeout ms, ended at $clock ms, processor $cpu of $whole_cpu ms"
 done
 echo "cancel: calls on some 100 MB ended by their timeout with at most $most ms of the processor ($which)"
+# Rows of a long value come one by one, and there are 25 million: most of a minute.
+read -r clock cpu <<< "$(took 2000 "select count(*) from long, wkt_points(t::wkt) where id = 2")"
+grep -q 'canceling statement due to statement timeout' "$dir/said" || wrong "cancel: wkt_points: $(head -c 200 "$dir/said")"
+[ "$cpu" -le 5000 ] || wrong "cancel: wkt_points took $cpu ms of the processor after a timeout of 2000 ms"
 is "cancel: the server goes on" "POINT(1 2)" "$(ask cancel "select wkt_canonical('point(1 2)')")"
 ask postgres "drop database cancel"
 
