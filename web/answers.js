@@ -1,9 +1,8 @@
-// The answers to what stands in the field.
+// The answers to what stands in the field: only what was changed is answered anew, in a worker.
 import { $ } from './elements.js';
-import { isRefusal } from './refusals.js';
-import { looksLikeOne } from './split.js';
+import { piecesOf } from './split.js';
 import { state } from './state.js';
-import { Summary } from './summary.js';
+import { started } from './workers.js';
 
 export const places = () => Number($('places').value);
 
@@ -14,77 +13,103 @@ export function setSplit(split) {
   document.querySelector(`input[name=split][value=${split}]`).checked = true;
 }
 
-/** The parts of an accepted row's canonical text, which are found once. */
-export const summaryOf = (row) => (row.summary ??= new Summary(row.canonical));
+let desk = null;
+let asked = ''; // how the texts were asked for
+let ids = 0;
+const byId = new Map();
+const numbers = new Map(); // of canonical texts
+let settle = () => {};
+let others = {};
 
-/** The answer to one text, which stands at `offset` in the field. */
-function answerTo(text, offset, line) {
-  const row = { text, offset, line, accepted: false };
-  try {
-    row.canonical = state.wkt.canonical(text, { places: places(), whole: true });
-    row.accepted = true;
-  } catch (error) {
-    if (!isRefusal(error)) throw error;
-    Object.assign(row, { words: error.words, status: error.status, place: error.place });
+/** Starts the worker. `settled` is called when all is answered, and `on` has functions for what else it says, by names. */
+export function startDesk(canvas, settled, on) {
+  settle = settled;
+  others = on;
+  desk = started('desk', { canvas }, [canvas]);
+  desk.onmessage = ({ data }) => {
+    if (data.answers) takeAnswers(data);
+    for (const [name, said] of Object.entries(data)) others[name]?.(said);
+  };
+  desk.onerror = (event) => others.failed?.(event.message);
+}
+
+export const tellDesk = (message) => desk.postMessage(message);
+
+function takeAnswers({ answers, left: more }) {
+  for (const [id, answer] of answers) {
+    const row = byId.get(id);
+    if (!row) continue; // it was changed since
+    Object.assign(row, answer, { answered: true });
+    if (!row.accepted) continue;
+    if (!numbers.has(row.canonical)) numbers.set(row.canonical, numbers.size);
+    row.number = numbers.get(row.canonical);
   }
-  return row;
+  if (more === 0 && state.rows.every((row) => row.answered)) finish();
 }
 
-function answersToLines(text) {
-  const rows = [];
-  const first = new Map();
-  let offset = 0;
-  text.split('\n').forEach((line, i) => {
-    if (line.trim() !== '') {
-      const row = answerTo(line, offset, i + 1);
-      if (row.accepted) {
-        if (first.has(row.canonical)) row.repeats = first.get(row.canonical);
-        else first.set(row.canonical, row.line);
-      }
-      rows.push(row);
-    }
-    offset += line.length + 1;
-  });
-  return rows;
+function finish() {
+  const first = new Float64Array(numbers.size); // the line of each canonical text, or 0
+  for (const row of state.rows) {
+    row.repeats = row.accepted ? first[row.number] || null : null;
+    if (row.accepted && row.repeats === null) first[row.number] = row.line;
+  }
+  state.settled = true;
+  settle();
 }
 
-/** Answers the text of the field, and chooses the first that is refused, else the one that was chosen. */
+/**
+ * Answers a text. Pieces at its front and at its end that stand there already keep their answers.
+ */
 export function answer(text) {
-  const asked = askedSplit();
-  state.split = asked === 'auto' ? (looksLikeOne(text) ? 'one' : 'lines') : asked;
-  if (text.trim() === '') state.rows = [];
-  else state.rows = state.split === 'one' ? [answerTo(text, 0, 1)] : answersToLines(text);
-  const refused = state.rows.findIndex((row) => !row.accepted);
-  const last = state.rows.length - 1;
-  state.chosen = refused >= 0 ? refused : Math.min(Math.max(state.chosen, 0), last);
-}
-
-/** The front of a refused text with its open parentheses closed, if that is accepted: its canonical text, or null. */
-function readOfRefused({ text, place }) {
-  if (!place) return null;
-  const front = text.slice(0, place.start);
-  // All that is before the place, else all before the last comma.
-  for (const end of [front.length, front.lastIndexOf(',')]) {
-    let depth = 0;
-    for (let i = 0; i < end; i++) depth += { '(': 1, ')': -1 }[front[i]] ?? 0;
-    if (end <= 0 || depth < 0) continue;
-    try {
-      return state.wkt.canonical(front.slice(0, end) + ')'.repeat(depth), { places: places(), whole: true });
-    } catch (error) {
-      if (!isRefusal(error)) throw error;
-    }
+  const { texts, offsets, lines } = piecesOf(text, askedSplit());
+  const how = `${places()}`;
+  const old = state.rows;
+  let [front, back] = [0, 0];
+  if (how === asked) {
+    const most = Math.min(old.length, texts.length);
+    while (front < most && old[front].text === texts[front]) front++;
+    while (back < most - front && old[old.length - 1 - back].text === texts[texts.length - 1 - back]) back++;
   }
-  return null;
-}
-
-/** What the picture shows of a refused row: the part before the refusal, which is found once. Null where there is none. */
-export function frontOf(row) {
-  if (row.front === undefined) {
-    const canonical = readOfRefused(row);
-    row.front = canonical && { canonical, summary: new Summary(canonical) };
+  asked = how;
+  const removed = old.length - front - back;
+  for (let i = front; i < front + removed; i++) byId.delete(old[i].id);
+  if (byId.size === 0) numbers.clear();
+  const added = texts.slice(front, texts.length - back).map((it) => ({ id: ++ids, text: it, spread: it.includes('\n'), answered: false, accepted: false, canonical: '', place: null, repeats: null }));
+  for (const row of added) byId.set(row.id, row);
+  state.rows = [...old.slice(0, front), ...added, ...old.slice(old.length - back)];
+  state.rows.forEach((row, i) => {
+    row.offset = offsets[i];
+    row.line = lines[i];
+  });
+  if (removed > 0 || added.length > 0) {
+    tellDesk({ change: { from: front, removed, added: added.map((row) => [row.id, row.text]), places: places() } });
   }
-  return row.front;
+  state.settled = added.length === 0 && state.rows.every((row) => row.answered);
+  if (state.settled) finish();
 }
 
-/** The line of the field, from 1 on, and the column at which a row is refused. */
+/** Forgets all texts, since a file is read. */
+export function forget() {
+  if (state.rows.length > 0) tellDesk({ change: { from: 0, removed: state.rows.length, added: [], places: places() } });
+  Object.assign(state, { rows: [], chosen: -1, settled: true });
+  byId.clear();
+  numbers.clear();
+}
+
+/** The line of the field, from 1 on, at which a row is refused. */
 export const lineOf = (row) => row.line + row.place.line - 1;
+
+let turns = 0;
+const turning = new Map();
+
+/** What the worker makes of a text in another form. */
+export function turnedText(text, form) {
+  turns++;
+  tellDesk({ turn: { text, form, places: places(), number: turns } });
+  return new Promise((done) => turning.set(turns, done));
+}
+
+export function takeTurned({ number, ...said }) {
+  turning.get(number)?.(said);
+  turning.delete(number);
+}

@@ -1,5 +1,5 @@
 // The canonical text of the chosen row, as WKT and as GeoJSON, and what it holds.
-import { summaryOf } from './answers.js';
+import { geoJSONOf } from '../javascript/src/geojson.js';
 import { $, count, element, number } from './elements.js';
 import { chosenRow, state } from './state.js';
 
@@ -13,7 +13,7 @@ export function answerText() {
   const row = chosenRow();
   if (format() === 'wkt') return { text: row.canonical };
   try {
-    return { text: state.wkt.toGeoJSON(row.canonical, { m: 'drop' }) };
+    return { text: geoJSONOf(row.canonical, 'drop') };
   } catch (error) {
     return { text: '', error: error.message };
   }
@@ -31,22 +31,14 @@ function notes(summary) {
   return said;
 }
 
-const ringsName = (summary) => {
-  if (summary.polygons === 0) return 'Lines';
-  return summary.leaves.every((leaf) => leaf.area || leaf.dots) ? 'Rings' : 'Rings and lines';
-};
+const ringsName = ({ polygons, lines }) => (polygons === 0 ? 'Lines' : lines ? 'Rings and lines' : 'Rings');
 
 /** Bounds as words: `x 0 to 4 · y 0 to 4`. */
 export const boundsInWords = (bounds) =>
   Object.entries(bounds).filter(([, ends]) => ends !== null).map(([name, [low, high]]) => `${name} ${low} to ${high}`).join(' · ');
 
-function boundsOf(summary) {
-  const ends = (range) => (range.empty ? null : [range.lowText, range.highText]);
-  return { x: ends(summary.x), y: ends(summary.y), z: ends(summary.z), m: ends(summary.m) };
-}
-
 function facts(row) {
-  const summary = summaryOf(row);
+  const summary = row.facts;
   const shown = [['Kind', summary.kind], ['Dimension', summary.dimension], ['Points', number(summary.points)]];
   if (summary.polygons > 0) shown.push(['Polygons', number(summary.polygons)]);
   if (summary.rings > 0) shown.push([ringsName(summary), number(summary.rings)]);
@@ -56,9 +48,15 @@ function facts(row) {
   shown.push(['Length', count(row.canonical.length, 'byte')]);
   const nodes = shown.map(([name, value]) => element('div', {}, element('dt', {}, name), element('dd', {}, value)));
   if (summary.points > 0) {
-    nodes.push(element('div', { class: 'wide' }, element('dt', {}, 'Bounds'), element('dd', { class: 'mono' }, boundsInWords(boundsOf(summary)))));
+    nodes.push(element('div', { class: 'wide' }, element('dt', {}, 'Bounds'), element('dd', { class: 'mono' }, boundsInWords(summary.bounds))));
   }
   return nodes;
+}
+
+/** Shows what all lines hold together. */
+export function takeTotals({ geometries, points, bounds }) {
+  $('totals').hidden = geometries < 2;
+  $('totals').textContent = [count(geometries, 'geometry', 'geometries'), count(points, 'point'), boundsInWords(bounds)].filter(Boolean).join(' · ');
 }
 
 export function showCanonical() {
@@ -72,7 +70,7 @@ export function showCanonical() {
   $('out').textContent = error ?? (text.length > SHOWN ? `${text.slice(0, SHOWN)} … and ${count(text.length - SHOWN, 'character')} more` : text);
   $('copy').disabled = Boolean(error);
   $('facts').replaceChildren(...facts(row));
-  const said = notes(summaryOf(row));
+  const said = notes(row.facts);
   $('notes').hidden = said.length === 0;
   $('notes').replaceChildren('Other programs may object:', element('ul', {}, ...said.map((words) => element('li', {}, words))));
 }

@@ -1,48 +1,131 @@
 // The field: the numbers of its lines and the marks under what is refused. They stand in a mirror that lies below the field.
 import { $, element } from './elements.js';
+import { lineOf } from './answers.js';
 import { choose, chosenRow, state } from './state.js';
 
-/** A longer text has no marks: the mirror would hold all of it once more. */
-const MARKED = 200000;
+/** Lines are wrapped in a text of so many lines and characters: then the mirror holds all of it. Else it has what is seen. */
+const WRAPPED = 200, WRAPPED_LENGTH = 40000;
+/** A wrapped text that is longer than this has no marks; nor has a line that is longer than that. */
+const MARKED = 200000, MARKED_LINE = 4000;
+/** The height of a line, and what is above the first, as page.css has them; and how many more lines than are seen stand there. */
+const HEIGHT = 21, ABOVE = 12, MORE = 8;
+/** About the width of a character. */
+const WIDTH = 8.1;
 const MOVES = new Set(['ArrowUp', 'ArrowDown', 'ArrowLeft', 'ArrowRight', 'Home', 'End', 'PageUp', 'PageDown']);
 
 const text = $('text');
 const mirror = $('mirror');
+const editor = $('editor');
+let starts = [0]; // where the lines begin
+let value = '';
+let keys = []; // what each line of the mirror shows
+let many = false;
+/** Where the field is scrolled to, and how high it is: to ask for it would lay out the page at each key. */
+let scrolled = { top: 0, left: 0, height: 0 };
 
-/** One line of the mirror: its text, in which the places that begin in it are marked. */
-function mirrorLine(line, number, places) {
-  const node = element('div', { 'data-n': number });
-  let at = 0;
-  for (const [from, to] of places) {
-    const [start, stop] = [Math.max(from, at), Math.min(to, line.length)];
-    node.append(line.slice(at, start), element('mark', { class: stop > start ? null : 'none' }, line.slice(start, stop)));
-    at = Math.max(start, stop);
+function startsOf(words) {
+  const found = [0];
+  for (let at = words.indexOf('\n'); at >= 0; at = words.indexOf('\n', at + 1)) found.push(at + 1);
+  return found;
+}
+
+const lineText = (i) => value.slice(starts[i], i + 1 < starts.length ? starts[i + 1] - 1 : value.length);
+
+/** The number of the last row that begins at a line, from 1 on, or before it; -1: none does. */
+function rowBefore(line) {
+  let [low, high] = [0, state.rows.length];
+  while (low < high) {
+    const middle = (low + high) >> 1;
+    if (state.rows[middle].line <= line) low = middle + 1;
+    else high = middle;
   }
-  node.append(line.slice(at) || '\u200b');
-  return node;
+  return low - 1;
+}
+
+/** What is marked in a line: where its row is refused, if that is there; and what it is, by a class. */
+function marksOf(i) {
+  const row = state.rows[rowBefore(i + 1)];
+  if (!row || !row.answered) return { name: '', place: null };
+  const at = row.place ? lineOf(row) : 0;
+  if (at === i + 1) return { name: 'bad', place: [row.offset + row.place.start - starts[i], row.offset + row.place.stop - starts[i]] };
+  if (row.line !== i + 1 || state.rows.length === 1) return { name: '', place: null };
+  return { name: !row.accepted ? 'bad' : row.repeats ? 'twice' : 'good', place: null };
+}
+
+/** The text of a line, as far as it has to stand there, and its mark. */
+function contents(line, place) {
+  if (!place || (many && place[0] > MARKED_LINE)) return [many ? '' : line || '\u200b'];
+  const [start, stop] = [place[0], Math.min(place[1], line.length, many ? MARKED_LINE : Infinity)];
+  return [line.slice(0, start), element('mark', { class: stop > start ? null : 'none' }, line.slice(start, stop)), many ? '' : line.slice(Math.max(start, stop)) || '\u200b'];
+}
+
+function lineNode(i) {
+  const { name, place } = marksOf(i);
+  const inside = contents(lineText(i), place);
+  return element('div', { class: name || null, 'data-n': i + 1 }, ...(many ? [element('span', {}, ...inside)] : inside));
+}
+
+/** All lines stand in the mirror; those that changed are put anew. */
+function showWrapped() {
+  if (mirror.childNodes.length !== keys.length) keys = [];
+  if (keys.length === 0) mirror.replaceChildren();
+  const wanted = starts.map((_, i) => {
+    const { name, place } = marksOf(i);
+    return `${name} ${place} ${lineText(i)}`;
+  });
+  while (mirror.childNodes.length > wanted.length) mirror.lastChild.remove();
+  wanted.forEach((key, i) => {
+    if (key === keys[i]) return;
+    if (i < mirror.childNodes.length) mirror.childNodes[i].replaceWith(lineNode(i));
+    else mirror.append(lineNode(i));
+  });
+  keys = wanted;
+}
+
+/** The lines that are seen stand in the mirror, each at its height. */
+function showSeen() {
+  const { top, left, height } = scrolled;
+  const first = Math.max(0, Math.floor((top - ABOVE) / HEIGHT) - MORE);
+  const last = Math.min(starts.length, Math.ceil((top + height) / HEIGHT) + MORE);
+  const nodes = [];
+  for (let i = first; i < last; i++) {
+    const node = lineNode(i);
+    node.style.setProperty('top', `${ABOVE + i * HEIGHT - top}px`);
+    nodes.push(node);
+  }
+  keys = [];
+  mirror.style.setProperty('--left', `${-left}px`);
+  mirror.replaceChildren(...nodes);
+}
+
+function follow() {
+  scrolled = { top: text.scrollTop, left: text.scrollLeft, height: text.clientHeight };
+  if (many) showSeen();
+  else mirror.scrollTop = text.scrollTop;
 }
 
 export function showMarks() {
-  const value = text.value;
+  if (text.value !== value) {
+    value = text.value;
+    starts = startsOf(value);
+  }
+  const wasMany = many;
+  many = starts.length > WRAPPED || (value.length > WRAPPED_LENGTH && starts.length > 1);
+  if (many !== wasMany) {
+    editor.classList.toggle('many', many);
+    keys = [];
+  }
+  if (many) {
+    showSeen();
+    return;
+  }
   if (value === '' || value.length > MARKED) {
+    keys = [];
     mirror.replaceChildren();
     return;
   }
-  const places = state.rows.filter((row) => row.place).map((row) => [row.offset + row.place.start, row.offset + row.place.stop]);
-  const rowAt = new Map(state.split === 'lines' ? state.rows.map((row) => [row.line, row]) : []);
-  let offset = 0;
-  let next = 0;
-  mirror.replaceChildren(...value.split('\n').map((line, i) => {
-    const here = [];
-    while (next < places.length && places[next][0] <= offset + line.length) here.push(places[next++].map((at) => at - offset));
-    const node = mirrorLine(line, i + 1, here);
-    const row = rowAt.get(i + 1);
-    if (here.length > 0 || (row && !row.accepted)) node.className = 'bad';
-    else if (row) node.className = row.repeats ? 'twice' : 'good';
-    offset += line.length + 1;
-    return node;
-  }));
-  mirror.scrollTop = text.scrollTop;
+  showWrapped();
+  mirror.scrollTop = scrolled.top;
 }
 
 /** Selects the place of the chosen row in the field, and scrolls to it. */
@@ -52,7 +135,13 @@ export function goToPlace() {
   const [start, stop] = row.place ? [row.place.start, row.place.stop] : [0, row.text.length];
   text.focus();
   text.setSelectionRange(row.offset + start, row.offset + stop);
-  const mark = mirror.children[row.line - 1 + (row.place ? row.place.line - 1 : 0)];
+  const line = row.place ? lineOf(row) : row.line;
+  if (many) {
+    text.scrollTop = (line - 1) * HEIGHT - 60;
+    text.scrollLeft = Math.max(0, (row.offset + start - starts[line - 1]) * WIDTH - text.clientWidth / 2);
+    return;
+  }
+  const mark = mirror.children[line - 1];
   if (mark) text.scrollTop = mark.offsetTop - 60;
 }
 
@@ -70,7 +159,14 @@ export function goToNextRefusal() {
 /** The row of the line in which the cursor stands, or -1. */
 export function rowAtCursor() {
   const at = text.selectionStart;
-  return state.rows.findIndex((row) => at >= row.offset && at <= row.offset + row.text.length);
+  let [low, high] = [0, state.rows.length];
+  while (low < high) {
+    const middle = (low + high) >> 1;
+    if (state.rows[middle].offset <= at) low = middle + 1;
+    else high = middle;
+  }
+  const row = state.rows[low - 1];
+  return row && at <= row.offset + row.text.length ? low - 1 : -1;
 }
 
 function followCursor() {
@@ -83,7 +179,6 @@ export function startEditor() {
     if (MOVES.has(event.key)) followCursor();
   });
   text.addEventListener('click', followCursor);
-  text.addEventListener('scroll', () => {
-    mirror.scrollTop = text.scrollTop;
-  });
+  text.addEventListener('scroll', follow);
+  new ResizeObserver(follow).observe(text);
 }

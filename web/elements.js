@@ -5,18 +5,15 @@ export { printable };
 
 export const $ = (id) => document.getElementById(id);
 
-function dressed(node, attributes, children) {
+/** An element with attributes and children. An attribute of null or false is left out. */
+export function element(tag, attributes = {}, ...children) {
+  const node = document.createElement(tag);
   for (const [name, value] of Object.entries(attributes)) {
     if (value !== null && value !== undefined && value !== false) node.setAttribute(name, value === true ? '' : value);
   }
   node.append(...children.filter((child) => child !== null && child !== undefined));
   return node;
 }
-
-/** An element with attributes and children. An attribute of null or false is left out. */
-export const element = (tag, attributes = {}, ...children) => dressed(document.createElement(tag), attributes, children);
-
-export const drawing = (tag, attributes = {}, ...children) => dressed(document.createElementNS('http://www.w3.org/2000/svg', tag), attributes, children);
 
 /** A button with words on it. */
 export function button(words, attributes, click) {
@@ -31,7 +28,9 @@ export function colored(node, i) {
   return node;
 }
 
-export const number = (n) => n.toLocaleString('en');
+const format = new Intl.NumberFormat('en');
+
+export const number = (n) => format.format(n);
 
 /** `1 line`, `2 lines`. */
 export const count = (n, one, many = `${one}s`) => `${number(n)} ${n === 1 ? one : many}`;

@@ -1,34 +1,45 @@
 // A file: its answers as the worker finds them.
-import { askedSplit, places } from './answers.js';
+import { askedSplit, forget, places } from './answers.js';
 import { boundsInWords } from './canonical.js';
 import { $, count, element, number, printable, short, withoutCode, wordIn } from './elements.js';
-import { draw, fit } from './picture.js';
-import { looksLikeOne } from './split.js';
+import { giveOf } from './give.js';
+import { leftWords, offerOf } from './offer.js';
+import { fit, showPoints } from './picture.js';
+import { splitOfFront } from './split.js';
 import { show, state } from './state.js';
 import { repeatsInWords, say } from './verdict.js';
+import { started } from './workers.js';
 
 /** So much of a file is looked at to see whether it is one geometry. */
 const FRONT = 64 << 10;
+/** For each part of a file of that size there is one worker more, up to so many. */
+const PER_WORKER = 16 << 20, MOST_WORKERS = 4;
 
 const WITHOUT_FILE = $('text').placeholder;
 
 // The number of what is under way, one thing at a time: an answer that comes late belongs to another.
 let job = 0;
 let worker = null;
+let helpers = [];
 let saved = null; // the address of the canonical lines
 let name = '';
-let opened = null; // the file, and how many others were dropped with it
-
-function start() {
-  const address = URL.createObjectURL(new Blob([$('core').textContent, '\n', $('worker').textContent], { type: 'text/javascript' }));
-  const started = new Worker(address);
-  URL.revokeObjectURL(address);
-  return started;
-}
+let opened = null; // the file, how many others were dropped with it, and the form that it is turned from
+let drawn = false; // whether points of the file are drawn
 
 function stopWorker() {
-  worker?.terminate();
+  for (const it of [worker, ...helpers]) it?.terminate();
   worker = null;
+  helpers = [];
+}
+
+/** Starts a worker, and those that help it where the file is large. */
+function start(file, asked) {
+  const most = Math.min(MOST_WORKERS, Math.max(1, (navigator.hardwareConcurrency || 2) - 1));
+  const n = asked.split === 'one' || asked.form ? 1 : Math.min(most, 1 + Math.floor(file.size / PER_WORKER));
+  const channels = n > 1 ? Array.from({ length: n }, () => new MessageChannel()) : [];
+  helpers = channels.map(({ port1 }) => started('helper', { port: port1, places: places() }, [port1]));
+  const ports = channels.map(({ port2 }) => port2);
+  return started('file', { file, places: places(), ports, ...asked }, ports);
 }
 
 /** Begins something that ends what is under way. What it returns says whether it is still that. */
@@ -41,44 +52,58 @@ export function begin() {
 /** Forgets the file. */
 export function closeFile() {
   const current = begin();
+  if (!state.file) return current;
   if (saved) URL.revokeObjectURL(saved);
   saved = null;
   opened = null;
-  state.points = null;
+  state.file = false;
+  showPoints(null, 0);
+  giveOf(null);
   $('file-card').hidden = true;
   document.body.classList.remove('has-file');
   $('text').placeholder = WITHOUT_FILE;
   return current;
 }
 
-/** Reads a file, of any size. `more` others were dropped with it. */
-export async function readFile(file, more = 0) {
-  const current = closeFile();
-  Object.assign(state, { rows: [], chosen: -1, points: new Float64Array(0), pointsOfFile: 0 });
-  opened = { file, more };
-  name = printable(file.name);
+/** What is shown of a file before anything of it is read. */
+function showOpened() {
   document.body.classList.add('has-file');
   $('text').placeholder = 'Type or paste here to close the file';
-  for (const id of ['caret', 'hint', 'message', 'save', 'next']) $(id).hidden = true;
+  for (const id of ['caret', 'hint', 'message', 'save', 'next', 'offer']) $(id).hidden = true;
   $('file-card').hidden = $('stop').hidden = false;
   $('text').setAttribute('aria-invalid', 'false');
+  $('verdict').setAttribute('aria-busy', 'false');
   $('h-file').textContent = name;
   const lists = element('div', { class: 'file', id: 'lists' });
   lists.style.setProperty('padding', '0');
   $('file-out').replaceChildren(element('progress', { max: 1, value: 0, 'aria-label': 'How much of the file is read', id: 'bar' }),
     element('p', { id: 'told' }), element('div', { class: 'meter', id: 'meter' }), lists);
+}
+
+const HOW = { one: 'The whole file is one text.', lines: 'Each line is a text.', pieces: 'A text ends where its parentheses close.' };
+
+/** Reads a file, of any size. `more` others were dropped with it; `form` is what it is turned from. */
+export async function readFile(file, more = 0, form = null) {
+  const current = closeFile();
+  forget();
+  state.file = true;
+  drawn = false;
+  opened = { file, more, form };
+  name = printable(file.name);
+  showOpened();
+  showPoints(new Float64Array(0), 0);
+  giveOf({ lines: null });
   show();
   fit();
   const asked = askedSplit();
   try {
-    const whole = asked === 'one' || (asked === 'auto' && looksLikeOne(await file.slice(0, FRONT).text(), file.size > FRONT));
+    const split = form ? 'lines' : asked === 'auto' ? splitOfFront(await file.slice(0, FRONT).text(), file.size > FRONT) : asked;
     if (!current()) return;
     const others = more > 0 ? ` ${count(more, 'other file')} that came with it ${more === 1 ? 'is' : 'are'} not read.` : '';
-    say('idle', `Reading ${short(name, 60)}`, (whole ? 'The whole file is one text.' : 'Each line is a text.') + others);
-    worker = start();
+    say('idle', `Reading ${short(name, 60)}`, HOW[split] + others);
+    worker = start(file, { split, form: form ?? (split === 'pieces' ? { form: 'pieces' } : null) });
     worker.onmessage = ({ data }) => current() && (data.failed ? fail(data.failed) : take(data));
-    worker.onerror = (event) => current() && fail(event.message || 'The worker stopped.');
-    worker.postMessage({ module: state.module, file, places: places(), whole });
+    for (const it of [worker, ...helpers]) it.onerror = (event) => current() && fail(event.message || 'The worker stopped.');
   } catch (error) {
     if (current()) fail(error.message);
   }
@@ -87,7 +112,7 @@ export async function readFile(file, more = 0) {
 /** Reads the file once more, as it is asked for now. False: none is open. */
 export function rereadFile() {
   if (!opened) return false;
-  readFile(opened.file, opened.more);
+  readFile(opened.file, opened.more, opened.form);
   return true;
 }
 
@@ -108,18 +133,16 @@ function take(data) {
   const rate = data.done / 1e6 / Math.max(data.seconds, 1e-3);
   $('told').textContent = `${megabytes(data.done)} of ${megabytes(data.size)} MB in ${data.seconds.toFixed(1)} s, ${rate < 10 ? rate.toFixed(1) : number(Math.round(rate))} MB/s`;
   $('meter').replaceChildren(cell('lines', data.lines), cell('accepted', data.accepted), cell('refused', data.refused, 'bad-text'),
-    cell('repeats', data.repeats, 'note-text'), cell('points', data.points), ...(data.blank > 0 ? [cell('blank', data.blank)] : []));
+    cell('repeats', data.repeats, 'note-text'), cell('points', data.lists?.points ?? 0), ...(data.blank > 0 ? [cell('blank', data.blank)] : []));
   if (data.lists) takeLists(data, data.lists);
   if (data.last) finish(data);
 }
 
 function takeLists(data, lists) {
   $('lists').replaceChildren(...kindsAndBounds(lists), ...reasons(data, lists), ...refusals(data, lists), ...repeats(data, lists));
-  const first = state.points.length === 0;
-  state.points = lists.sample;
-  state.pointsOfFile = data.points;
-  if (first || data.last) fit();
-  else draw();
+  showPoints(lists.sample, lists.points);
+  if (!drawn || data.last) fit();
+  drawn = lists.points > 0;
 }
 
 function kindsAndBounds({ kinds, bounds }) {
@@ -163,12 +186,21 @@ function finish(data) {
   stopWorker();
   $('stop').hidden = true;
   const lines = data.lines - data.blank;
+  others(data);
   const stopped = data.stopped ? 'Stopped: ' : '';
   if (lines === 0) say('idle', `${short(name, 60)} has no text`);
   else if (lines === 1 && data.refused === 1) say('bad', 'The text is refused');
   else if (data.refused > 0) say('bad', `${stopped}${number(data.refused)} of ${count(lines, 'line')} refused`, repeatsInWords(data.repeats));
   else say('good', `${stopped}${lines === 1 ? 'The text is' : `All ${count(lines, 'line')}`} accepted`, lines === 1 ? '' : repeatsInWords(data.repeats));
   offer(data);
+}
+
+/** Says what else the file is, and what had no text. */
+function others({ forms, left, numbers, saved: lines, whys, refused }) {
+  const { file, more } = opened;
+  if (forms.length > 0) $('lists').prepend(element('div', { class: 'offer' }, ...offerOf(forms, (form) => readFile(file, more, form))));
+  if (left.length > 0) $('lists').append(element('p', {}, leftWords(left)));
+  giveOf({ name: file.name.replace(/\.[^.]*$/, ''), lines, numbers, whys, refused });
 }
 
 /** Offers the canonical lines to be saved. */

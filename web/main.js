@@ -1,13 +1,15 @@
 // The page: starts the module, and joins the parts.
-import { load } from '../javascript/src/index.js';
 import { unpacked } from '../javascript/src/load.js';
-import { answer, askedSplit, places, setSplit } from './answers.js';
-import { answerText, showCanonical } from './canonical.js';
+import { answer, askedSplit, places, setSplit, startDesk, takeTurned } from './answers.js';
+import { answerText, showCanonical, takeTotals } from './canonical.js';
+import { copy } from './copy.js';
 import { goToNextRefusal, goToPlace, rowAtCursor, showMarks, startEditor } from './editor.js';
 import { $, button, element } from './elements.js';
 import { EXAMPLES } from './examples.js';
 import { begin, closeFile, readFile, rereadFile, startFiles } from './file.js';
-import { draw, fit, forgetSingle, startPicture } from './picture.js';
+import { showGive, startGiving } from './give.js';
+import { showOffer } from './offer.js';
+import { canvasToDraw, draw, forgetSingle, startPicture, takeDrawn, takePicked, takeReadout } from './picture.js';
 import { showRows, startRows } from './rows.js';
 import { chosenRow, onShow, show, state } from './state.js';
 import { say, showVerdict } from './verdict.js';
@@ -18,21 +20,42 @@ const SMALL_FILE = 256 << 10, FEW_LINES = 2000, TYPED = 2 << 20;
 const IN_ADDRESS = 4000, LINKED = 50000;
 /** The most decimal places that a number may have. */
 const MOST_PLACES = 18;
-/** How long the page waits for more typing, where the text is long. */
-const SLOW = 20000, WAIT = 150;
+/** After so many milliseconds without an answer the page says that it is at work. */
+const SLOW = 400;
 
 const text = $('text');
 
+let atCursor = false; // whether the row at the cursor is shown
+let slow = 0;
+
 /** Answers the text, and shows the row at the cursor where that is asked for, else the first that is refused. */
-function analyse(atCursor = false) {
+function analyse(here = false) {
   if (text.value.length > TYPED) {
     readFile(new File([text.value], 'The text'));
     return;
   }
+  atCursor = here;
+  $('verdict').setAttribute('aria-busy', 'true');
+  clearTimeout(slow);
+  slow = setTimeout(() => state.settled || say('idle', 'Checking', `${state.rows.length.toLocaleString('en')} texts`), SLOW);
   answer(text.value);
+  if (!state.settled) marksSoon();
+  showOffer(text.value, put);
+}
+
+/** Shows the marks before the next frame, where they aren't shown with the answers. */
+function marksSoon() {
+  requestAnimationFrame(() => state.settled || showMarks());
+}
+
+/** All is answered: shows it. */
+function settled() {
+  clearTimeout(slow);
+  const refused = state.rows.findIndex((row) => !row.accepted);
+  state.chosen = refused >= 0 ? refused : Math.min(Math.max(state.chosen, 0), state.rows.length - 1);
   if (atCursor && rowAtCursor() >= 0) state.chosen = rowAtCursor();
   show();
-  fit();
+  $('verdict').setAttribute('aria-busy', 'false');
 }
 
 // ---- Links. What stands behind `#` is never sent.
@@ -61,6 +84,7 @@ function keepInAddress() {
   clearTimeout(addressTimer);
   addressTimer = setTimeout(() => {
     const kept = text.value !== '' && text.value.length <= IN_ADDRESS;
+    if (!kept && location.hash === '') return;
     try {
       history.replaceState(null, '', kept ? link() : location.pathname + location.search);
     } catch {
@@ -69,10 +93,10 @@ function keepInAddress() {
   }, 400);
 }
 
-function changed(atCursor = false) {
+function changed(here = false) {
   closeFile();
   forgetSingle();
-  analyse(atCursor);
+  analyse(here);
   keepInAddress();
 }
 
@@ -103,31 +127,6 @@ function put(value) {
 }
 
 // ---- Copying.
-async function copied(words) {
-  try {
-    await navigator.clipboard.writeText(words);
-    return true;
-  } catch {
-    const area = element('textarea', { class: 'quiet' });
-    area.value = words;
-    document.body.append(area);
-    area.select();
-    const done = document.execCommand('copy');
-    area.remove();
-    return done;
-  }
-}
-
-async function copy(words, button) {
-  const before = button.textContent;
-  const done = await copied(words);
-  button.focus();
-  button.textContent = done ? 'Copied' : 'Not copied';
-  setTimeout(() => {
-    button.textContent = before;
-  }, 1200);
-}
-
 function startCopying() {
   $('copy').addEventListener('click', () => copy(answerText().text, $('copy')));
   $('copy-link').addEventListener('click', () => {
@@ -216,14 +215,7 @@ function startExamples() {
 
 function startControls() {
   text.addEventListener('input', (event) => {
-    if (replacing) return;
-    const typed = /^(insert(?!From)|delete)/.test(event.inputType);
-    if (text.value.length < SLOW) {
-      changed(typed);
-      return;
-    }
-    const current = begin();
-    setTimeout(() => current() && changed(typed), WAIT);
+    if (!replacing) changed(/^(insert(?!From)|delete)/.test(event.inputType));
   });
   for (const control of [$('places'), ...document.querySelectorAll('input[name=split]')]) {
     control.addEventListener('change', () => rereadFile() || changed());
@@ -275,18 +267,20 @@ async function start() {
   try {
     const begun = performance.now();
     state.module = await unpacked($('module').textContent.trim());
-    state.wkt = await load(state.module);
     $('engine').textContent = `The module was ready in ${Math.round(performance.now() - begun)} ms.`;
   } catch (error) {
     say('bad', 'This browser can’t run the page', `It needs WebAssembly and DecompressionStream: Chrome 92, Firefox 113, Safari 16.4 or later. ${error}`);
     return;
   }
-  for (const listener of [showVerdict, showCanonical, showRows, showMarks, showLinkButton, draw]) onShow(listener);
+  startDesk(canvasToDraw(), settled, { drawn: takeDrawn, readout: takeReadout, picked: takePicked, turned: takeTurned, totals: takeTotals,
+    failed: (words) => say('bad', 'Something went wrong in the page', words) });
+  for (const listener of [showVerdict, showCanonical, showRows, showMarks, showLinkButton, showGive, draw]) onShow(listener);
   startEditor();
   startPicture();
   startRows(goToPlace);
   startFiles();
   startCopying();
+  startGiving();
   startControls();
   startExamples();
   startKeys();

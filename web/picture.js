@@ -1,358 +1,170 @@
-// The picture: to scale, and y up. It moves and zooms.
-import { frontOf, summaryOf } from './answers.js';
-import { $, colored, count, drawing, number } from './elements.js';
+// The picture, as the page has it: a worker draws it and knows what is where. Here are the pointer, the keys and the words.
+import { tellDesk } from './answers.js';
+import { $, count, number } from './elements.js';
 import { choose, state } from './state.js';
 
-const PAD = { left: 12, right: 12, top: 12, bottom: 26 };
-/** More points than this aren't drawn, more than that have no dots, and the pointer looks at no more than the last. */
-const DRAWN = 400000, DOTTED = 300, NEAR = 50000;
-/** Of so many refused texts the part before the refusal is drawn. */
-const FRONTS = 200;
-/** How near a point has to be to the pointer, in pixels. */
-const REACH = 9;
-
-const svg = $('svg');
-/** The middle of the picture in the geometry's units, and pixels for a unit; null where there is nothing to draw. */
-let view = null;
+const canvas = $('canvas');
 /** Whether the chosen row stands out, since the user chose it in the picture. */
 let single = false;
+/** Whether the pointer's place is asked for, and where it is since. */
+let hovering = false, next;
+let told = {};
+let pointsOfFile = 0;
 
-const size = () => ({ w: $('picture').clientWidth, h: $('picture').clientHeight });
-const middle = ({ w, h }) => ({ cx: (w + PAD.left - PAD.right) / 2, cy: (h + PAD.top - PAD.bottom) / 2 });
+const ask = (asked) => tellDesk({ picture: asked });
 
-/** What is drawn: each accepted row, and the front of a refused one, with its place among the rows. */
-function shapes() {
-  let fronts = 0;
-  return state.rows.flatMap((row, i) => {
-    if (row.accepted) return [{ row, i, canonical: row.canonical, summary: summaryOf(row) }];
-    if (i !== state.chosen && fronts++ >= FRONTS) return [];
-    const front = frontOf(row);
-    return front ? [{ row, i, ...front }] : [];
-  });
+export const fit = () => ask({ fit: true });
+
+/** The chosen row lies on the others. */
+export const draw = () => ask({ chosen: { id: state.rows[state.chosen]?.id ?? -1, single } });
+
+/** Shows some points of a file, x, y, x, y .., of so many; null: no file is open. */
+export function showPoints(xy, all) {
+  pointsOfFile = all;
+  ask({ points: xy && { xy } });
 }
 
-const pointsIn = (drawn) => drawn.reduce((n, { summary }) => n + summary.points, 0);
-
-function bounds() {
-  const b = { x0: Infinity, y0: Infinity, x1: -Infinity, y1: -Infinity };
-  const take = (x, y) => Object.assign(b, { x0: Math.min(b.x0, x), y0: Math.min(b.y0, y), x1: Math.max(b.x1, x), y1: Math.max(b.y1, y) });
-  const { points } = state;
-  for (let i = 0; points && i < points.length; i += 2) take(points[i], points[i + 1]);
-  for (const { summary } of shapes()) {
-    const { x, y } = summary;
-    if (!x.empty) {
-      take(x.low, y.low);
-      take(x.high, y.high);
-    }
-  }
-  return b.x0 > b.x1 ? null : b;
+function sendColors() {
+  const style = getComputedStyle(document.documentElement);
+  const color = (name) => style.getPropertyValue(`--${name}`).trim();
+  ask({ colors: { shapes: Array.from({ length: 8 }, (_, i) => color(`c${i}`)), bad: color('bad'), grid: color('grid'), axis: color('axis'),
+    faint: color('faint'), card: color('card'), ink: color('ink') } });
 }
 
-/** Shows all of it. */
-export function fit() {
-  const b = bounds();
-  if (!b) {
-    view = null;
-  } else {
-    let [dx, dy] = [b.x1 - b.x0, b.y1 - b.y0];
-    // A single point, or points that doubles hardly tell apart, get some room around them.
-    const least = Math.max(1, ...[b.x0, b.x1, b.y0, b.y1].map(Math.abs)) * 1e-12;
-    if (dx <= least && dy <= least) dx = dy = Math.max(1, least * 1e6);
-    const { w, h } = size();
-    const part = 0.86;
-    const s = Math.min((w - PAD.left - PAD.right) * part / (dx || dy * 1e-9), (h - PAD.top - PAD.bottom) * part / (dy || dx * 1e-9));
-    view = { x: (b.x0 + b.x1) / 2, y: (b.y0 + b.y1) / 2, s };
-  }
-  draw();
-}
-
-let frame = 0;
-
-/** Draws before the next frame. */
-export function draw() {
-  frame ||= requestAnimationFrame(() => {
-    frame = 0;
-    paint();
-  });
-}
-
-/** 1, 2 or 5 times a power of ten, and at least `raw`. */
-function niceStep(raw) {
-  const power = 10 ** Math.floor(Math.log10(raw));
-  return power * [1, 2, 5, 10].find((m) => raw <= m * power * (1 + 1e-9));
-}
-
-/** A number with as many digits as steps of this size need. */
-function label(value, step) {
-  if (Math.abs(value) < step / 1e6) return '0';
-  if (Math.abs(value) < 1e9 && step >= 1e-9) return value.toFixed(Math.max(0, -Math.floor(Math.log10(step) + 1e-9)));
-  const digits = Math.ceil(Math.log10(Math.abs(value) / step)) + 1;
-  return String(Number(value.toPrecision(Math.min(15, Math.max(3, digits)))));
-}
-
-/** From the geometry's units to pixels. Far outside the picture it doesn't matter how far. */
-function scale() {
-  const { cx, cy } = middle(size());
-  const clamp = (v) => Math.max(-1e5, Math.min(1e5, v));
-  return { X: (x) => clamp(cx + (x - view.x) * view.s), Y: (y) => clamp(cy - (y - view.y) * view.s) };
-}
-
-function grid({ X, Y }) {
-  const { w, h } = size();
-  const { cx, cy } = middle({ w, h });
-  const step = niceStep(90 / view.s);
-  const node = drawing('g', { 'aria-hidden': 'true' });
-  const steps = (low, high) => {
-    const [from, to] = [Math.ceil(low / step), Math.floor(high / step)];
-    return Array.from({ length: Math.min(200, Math.max(0, to - from + 1)) }, (_, i) => from + i);
-  };
-  for (const i of steps(view.x - cx / view.s, view.x + (w - cx) / view.s)) {
-    const x = X(i * step);
-    node.append(drawing('line', { class: i === 0 ? 'zero' : 'gridline', x1: x, x2: x, y1: 0, y2: h }));
-    if (x > 40 && x < w - 20) node.append(drawing('text', { class: 'tick', x, y: h - 8, 'text-anchor': 'middle' }, label(i * step, step)));
-  }
-  for (const i of steps(view.y - (h - cy) / view.s, view.y + cy / view.s)) {
-    const y = Y(i * step);
-    node.append(drawing('line', { class: i === 0 ? 'zero' : 'gridline', x1: 0, x2: w, y1: y, y2: y }));
-    if (y < h - 30 && y > 14) node.append(drawing('text', { class: 'tick', x: 6, y: y - 4 }, label(i * step, step)));
-  }
-  return node;
-}
-
-/** Draws the geometries; `drawn` counts their points. */
-class Pen {
-  drawn = 0;
-
-  constructor({ X, Y }) {
-    Object.assign(this, { X, Y });
-  }
-
-  /** A path through points x, y, x, y ..; a point on the pixel of the one before is left out. */
-  path(xy, end) {
-    let d = '';
-    let [px, py] = [NaN, NaN];
-    for (let i = 0; i < xy.length; i += 2) {
-      const [x, y] = [this.X(xy[i]), this.Y(xy[i + 1])];
-      if (i > 0 && i + 2 < xy.length && Math.abs(x - px) < 0.35 && Math.abs(y - py) < 0.35) continue;
-      d += `${i === 0 ? 'M' : 'L'}${x.toFixed(2)} ${y.toFixed(2)}`;
-      [px, py] = [x, y];
-      this.drawn++;
-    }
-    return d + end;
-  }
-
-  dots(xy) {
-    let d = '';
-    for (let i = 0; i < xy.length; i += 2) d += `M${this.X(xy[i]).toFixed(2)} ${this.Y(xy[i + 1]).toFixed(2)}h0`;
-    this.drawn += xy.length / 2;
-    return d;
-  }
-
-  /** The paths of a geometry that is no collection. */
-  leaf({ dots, area, rings, ends }, dotted) {
-    const made = [];
-    const add = (name, d) => d && made.push(drawing('path', { class: name, d, 'fill-rule': name === 'area' ? 'evenodd' : null }));
-    if (dots) {
-      add('dot', rings.map((ring) => this.dots(ring)).join(''));
-      return made;
-    }
-    let from = 0;
-    for (const end of area ? ends : []) {
-      add('area', rings.slice(from, end).map((ring) => this.path(ring, 'Z')).join(''));
-      from = end;
-    }
-    add('edge', rings.map((ring) => this.path(ring, '')).join(''));
-    if (dotted) add('vertex', rings.map((ring) => this.dots(ring)).join(''));
-    return made;
-  }
-}
-
-/** A cross at the last point before a refusal. */
-function lastPoint({ X, Y }, { leaves }) {
-  const ring = leaves.at(-1)?.rings.at(-1);
-  if (!ring) return null;
-  const [x, y] = [X(ring.at(-2)), Y(ring.at(-1))];
-  return drawing('path', { class: 'stop', d: `M${x - 6} ${y - 6}l12 12m0-12l-12 12` });
-}
-
-function rowsDrawn(to) {
-  const drawn = shapes();
-  const pen = new Pen(to);
-  const dotted = pointsIn(drawn) <= DOTTED;
-  const nodes = [];
-  for (const { row, i, summary } of drawn) {
-    if (pen.drawn > DRAWN) break;
-    const kind = `g${i === state.chosen ? ' on' : ''}${row.accepted ? '' : ' refused'}`;
-    const node = drawing('g', { class: kind, 'data-i': i }, ...summary.leaves.flatMap((leaf) => pen.leaf(leaf, dotted)));
-    if (!row.accepted) node.append(...[lastPoint(to, summary)].filter(Boolean));
-    nodes.push(colored(node, i));
-  }
-  // The chosen one lies on the others.
-  return nodes.sort((a, b) => a.classList.contains('on') - b.classList.contains('on'));
-}
-
-function sampleDrawn(to) {
-  const { points } = state;
-  return colored(drawing('g', { class: 'g' }, drawing('path', { class: 'sample', d: new Pen(to).dots(points) })), 0);
-}
+const shapeWords = ({ refused, kind, points }) => `${refused ? 'the part before the refusal: ' : ''}${kind} of ${count(points, 'point')}`;
 
 /** Words for those who don't see the picture. */
-function described() {
-  if (state.points?.length) return `Picture of ${count(state.points.length / 2, 'point')} of the file`;
-  const kinds = shapes().map(({ row, summary }) => `${row.accepted ? '' : 'the part before the refusal: '}${summary.kind} of ${count(summary.points, 'point')}`);
-  return kinds.length > 3 ? `Picture of ${count(kinds.length, 'geometry', 'geometries')}` : `Picture of ${kinds.join(', ')}`;
+function described({ seen, sample, shapes, first }) {
+  if (!seen) return 'No picture';
+  if (sample !== null) return `Picture of ${count(sample, 'point')} of the file`;
+  return shapes > 3 ? `Picture of ${count(shapes, 'geometry', 'geometries')}` : `Picture of ${first.map(shapeWords).join(', ')}`;
 }
 
-function emptyWords() {
-  if (state.points) return 'No points so far';
+function emptyWords({ sample, shapes }) {
+  if (sample !== null) return 'No points so far';
   if (state.rows.length === 0) return 'The picture appears here';
-  return shapes().length > 0 ? 'There are no points to draw' : 'No picture: no point was read before the refusal';
-}
-
-function paint() {
-  const { w, h } = size();
-  svg.setAttribute('viewBox', `0 0 ${w} ${h}`);
-  $('empty').textContent = view ? '' : emptyWords();
-  for (const id of ['fit', 'in', 'out-zoom']) $(id).disabled = !view;
-  svg.setAttribute('aria-label', view ? described() : 'No picture');
-  svg.classList.toggle('some', single && state.rows.length > 1);
-  if (!view) {
-    $('drawn').textContent = '';
-    svg.replaceChildren();
-    return;
-  }
-  const to = scale();
-  svg.replaceChildren(grid(to), ...(state.points ? [sampleDrawn(to)] : []), ...rowsDrawn(to));
-  $('drawn').textContent = drawnWords();
+  return shapes > 0 ? 'There are no points to draw' : 'No picture: no point was read before the refusal';
 }
 
 /** What the picture shows, in words beside its heading. */
-function drawnWords() {
-  if (state.points !== null) {
-    const drawn = state.points.length / 2;
-    return drawn < state.pointsOfFile ? `${number(drawn)} of ${count(state.pointsOfFile, 'point')}, to scale` : 'points only, to scale';
-  }
-  return svg.querySelector('.refused') ? 'to scale, y up; dashed: the part before a refusal' : 'to scale, y up';
+function drawnWords({ seen, sample, dashed, dotted }) {
+  if (!seen) return '';
+  if (sample !== null) return sample < pointsOfFile ? `${number(sample)} of ${count(pointsOfFile, 'point')}, to scale` : 'points only, to scale';
+  return ['to scale, y up', dotted && '○ first, □ last vertex', dashed && 'dashed: before a refusal'].filter(Boolean).join('; ');
 }
 
-/** Zooms around a place of the picture, in pixels. */
-function zoom(factor, px, py) {
-  if (!view) return;
-  const { cx, cy } = middle(size());
-  const [x, y] = [view.x + (px - cx) / view.s, view.y - (py - cy) / view.s];
-  view.s = Math.min(1e15, Math.max(1e-30, view.s * factor));
-  view.x = x - (px - cx) / view.s;
-  view.y = y + (py - cy) / view.s;
-  draw();
+/** Takes what the worker says of what it has drawn. */
+export function takeDrawn(drawn) {
+  told = drawn;
+  $('empty').textContent = told.seen ? '' : emptyWords(told);
+  for (const id of ['fit', 'in', 'out-zoom']) $(id).disabled = !told.seen;
+  canvas.setAttribute('aria-label', described(told));
+  canvas.dataset.painted = told.painted;
+  canvas.dataset.labels = JSON.stringify(told.labels ?? []);
+  $('drawn').textContent = drawnWords(told);
 }
 
-function zoomMiddle(factor) {
-  const { w, h } = size();
-  zoom(factor, w / 2, h / 2);
+const digits = (n) => Number(n.toPrecision(6)).toLocaleString('en', { maximumSignificantDigits: 6 });
+
+/** What is under the pointer, in words: the digits of a vertex, its number, and the vertices and the length of its ring. */
+function readoutWords({ id, digits: point, what, ring, rings, vertex, vertices, length, points }) {
+  const row = state.rows.length > 1 ? state.rows.find((it) => it.id === id) : null;
+  const said = [point];
+  if (what) said.push(`${vertex ? `vertex ${number(vertex)} of ` : ''}${count(vertices, 'vertex', 'vertices')}${vertex ? '' : ` in the ${what}`}`);
+  if (what) said.push(`${what}${rings > 1 ? ` ${number(ring)} of ${number(rings)}` : ''}: length ${digits(length)}`);
+  if (points !== undefined) said.push(count(points, 'point'));
+  if (row) said.push(`line ${number(row.line)}`);
+  return said.filter(Boolean).join(' · ');
 }
 
-function move(dx, dy) {
-  if (!view) return;
-  view.x += dx / view.s;
-  view.y += dy / view.s;
-  draw();
-}
-
-/** The point that is nearest to a place, if it is near enough. */
-function nearest(x, y) {
-  let best = REACH / view.s;
-  let seen = 0;
-  let found = null;
-  for (const { row, canonical, summary } of shapes()) {
-    if ((seen += summary.points) > NEAR) break;
-    for (const { rings, places } of summary.leaves) {
-      rings.forEach((xy, k) => {
-        for (let i = 0; i < xy.length; i += 2) {
-          const far = Math.hypot(xy[i] - x, xy[i + 1] - y);
-          if (far < best) {
-            best = far;
-            found = { row, canonical, at: places[k][i / 2], x: xy[i], y: xy[i + 1] };
-          }
-        }
-      });
-    }
-  }
-  return found;
-}
-
-/** Says the digits of the point under the pointer, else the place of the pointer. */
-function readOut(event) {
-  if (!view) return;
-  const { left, top } = svg.getBoundingClientRect();
-  const { cx, cy } = middle(size());
-  const [x, y] = [view.x + (event.clientX - left - cx) / view.s, view.y - (event.clientY - top - cy) / view.s];
-  const found = nearest(x, y);
-  svg.querySelector('.near')?.remove();
-  if (!found) {
-    const step = niceStep(2 / view.s);
-    $('readout').textContent = `${label(x, step)} ${label(y, step)}`;
+/** Takes what lies where the pointer is, or where the keys have gone. */
+export function takeReadout(said) {
+  hovering = false;
+  if (next !== undefined) {
+    hover(next);
     return;
   }
-  const digits = found.canonical.slice(found.at, found.at + 160).split(/[,)]/, 1)[0];
-  $('readout').textContent = digits + (state.rows.length > 1 ? `  line ${found.row.line}` : '');
-  const { X, Y } = scale();
-  svg.append(drawing('circle', { class: 'near', cx: X(found.x), cy: Y(found.y), r: 6 }));
+  const words = said.id === undefined ? '' : readoutWords(said);
+  $('readout').textContent = words || said.place || '';
+  if (said.spoken) $('vertex').textContent = words;
 }
+
+export function takePicked(id) {
+  const i = state.rows.findIndex((row) => row.id === id);
+  if (i < 0 || state.rows.length < 2) return;
+  single = true;
+  choose(i);
+}
+
+function hover(place) {
+  next = hovering ? place : undefined;
+  if (hovering) return;
+  hovering = true;
+  ask({ hover: place });
+}
+
+const zoom = (factor) => ask({ zoom: [factor] });
+const move = (dx, dy) => ask({ move: [dx, dy] });
 
 const KEYS = {
   ArrowLeft: () => move(-40, 0), ArrowRight: () => move(40, 0), ArrowUp: () => move(0, 40), ArrowDown: () => move(0, -40),
-  '+': () => zoomMiddle(1.4), '=': () => zoomMiddle(1.4), '-': () => zoomMiddle(1 / 1.4), 0: fit,
+  '+': () => zoom(1.4), '=': () => zoom(1.4), '-': () => zoom(1 / 1.4), 0: fit, '.': () => ask({ step: 1 }), ',': () => ask({ step: -1 }),
 };
+
+function placeOf(event) {
+  const { left, top } = canvas.getBoundingClientRect();
+  return [event.clientX - left, event.clientY - top];
+}
 
 function startPointer() {
   let held = null;
-  svg.addEventListener('wheel', (event) => {
+  let dragged = false;
+  canvas.addEventListener('wheel', (event) => {
     event.preventDefault();
-    const { left, top } = svg.getBoundingClientRect();
-    zoom(2 ** (-event.deltaY / 300), event.clientX - left, event.clientY - top);
+    ask({ zoom: [2 ** (-event.deltaY / 300), ...placeOf(event)] });
   }, { passive: false });
-  svg.addEventListener('pointerdown', (event) => {
+  canvas.addEventListener('pointerdown', (event) => {
     held = { x: event.clientX, y: event.clientY, moved: 0 };
+    dragged = false;
   });
   addEventListener('pointerup', () => {
     held = null;
   });
-  svg.addEventListener('pointermove', (event) => {
+  canvas.addEventListener('pointermove', (event) => {
     if (!held) {
-      readOut(event);
+      hover(placeOf(event));
       return;
     }
-    if (held.moved === 0) svg.setPointerCapture(event.pointerId);
+    if (held.moved === 0) canvas.setPointerCapture(event.pointerId);
+    dragged = true;
     move(held.x - event.clientX, event.clientY - held.y);
     held = { x: event.clientX, y: event.clientY, moved: held.moved + 1 };
   });
-  svg.addEventListener('pointerleave', () => {
-    $('readout').textContent = '';
-    svg.querySelector('.near')?.remove();
-  });
+  canvas.addEventListener('pointerleave', () => hover(null));
+  canvas.addEventListener('click', (event) => dragged || ask({ pick: placeOf(event) }));
 }
+
+/** The canvas, as the worker takes it. */
+export const canvasToDraw = () => canvas.transferControlToOffscreen();
 
 export function startPicture() {
   startPointer();
-  svg.addEventListener('click', (event) => {
-    const node = event.target.closest('.g[data-i]');
-    if (!node || state.rows.length < 2) return;
-    single = true;
-    choose(Number(node.dataset.i));
-  });
-  svg.addEventListener('keydown', (event) => {
+  canvas.addEventListener('keydown', (event) => {
     const act = KEYS[event.key];
     if (!act || event.altKey || event.ctrlKey || event.metaKey) return;
     act();
     event.preventDefault();
   });
-  $('in').addEventListener('click', () => zoomMiddle(1.5));
-  $('out-zoom').addEventListener('click', () => zoomMiddle(1 / 1.5));
+  $('in').addEventListener('click', () => zoom(1.5));
+  $('out-zoom').addEventListener('click', () => zoom(1 / 1.5));
   $('fit').addEventListener('click', () => {
     single = false;
+    draw();
     fit();
   });
-  new ResizeObserver(fit).observe($('picture'));
+  sendColors();
+  new MutationObserver(sendColors).observe(document.documentElement, { attributes: true, attributeFilter: ['data-theme'] });
+  new ResizeObserver(() => ask({ size: { w: $('picture').clientWidth, h: $('picture').clientHeight, ratio: devicePixelRatio } })).observe($('picture'));
 }
 
 /** No row stands out any more. */

@@ -31,11 +31,11 @@ export class Range {
   }
 
   add(value, text) {
-    if (value < this.low || (value === this.low && compare(text, this.lowText) < 0)) {
+    if (value < this.low || (value === this.low && text !== this.lowText && compare(text, this.lowText) < 0)) {
       this.low = value;
       this.lowText = text;
     }
-    if (value > this.high || (value === this.high && compare(text, this.highText) > 0)) {
+    if (value > this.high || (value === this.high && text !== this.highText && compare(text, this.highText) > 0)) {
       this.high = value;
       this.highText = text;
     }

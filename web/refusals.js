@@ -2,9 +2,9 @@
 import { STATUS, WktError } from '../javascript/src/index.js';
 import { printable } from '../javascript/src/printable.js';
 
-/** How many refusals are listed, and how many are asked for their reasons. */
-const LISTED = 100;
-const ASKED = 20000;
+/** How many refusals of a file are listed, and how many are asked for their reasons. */
+export const LISTED = 100;
+export const ASKED = 20000;
 /** More of a line than this isn't looked at: what is shown is far less. */
 const LONG = 1 << 20;
 const RETURN = 13;
@@ -19,7 +19,8 @@ const utf8 = new TextDecoder('utf-8', { ignoreBOM: true });
 
 /** The byte, from 1 on, at which a line stops being UTF-8. */
 function notUtf8At(bytes) {
-  let [good, bad] = [0, bytes.length]; // beginnings of the line: the first is good, and the second is bad
+  const first = bytes.findIndex((byte) => byte > 127);
+  let [good, bad] = [Math.max(0, first), bytes.length]; // beginnings of the line: the first is good, and the second is bad
   const begins = (length) => {
     try {
       new TextDecoder('utf-8', { fatal: true }).decode(bytes.subarray(0, length), { stream: true });
@@ -42,34 +43,34 @@ function foundAt(bytes, { start, stop }) {
   return utf8.decode(bytes.subarray(start, Math.min(stop, start + 200)));
 }
 
+/** The refused lines of a part of a file. */
 export class Refusals {
   count = 0;
-  /** The first of them: line, column, expected, found, hint, caret. */
-  first = [];
-  /** How often each reason came among the first that were asked. */
-  reasons = new Map();
 
   #wkt;
   #places;
+  #ask;
+  #whys = [];
 
-  constructor(wkt, places) {
+  /** `ask`: of how many the reasons are asked. */
+  constructor(wkt, places, ask) {
     this.#wkt = wkt;
     this.#places = places;
+    this.#ask = ask;
   }
 
-  get asked() {
-    return Math.min(this.count, ASKED);
+  /** How many there are, and of the first the line, column, expected, found, hint, caret. */
+  given() {
+    return { count: this.count, whys: this.#whys };
   }
 
   /** Takes a refused line, without its line feed. */
   add(bytes, line) {
     this.count++;
-    if (this.count > ASKED) return;
+    if (this.count > this.#ask) return;
     // A carriage return at the end of a line is a part of its end.
-    const why = this.#why(bytes[bytes.length - 1] === RETURN ? bytes.subarray(0, bytes.length - 1) : bytes);
-    const reason = why.hint || `${why.expected} was expected`;
-    this.reasons.set(reason, (this.reasons.get(reason) ?? 0) + 1);
-    if (this.first.length < LISTED) this.first.push({ line, ...why });
+    const { down, ...why } = this.#why(bytes[bytes.length - 1] === RETURN ? bytes.subarray(0, bytes.length - 1) : bytes);
+    this.#whys.push({ line: line + down, ...why });
   }
 
   #why(bytes) {
@@ -79,12 +80,12 @@ export class Refusals {
     } catch (error) {
       if (!isRefusal(error)) throw error;
       if (error.place) {
-        const { column, expected, hint, caret } = error.place;
-        return { column, expected, hint: hint || '', caret, found: foundAt(bytes, error.place) };
+        const { line, column, expected, hint, caret } = error.place;
+        return { down: line - 1, column, expected, hint: hint || '', caret, found: foundAt(bytes, error.place) };
       }
       const at = notUtf8At(bytes.subarray(0, LONG));
       const caret = `${printable(utf8.decode(bytes.subarray(0, Math.min(at, 60))))}\n`;
-      return { column: at, expected: 'UTF-8', hint: `byte ${at} of the line is not UTF-8`, caret, found: '' };
+      return { down: 0, column: at, expected: 'UTF-8', hint: `byte ${at} of the line is not UTF-8`, caret, found: '' };
     }
     throw new Error('a refused line was read');
   }

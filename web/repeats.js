@@ -1,57 +1,19 @@
 // Which lines of a file name a geometry that an earlier line names. A hash finds the line that may be the same, and then
-// the whole canonical texts are compared: the earlier one is kept in memory, or its line is read from the file once more.
+// the whole canonical texts are compared: the earlier one is kept in memory, as a part of the answers that it came in, or
+// its line is read from the file once more.
 //
-// Memory: at most 256 MB of canonical texts, and a table of at most 2^25 places of 20 bytes, three quarters of which are
+// Memory: at most 256 MB of answers, and a table of at most 2^25 places of 20 bytes, three quarters of which are
 // used. A geometry that comes when the table is full is still compared with those in it, and isn't entered.
 
-const CHUNK = 16 << 20;
 /** How far apart two lines may be that are read from the file at once. */
 const NEAR = 64 << 10;
 /** A line's number has 31 bits in the table. */
 const LINES = 2 ** 31 - 1;
 const FEED = 10;
 
-/** Canonical texts in memory, each with its line feed. */
-class Texts {
-  #chunks = [];
-  #used = CHUNK;
-  #most;
-
-  constructor(bytes) {
-    this.#most = Math.floor(bytes / CHUNK);
-  }
-
-  /** Keeps a text and returns its place, or -1 where there is no room. */
-  put(bytes, at, end) {
-    const length = end + 1 - at;
-    if (length > CHUNK) return -1;
-    if (this.#used + length > CHUNK) {
-      if (this.#chunks.length === this.#most) return -1;
-      this.#chunks.push(new Uint8Array(CHUNK));
-      this.#used = 0;
-    }
-    const chunk = this.#chunks[this.#chunks.length - 1];
-    const place = this.#used;
-    // A loop is faster for a short text.
-    if (length > 100) chunk.set(bytes.subarray(at, end + 1), place);
-    else for (let i = 0; i < length; i++) chunk[place + i] = bytes[at + i];
-    this.#used += length;
-    return (this.#chunks.length - 1) * CHUNK + place;
-  }
-
-  /** Whether the text at `place` is the one from `at` to `end`. */
-  same(place, bytes, at, end) {
-    const chunk = this.#chunks[Math.floor(place / CHUNK)];
-    let from = place % CHUNK;
-    for (let i = at; i <= end; i++) {
-      if (chunk[from++] !== bytes[i]) return false;
-    }
-    return true;
-  }
-}
-
 // An entry of the table: two numbers of the hash, the line (0: the entry is free), and where the text is, in two numbers of 30
-// bits: in memory, or, where -1 less the second stands, in the file. Numbers of 30 bits are faster than others.
+// bits: the place in some answers and which of them, or, where -1 less the second stands, the place in the file. Numbers of 30
+// bits are faster than others.
 const SIZE = 5;
 const LOW = 0, HIGH = 1, LINE = 2, WHERE = 3, WHERE_HIGH = 4;
 const PART = 2 ** 30;
@@ -72,7 +34,9 @@ export class Repeats {
   #room = 3 * 2 ** 10; // entries, before the table grows
   #mostBits;
   #shown;
-  #texts;
+  #answers = []; // those that are kept
+  #left; // how many bytes more may be kept
+  #kept = -1; // the number of the answers that texts are added from, or -1
   #lineAt;
   #doubts = [];
   #found = []; // since the last `settle`
@@ -83,7 +47,7 @@ export class Repeats {
    */
   constructor(lineAt, { memory = 256 << 20, bits = 25, shown = 100 } = {}) {
     this.#lineAt = lineAt;
-    this.#texts = new Texts(memory);
+    this.#left = memory;
     this.#mostBits = bits;
     this.#shown = shown;
   }
@@ -93,6 +57,12 @@ export class Repeats {
     let bits = this.#bits;
     while (bits < this.#mostBits && 3 * 2 ** bits < 4 * geometries) bits++;
     if (bits > this.#bits) this.#grow(bits);
+  }
+
+  /** Begins to take texts from some answers, which are its own from then on. */
+  begin(bytes) {
+    this.#kept = bytes.length <= this.#left && bytes.length < PART ? this.#answers.push(bytes) - 1 : -1;
+    if (this.#kept >= 0) this.#left -= bytes.length;
   }
 
   /**
@@ -105,7 +75,7 @@ export class Repeats {
     this.#seek(low, low, high, bytes, at, end, line, place);
   }
 
-  /** Compares those that are left with their lines in the file. To be called before `bytes` are another's. */
+  /** Compares those that are left with their lines in the file. To be called before others begin. */
   settle() {
     // A text that isn't the same goes on through the table, and may meet another that is left.
     while (this.#doubts.length > 0) {
@@ -138,7 +108,7 @@ export class Repeats {
         this.#doubts.push({ slot, from: table[i + WHERE] + (-1 - part) * PART, low, high, bytes, at, end, line, place });
         return;
       }
-      if (this.#texts.same(table[i + WHERE] + part * PART, bytes, at, end)) {
+      if (same(this.#answers[part], table[i + WHERE], bytes, at, end)) {
         this.#meet(slot, line);
         return;
       }
@@ -146,15 +116,17 @@ export class Repeats {
   }
 
   #enter(i, low, high, bytes, at, end, line, place) {
-    const kept = this.#texts.put(bytes, at, end);
-    const where = kept < 0 ? place : kept;
     const table = this.#table;
     table[i + LOW] = low;
     table[i + HIGH] = high;
     table[i + LINE] = line;
-    const part = Math.floor(where / PART);
-    table[i + WHERE] = where % PART;
-    table[i + WHERE_HIGH] = kept < 0 ? -1 - part : part;
+    if (this.#kept >= 0) {
+      table[i + WHERE] = at;
+      table[i + WHERE_HIGH] = this.#kept;
+    } else {
+      table[i + WHERE] = place % PART;
+      table[i + WHERE_HIGH] = -1 - Math.floor(place / PART);
+    }
     this.entered++;
   }
 
@@ -191,13 +163,15 @@ export class Repeats {
   }
 }
 
-function sameText(text, { bytes, at, end }) {
-  if (text.length !== end + 1 - at) return false;
-  for (let i = 0; i < text.length; i++) {
-    if (text[i] !== bytes[at + i]) return false;
+/** Whether the text that begins at `place` of some answers is the one from `at` to its line feed at `end`. */
+function same(answers, place, bytes, at, end) {
+  for (let i = at; i <= end; i++) {
+    if (answers[place + i - at] !== bytes[i]) return false;
   }
   return true;
 }
+
+const sameText = (text, { bytes, at, end }) => text.length === end + 1 - at && same(text, 0, bytes, at, end);
 
 /** The end of the line that begins at `from`, which is its line feed or the end of the bytes. */
 export function lineEnd(bytes, from) {

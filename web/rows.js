@@ -1,38 +1,63 @@
-// The table of lines.
-import { summaryOf } from './answers.js';
-import { $, button, colored, count, element, number, printable } from './elements.js';
+// The table of lines. Only those that are seen, and some around them, stand in the document.
+import { $, button, colored, element, number, printable } from './elements.js';
 import { choose, state } from './state.js';
 import { withAxes } from './verdict.js';
 
-const SHOWN = 300;
+/** The height of a row, as page.css has it, and how many more than are seen stand there. */
+const HEIGHT = 33, MORE = 10;
 const FILTERS = {
   all: () => true,
-  refused: (row) => !row.accepted,
+  refused: (row) => row.answered && !row.accepted,
   repeats: (row) => Boolean(row.repeats),
 };
+const scroller = $('rows-scroll');
 let filter = 'all';
+let shown = []; // the places of the rows that the filter takes
+/** Where the table is scrolled to, and how high it is: to ask for it would lay out the page at each key. */
+let scrolled = { top: 0, height: 420 };
 
 function filterButtons() {
-  const counts = Object.entries(FILTERS).map(([name, takes]) => [name, state.rows.filter(takes).length]).filter(([, n]) => n > 0);
+  const counts = Object.entries(FILTERS).map(([name, takes]) => [name, state.rows.reduce((n, row) => n + takes(row), 0)]).filter(([, n]) => n > 0);
   if (!counts.some(([name]) => name === filter)) filter = 'all';
   return counts.map(([name, n]) => button(`${name} ${number(n)}`, { 'aria-pressed': String(filter === name), 'data-filter': name }, () => {
     filter = name;
+    scroller.scrollTop = scrolled.top = 0;
     showRows();
     document.querySelector(`[data-filter=${name}]`)?.focus();
   }));
 }
 
 function answerCell(row, i) {
+  if (!row.answered) return element('span', { class: 'chip' }, '…');
   if (!row.accepted) return element('span', { class: 'chip bad-text' }, element('i'), row.place ? `refused at ${number(row.place.column)}` : 'refused');
-  const { kind, dimension } = summaryOf(row);
+  const { kind, dimension } = row.facts;
   const repeat = row.repeats ? element('span', { class: 'note-text' }, `= line ${row.repeats}`) : null;
   return colored(element('span', { class: 'chip' }, element('i'), kind + withAxes(dimension), repeat), i);
 }
 
-function tableRow(row, i) {
-  return element('tr', { 'aria-selected': String(i === state.chosen), tabindex: i === state.chosen ? 0 : -1, 'data-i': i },
+function tableRow(row, i, at) {
+  return element('tr', { 'aria-selected': String(i === state.chosen), tabindex: i === state.chosen ? 0 : -1, 'data-i': i, 'aria-rowindex': at + 2 },
     element('td', { class: 'n' }, String(row.line)), element('td', {}, answerCell(row, i)),
-    element('td', { class: 'n' }, row.accepted ? number(summaryOf(row).points) : ''), element('td', { class: 'text' }, printable(row.text.slice(0, 200).replace(/[\t\r]/g, ' '))));
+    element('td', { class: 'n' }, row.accepted ? number(row.facts.points) : ''), element('td', { class: 'text' }, printable(row.text.slice(0, 200).replace(/[\t\r\n]/g, ' '))));
+}
+
+/** What stands for rows that aren't seen. */
+function space(rows) {
+  if (rows <= 0) return [];
+  const node = element('tr', { class: 'space', 'aria-hidden': 'true' }, element('td', { colspan: 4 }));
+  node.style.setProperty('height', `${rows * HEIGHT}px`);
+  return [node];
+}
+
+function showSeen() {
+  const focused = $('rows').contains(document.activeElement);
+  const first = Math.max(0, Math.min(shown.length - 1, Math.floor(scrolled.top / HEIGHT)) - MORE);
+  const last = Math.min(shown.length, first + Math.ceil(scrolled.height / HEIGHT) + 2 * MORE);
+  const nodes = shown.slice(first, last).map((i, k) => tableRow(state.rows[i], i, first + k));
+  // By the keyboard one row is reached, and from it the others.
+  if (nodes.length > 0 && !nodes.some((node) => node.tabIndex === 0)) nodes[0].tabIndex = 0;
+  $('rows').replaceChildren(...space(first), ...nodes, ...space(shown.length - last));
+  if (focused) $('rows').querySelector('[tabindex="0"]')?.focus({ preventScroll: true });
 }
 
 export function showRows() {
@@ -42,18 +67,31 @@ export function showRows() {
     return;
   }
   $('filters').replaceChildren(...filterButtons());
-  const shown = state.rows.map((row, i) => [row, i]).filter(([row]) => FILTERS[filter](row));
-  const nodes = shown.slice(0, SHOWN).map(([row, i]) => tableRow(row, i));
-  // By the keyboard one row is reached, and from it the others.
-  if (!nodes.some((node) => node.tabIndex === 0)) nodes[0].tabIndex = 0;
-  if (shown.length > SHOWN) {
-    nodes.push(element('tr', {}, element('td'), element('td', { colspan: 3 }, `and ${count(shown.length - SHOWN, 'more line')}`)));
-  }
-  $('rows').replaceChildren(...nodes);
+  shown = [];
+  state.rows.forEach((row, i) => FILTERS[filter](row) && shown.push(i));
+  $('table').setAttribute('aria-rowcount', shown.length + 1);
+  showSeen();
+}
+
+/** Chooses a row by its place among those that are shown, and scrolls to it. */
+function goTo(at) {
+  const to = Math.max(0, Math.min(shown.length - 1, at));
+  const head = $('table').tHead.offsetHeight;
+  const top = to * HEIGHT;
+  if (top < scroller.scrollTop) scroller.scrollTop = top;
+  else if (top + HEIGHT + head > scroller.scrollTop + scroller.clientHeight) scroller.scrollTop = top + HEIGHT + head - scroller.clientHeight;
+  scrolled.top = scroller.scrollTop;
+  choose(shown[to]);
+  $('rows').querySelector(`[data-i="${state.chosen}"]`)?.focus({ preventScroll: true });
 }
 
 /** The table chooses rows, by pointer and keys; `go` shows the place of the chosen one in the text. */
 export function startRows(go) {
+  const follow = () => {
+    scrolled = { top: scroller.scrollTop, height: scroller.clientHeight || scrolled.height };
+    showSeen();
+  };
+  scroller.addEventListener('scroll', follow);
   $('rows').addEventListener('click', (event) => {
     const row = event.target.closest('tr[data-i]');
     if (row) choose(Number(row.dataset.i));
@@ -61,14 +99,15 @@ export function startRows(go) {
   $('rows').addEventListener('keydown', (event) => {
     const row = event.target.closest('tr[data-i]');
     if (!row) return;
-    const next = { ArrowDown: row.nextElementSibling, ArrowUp: row.previousElementSibling }[event.key];
+    const at = shown.indexOf(Number(row.dataset.i));
+    const page = Math.floor(scroller.clientHeight / HEIGHT) - 1;
+    const next = { ArrowDown: at + 1, ArrowUp: at - 1, PageDown: at + page, PageUp: at - page, Home: 0, End: shown.length - 1 }[event.key];
     if (event.key === 'Enter') {
       choose(Number(row.dataset.i));
       go();
-    } else if (next?.dataset.i) {
-      choose(Number(next.dataset.i));
-      $('rows').querySelector(`[data-i="${state.chosen}"]`)?.focus();
-    } else if (next === undefined) {
+    } else if (next !== undefined) {
+      goTo(next);
+    } else {
       return;
     }
     event.preventDefault();

@@ -1,19 +1,16 @@
 // What the page shows, and who shows it.
 
 export const state = {
-  /** The package over the module, and the module itself for workers. */
-  wkt: null,
+  /** The module, for workers. */
   module: null,
-  /** Whether the text is one geometry (`one`), or each line is (`lines`). */
-  split: 'one',
-  /** The answers to the texts in the field. */
+  /** The texts in the field, in their order: id, text, offset, line, and what was answered. */
   rows: [],
+  /** Whether each of them is answered. */
+  settled: true,
   /** Which of them is looked at; -1: none. */
   chosen: -1,
-  /** Points of a file, as x, y, x, y ..; null where no file is open. */
-  points: null,
-  /** How many points the file has in all. */
-  pointsOfFile: 0,
+  /** Whether a file is open, and not the field's text. */
+  file: false,
 };
 
 const listeners = [];

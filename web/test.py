@@ -5,7 +5,8 @@ PAGE is dist/web/index.html where it is left out. It is opened without a server,
 server's log. MB is the size of the large file, 8 where it is left out. FOLDER gets pictures of the page, light and
 dark, wide and narrow. It needs the Debian packages chromium, chromium-driver and python3-selenium.
 
-Here are the tests that nothing leaves the page; those of texts, files and access are in web/test.
+Here are the tests that nothing leaves the page; those of texts, files, access, and of what it takes in and
+gives out are in web/test.
 """
 import argparse
 import functools
@@ -21,12 +22,13 @@ sys.path.insert(0, os.path.dirname(os.path.abspath(__file__)) + "/test")
 from access import Access  # noqa: E402 (found by the line above)
 from chromium import Page, Quiet  # noqa: E402
 from files import Files  # noqa: E402
+from give import Give  # noqa: E402
 from selenium.webdriver.common.by import By  # noqa: E402
 from texts import Texts  # noqa: E402
 
 TOP = os.path.dirname(os.path.dirname(os.path.abspath(__file__)))
 # The tests that unittest.main finds in this module besides its own.
-TESTS = (Texts, Files, Access)
+TESTS = (Texts, Files, Access, Give)
 
 # What a page could send or load, and the directive of the policy that refuses it.
 LEAVING = {
@@ -114,7 +116,7 @@ class Shots(Page):
         self.open()
         self.script("localStorage.clear()")
         for theme in ("light", "dark"):
-            for width in (1280, 400):
+            for width in (1280, 390):
                 self.driver.execute_cdp_cmd(
                     "Emulation.setDeviceMetricsOverride",
                     {"width": width, "height": 800, "deviceScaleFactor": 1, "mobile": False},
@@ -124,7 +126,7 @@ class Shots(Page):
                 )
                 for state in self.states():
                     self.assertLessEqual(self.script("return document.documentElement.scrollWidth"), width)
-                    if width == 400:
+                    if width == 390:
                         height = self.script("return document.documentElement.scrollHeight")
                         self.driver.execute_cdp_cmd(
                             "Emulation.setDeviceMetricsOverride",

@@ -1,18 +1,33 @@
 // Whether the text is accepted, and why it isn't.
 import { STATUS } from '../javascript/src/index.js';
-import { summaryOf, lineOf } from './answers.js';
+import { lineOf } from './answers.js';
 import { $, count, element, listed, number, withCode, withoutCode, wordIn } from './elements.js';
 import { chosenRow, state } from './state.js';
 
 const line = (d, width) => `<svg viewBox="0 0 16 16"><path d="${d}" fill="none" stroke="currentColor" stroke-width="${width}" stroke-linecap="round" stroke-linejoin="round"/></svg>`;
 const ICONS = { good: line('M3 8.5 6.5 12 13 4.5', 2.2), bad: line('m4 4 8 8m0-8-8 8', 2.2), idle: line('M3 4h10M3 8h7M3 12h9', 2) };
 
+/** How long the answer has to stand, in milliseconds, before it is spoken: once, and not at each key. */
+const QUIET = 700;
+let timer = 0;
+
+/** Speaks words, for those who don't see the page, when nothing else was said for a while. */
+function speak(words) {
+  clearTimeout(timer);
+  timer = setTimeout(() => {
+    if ($('spoken').textContent !== words) $('spoken').textContent = words;
+  }, QUIET);
+}
+
 /** Shows words at the head of the answer. `why` may be nodes. */
 export function say(kind, words, ...why) {
-  $('verdict').className = `verdict ${kind}`;
-  $('badge').innerHTML = ICONS[kind];
-  $('say').textContent = words;
+  if ($('verdict').className !== `verdict ${kind}`) {
+    $('verdict').className = `verdict ${kind}`;
+    $('badge').innerHTML = ICONS[kind];
+  }
+  if ($('say').textContent !== words) $('say').textContent = words;
   $('why').replaceChildren(...why);
+  speak(`${words}. ${$('why').textContent}`);
 }
 
 const capital = (words) => words[0].toUpperCase() + words.slice(1);
@@ -50,7 +65,7 @@ function reason(row, many) {
 const perLine = (row) => (row.status === STATUS.NOT_WHOLE && row.place.line > 1 ? [' If each line is a geometry, choose “One per line”.'] : []);
 
 function sayOne(row) {
-  if (row.accepted) say('good', `Accepted: ${summaryOf(row).kind}${withAxes(summaryOf(row).dimension)}`, holds(summaryOf(row)));
+  if (row.accepted) say('good', `Accepted: ${row.facts.kind}${withAxes(row.facts.dimension)}`, holds(row.facts));
   else if (row.place) say('bad', `Refused at line ${number(lineOf(row))}, column ${number(row.place.column)}`, ...reason(row, false), ...perLine(row));
   else say('bad', 'Refused', ...reason(row, false));
 }
@@ -60,10 +75,11 @@ export const repeatsInWords = (n) => (n === 0 ? 'No geometry is repeated.' : `${
 
 function sayMany(row) {
   const { rows } = state;
-  const refused = rows.filter((it) => !it.accepted).length;
-  const repeats = rows.filter((it) => it.repeats).length;
-  if (refused === 0) say('good', `All ${count(rows.length, 'line')} accepted`, repeatsInWords(repeats));
-  else say('bad', `${number(refused)} of ${count(rows.length, 'line')} refused`, ...(row.accepted ? [`Line ${row.line} is accepted.`] : reason(row, true)));
+  const unit = rows.some(({ spread }) => spread) ? 'text' : 'line';
+  const refused = rows.reduce((n, it) => n + !it.accepted, 0);
+  const repeats = rows.reduce((n, it) => n + Boolean(it.repeats), 0);
+  if (refused === 0) say('good', `All ${count(rows.length, unit)} accepted`, repeatsInWords(repeats));
+  else say('bad', `${number(refused)} of ${count(rows.length, unit)} refused`, ...(row.accepted ? [`Line ${row.line} is accepted.`] : reason(row, true)));
 }
 
 /** The line with the mark, the hint, and the words of the library, of a row that is refused. */
@@ -79,13 +95,13 @@ function showPlace(row) {
 }
 
 export function showVerdict() {
-  if (state.points !== null) return; // a file is open, and says its own
+  if (state.file || !state.settled) return; // a file that is open says its own
   const row = chosenRow();
   if (!row) say('idle', 'Nothing to check yet', 'Type or paste a text, choose an example, or drop a file anywhere on the page.');
   else if (state.rows.length === 1) sayOne(row);
   else sayMany(row);
   showPlace(row);
-  const refused = state.rows.filter((it) => !it.accepted).length;
+  const refused = state.rows.reduce((n, it) => n + !it.accepted, 0);
   $('next').hidden = refused === 0;
   $('next').textContent = refused > 1 ? 'Next refusal' : 'Show the place';
   $('text').setAttribute('aria-invalid', String(refused > 0));

@@ -7,6 +7,23 @@ from selenium.webdriver.common.keys import Keys
 CONTROLS = "button, summary, a[href], input, select, textarea, [tabindex='0'], progress, [role=region]"
 
 
+# The contrast between two colours of the page, by their names.
+RATIO = """
+const light = (name) => {
+  const to = document.createElement('canvas').getContext('2d');
+  to.fillStyle = getComputedStyle(document.documentElement).getPropertyValue('--' + name).trim();
+  return [0.2126, 0.7152, 0.0722].reduce((sum, k, i) => {
+    const v = parseInt(to.fillStyle.slice(1 + 2 * i, 3 + 2 * i), 16) / 255;
+    return sum + k * (v <= 0.04045 ? v / 12.92 : ((v + 0.055) / 1.055) ** 2.4);
+  }, 0);
+};
+const ratio = (one, other) => {
+  const [a, b] = [light(one), light(other)].sort((x, y) => y - x);
+  return (a + 0.05) / (b + 0.05);
+};
+"""
+
+
 class Access(Page):
     def test_names(self):
         for state in self.states():
@@ -22,14 +39,19 @@ class Access(Page):
             for state in self.states():
                 if self.script("return document.documentElement.dataset.theme") != theme:
                     self.by_id("theme").click()
-                self.wait(
-                    lambda: self.script(
-                        "return !document.getElementById('svg').getAnimations({ subtree: true }).length"
-                    )
-                )
+                self.settled()
                 with self.subTest(theme + state):
                     self.assertEqual([], self.script(CONTRAST))
         self.script("localStorage.clear()")
+
+    def test_contrast_of_the_picture(self):
+        """Lines have three to one (WCAG 1.4.11), and the digits beside the axes 4.5."""
+        self.open()
+        for theme in ("light", "dark"):
+            self.script("document.documentElement.dataset.theme = arguments[0]", theme)
+            for name, least in (*((f"c{i}", 3) for i in range(8)), ("bad", 3), ("ink", 3), ("faint", 4.5)):
+                found = self.script(RATIO + "return ratio(arguments[0], 'card')", name)
+                self.assertGreaterEqual(found, least, f"{theme} {name}")
 
     def test_focus_is_seen(self):
         """Tab comes to every control in its order, and each shows that it has the focus."""
@@ -72,16 +94,12 @@ class Access(Page):
         self.assertEqual((")", "Line 2, column 8."), (self.script(selected), self.said("why").split(" It")[0]))
         alt("n")
         self.assertEqual((",", "Line 4, column 8."), (self.script(selected), self.said("why").split(" It")[0]))
-        self.by_id("svg").send_keys("")
-        before = self.script("return document.querySelector('#svg .dot').getAttribute('d')")
+        self.by_id("canvas").send_keys("")
         for key in (Keys.ARROW_LEFT, "+", "0"):
-            self.by_id("svg").send_keys(key)
-            now = self.wait(
-                lambda before=before: (lambda d: d if d != before else "")(
-                    self.script("return document.querySelector('#svg .dot').getAttribute('d')")
-                )
-            )
-            before = now
+            self.still()
+            before = self.box("--c0")
+            self.by_id("canvas").send_keys(key)
+            self.wait(lambda before=before: self.box("--c0") != before)
         self.driver.find_element(By.CSS_SELECTOR, "#rows [tabindex='0']").send_keys(Keys.ARROW_UP)
         self.assertEqual("POINT(3 4)", self.said("out"))
         self.assertEqual("3", self.driver.switch_to.active_element.text.split()[0])

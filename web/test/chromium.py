@@ -1,6 +1,7 @@
 """A page in headless Chromium, and what tests do with it."""
 import http.server
 import os
+import sys
 import tempfile
 import time
 import unittest
@@ -36,7 +37,7 @@ while (texts.nextNode()) {
   if (!texts.currentNode.data.trim() || !node.checkVisibility()) continue;
   if (node.closest('.mirror, .quiet, [disabled], script, .drop, .skip')) continue;
   const back = behind(node);
-  const color = node.closest('svg') ? style.fill : style.color;
+  const { color } = style;
   const [a, b] = [light(over(rgba(color), back)), light(back)].sort((x, y) => y - x);
   const ratio = (a + 0.05) / (b + 0.05);
   if (ratio < 4.5) poor.push(`${node.tagName} ${texts.currentNode.data.slice(0, 30)}: ${ratio.toFixed(2)}`);
@@ -90,7 +91,7 @@ class Page(unittest.TestCase):
     def script(self, text, *given):
         return self.driver.execute_script(text, *given)
 
-    def wait(self, test, seconds=30):
+    def wait(self, test, seconds=120):
         """Waits until the test gives something, and returns that."""
         end = time.time() + seconds
         while time.time() < end:
@@ -105,10 +106,21 @@ class Page(unittest.TestCase):
         self.driver.get((page or "file://" + os.path.abspath(self.page)) + behind)
         self.wait(lambda: self.script("return document.documentElement.dataset.ready"))
 
+    def note(self, words):
+        print(words, file=sys.stderr)
+
     def by_id(self, name):
         return self.driver.find_element(By.ID, name)
 
+    def settled(self, seconds=60):
+        """Waits until what stands in the field is answered."""
+        busy = "return document.getElementById('verdict').getAttribute('aria-busy') === 'true'"
+        end = time.time() + seconds
+        while self.script(busy) and time.time() < end:
+            time.sleep(0.02)
+
     def said(self, name):
+        self.settled()
         return self.script("return document.getElementById(arguments[0]).innerText", name).replace("\u200b", "")
 
     def type(self, text):
@@ -118,12 +130,51 @@ class Page(unittest.TestCase):
         field.send_keys(text)
 
     def paste(self, text):
-        """Puts a text in the field at once, and waits until it is drawn."""
+        """Puts a text in the field at once, and waits until it is answered and drawn."""
+        before = self.painted()
         self.script(
             "const t = document.getElementById('text'); t.value = arguments[0]; t.dispatchEvent(new Event('input'))",
             text,
         )
-        self.driver.execute_async_script("requestAnimationFrame(() => requestAnimationFrame(arguments[0]))")
+        self.settled()
+        self.wait(lambda: self.painted() > before)
+        self.still()
+
+    def painted(self):
+        """How often the picture was drawn."""
+        return int(self.script("return document.getElementById('canvas').dataset.painted") or 0)
+
+    def still(self):
+        """Waits until nothing more is drawn."""
+        last = -1
+        while last != (last := self.painted()):
+            time.sleep(0.15)
+
+    def pixels(self):
+        """The picture as rows of colours, each as a number, and -1 where hardly anything is drawn."""
+        return self.script(
+            "const c = document.getElementById('canvas'), copy = new OffscreenCanvas(c.width, c.height);"
+            " const to = copy.getContext('2d', { willReadFrequently: true }); to.drawImage(c, 0, 0);"
+            " const { data, width } = to.getImageData(0, 0, c.width, c.height); const rows = [];"
+            " for (let i = 0; i < data.length; i += 4 * width) { const row = [];"
+            " for (let k = i; k < i + 4 * width; k += 4)"
+            " row.push(data[k + 3] < 32 ? -1 : data[k] * 65536 + data[k + 1] * 256 + data[k + 2]); rows.push(row); }"
+            " return rows"
+        )
+
+    def box(self, name):
+        """Where a colour of the page is in the picture: left, top, right, bottom; None where it isn't."""
+        color = self.script(
+            "const d = document.createElement('canvas').getContext('2d'); d.fillStyle ="
+            " getComputedStyle(document.documentElement).getPropertyValue(arguments[0]).trim(); return d.fillStyle",
+            name,
+        )
+        wanted = int(color[1:], 16)
+        found = [(x, y) for y, row in enumerate(self.pixels()) for x, it in enumerate(row) if it == wanted]
+        if not found:
+            return None
+        xs, ys = [x for x, _ in found], [y for _, y in found]
+        return min(xs), min(ys), max(xs), max(ys)
 
     def press(self, *keys):
         webdriver.ActionChains(self.driver).send_keys(*keys).perform()

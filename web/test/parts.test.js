@@ -4,7 +4,7 @@ import { readFileSync, readdirSync } from 'node:fs';
 import { test } from 'node:test';
 import { Range, compare } from '../range.js';
 import { Repeats } from '../repeats.js';
-import { looksLikeOne } from '../split.js';
+import { piecesOf, splitOfFront } from '../split.js';
 import { Summary } from '../summary.js';
 import { Tally } from '../tally.js';
 
@@ -15,9 +15,30 @@ const SPLITS = [
   ['MULTIPOINT(1 2,\nEMPTY)', true], ['FOO\nPOINT(1 2)', false], ['POINT(1 2))\n(3 4)', false], [`POINT(${' '.repeat(1e6)}1\n2)`, true],
 ];
 test('one geometry over lines, or one on each line', () => {
-  for (const [text, one] of SPLITS) assert.equal(looksLikeOne(text), one, text.slice(0, 60));
-  for (const front of ['GEOMETRYCOLLECTION(POINT(1 2),', 'LINESTRING(1 2,3', 'LINESTRING(1 2,3 4\n']) assert.equal(looksLikeOne(front, true), false, front);
-  assert.equal(looksLikeOne('LINESTRING(1 2,\n3', true), true);
+  for (const [text, one] of SPLITS) assert.equal(piecesOf(text, 'auto').texts.length < 2, one, text.slice(0, 60));
+});
+
+// A text; its pieces, and the lines where they begin.
+const PIECES = [
+  ['POLYGON((0 0,\n1 1,2 0,0 0))\n\nPOINT(1 2)\nLINESTRING(0 0,\n\n3 4)\n', ['POLYGON((0 0,\n1 1,2 0,0 0))', 'POINT(1 2)', 'LINESTRING(0 0,\n\n3 4)'], [1, 4, 5]],
+  ['GEOMETRYCOLLECTION(\nPOINT(1 2),\nPOINT(3 4))\nPOINT\nEMPTY\nPOINT(1 2', ['GEOMETRYCOLLECTION(\nPOINT(1 2),\nPOINT(3 4))', 'POINT\nEMPTY', 'POINT(1 2'], [1, 4, 6]],
+  ['POINT(1 2\nPOINT(3 4)\nfoo\nPOINT(5\n6)', ['POINT(1 2', 'POINT(3 4)', 'foo', 'POINT(5\n6)'], [1, 2, 3, 4]],
+  ['LINESTRING(1 2,\nSRID=4326;POINT(1 2)', ['LINESTRING(1 2,', 'SRID=4326;POINT(1 2)'], [1, 2]],
+];
+test('a geometry ends where its parentheses close', () => {
+  for (const [text, texts, lines] of PIECES) {
+    const found = piecesOf(text, 'auto');
+    assert.deepEqual([found.texts, found.lines], [texts, lines]);
+    found.texts.forEach((piece, i) => assert.ok(text.startsWith(piece, found.offsets[i])));
+  }
+  assert.deepEqual(piecesOf('POINT(1\n2)', 'lines').texts, ['POINT(1', '2)']);
+});
+
+test('how a file is split, by its front', () => {
+  for (const [front, cut, split] of [['GEOMETRYCOLLECTION(POINT(1 2),', true, 'lines'], ['LINESTRING(1 2,3', true, 'lines'], ['LINESTRING(1 2,\n3', true, 'one'],
+    ['POINT(1 2)\nPOINT(3', true, 'lines'], ['POLYGON((0 0,\n1 1,0 0))\nPOLYGON((0', true, 'pieces'], ['POINT(1\n2)', false, 'one'], ['', false, 'one']]) {
+    assert.equal(splitOfFront(front, cut), split, front);
+  }
 });
 
 const bytesOf = (text) => new TextEncoder().encode(text);
@@ -96,6 +117,7 @@ function check(lines, hash, settings, every = 7) {
     reads++;
     return all.subarray(at, all.indexOf(10, at) + 1);
   }, { shown: 1e9, ...settings });
+  repeats.begin(all);
   lines.forEach((line, i) => {
     const [low, high] = hash(line);
     repeats.add(low, high, all, places[i], places[i] + line.length, i + 1, places[i]);

@@ -114,7 +114,7 @@ class Texts(Page):
             ],
             rows,
         )
-        self.assertEqual(3, len(self.driver.find_elements(By.CSS_SELECTOR, "#svg .g")))
+        self.assertEqual("3 geometries · 4 points · x 0 to 4 · y 0 to 4", self.said("totals"))
         self.driver.find_elements(By.CSS_SELECTOR, "#rows tr")[3].click()
         self.assertEqual("LINESTRING(0 0,4 4)", self.said("out"))
         self.driver.find_element(By.CSS_SELECTOR, "[data-filter=repeats]").click()
@@ -153,24 +153,30 @@ class Texts(Page):
 
     def test_picture(self):
         self.open()
-        shape = (
-            "return [...document.querySelectorAll('#svg .area, #svg .edge')].map((p) => { const b = p.getBBox();"
-            " return [b.width, b.height, p.getAttribute('d'), p.getAttribute('fill-rule')] })"
-        )
+        self.paste("MULTIPOINT(0 0,10 0,10 10,0 10)")
+        left, top, right, bottom = self.box("--c0")
+        self.assertAlmostEqual(right - left, bottom - top, delta=2)  # to scale
         self.paste("POLYGON((0 0,10 0,10 10,0 10,0 0),(2 2,2 4,4 4,4 2,2 2))")
-        area = self.wait(lambda: [p for p in self.script(shape) if p[3]])[0]
-        self.assertAlmostEqual(area[0], area[1], 1)  # to scale
-        self.assertEqual("evenodd", area[3])  # the hole is none of it
+        left, top, right, bottom = self.box("--c0")
+        rows = self.pixels()
+
+        def at(x, y):
+            return rows[round(bottom - (bottom - top) * y / 10)][round(left + (right - left) * x / 10)]
+
+        self.assertNotEqual(-1, at(6.1, 7.3))  # filled
+        self.assertEqual(-1, at(2.9, 3.1))  # the hole is none of it, and y is up
         self.paste("LINESTRING(0 0,0 10,1 10)")
-        (edge,) = self.wait(lambda: [p for p in self.script(shape) if p[2].count("L") == 2])
-        heights = [float(pair.split()[1]) for pair in re.findall(r"[\d.]+ [\d.]+", edge[2])]
-        self.assertGreater(heights[0], heights[1])  # y up
-        width = edge[0]
+        whole = self.box("--c0")
+        self.assertIsNone(self.box("--bad"))
         self.paste("LINESTRING(0 0,0 10,1 10,1 x)")  # the part before the refusal
-        self.wait(lambda: self.script("return document.querySelectorAll('#svg .refused .stop').length") == 1)
-        self.assertEqual([width, 2], [self.script(shape)[0][0], self.script(shape)[0][2].count("L")])
-        self.by_id("in").click()
-        self.wait(lambda: self.script(shape)[0][0] > 1.4 * width)
+        front = self.box("--bad")
+        self.assertAlmostEqual(whole[3] - whole[1], front[3] - front[1], delta=8)
+        self.assertIn("dashed", self.said("drawn"))
+        self.assertIn("the part before the refusal: LineString", self.by_id("canvas").get_attribute("aria-label"))
+        self.paste("MULTIPOINT(0 0,1 1)")
+        width = (lambda box: box[2] - box[0])(self.box("--c0"))
+        self.by_id("out-zoom").click()
+        self.wait(lambda: (lambda box: box[2] - box[0])(self.box("--c0")) < 0.8 * width)
 
     def test_undo(self):
         """What is put in place of typed text is undone by the browser's own history, step by step."""

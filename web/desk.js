@@ -1,0 +1,140 @@
+// The texts of the field, in a worker: each is answered once. What the picture needs of the answers stays here.
+import { isRefusal } from './refusals.js';
+import { Range } from './range.js';
+import { Summary } from './summary.js';
+
+/** For how many milliseconds it answers, before it looks what else is asked. */
+const SLICE = 12;
+
+const channel = new MessageChannel();
+let waiting = [];
+channel.port1.onmessage = () => {
+  const all = waiting;
+  waiting = [];
+  for (const go of all) go();
+};
+
+/** Lets the worker take its messages. */
+export const pause = () => new Promise((go) => {
+  if (waiting.push(go) === 1) channel.port2.postMessage(0);
+});
+
+const AXES = ['x', 'y', 'z', 'm'];
+
+const boundsOf = (ranges) => Object.fromEntries(AXES.map((name) => [name, ranges[name].empty ? null : [ranges[name].lowText, ranges[name].highText]]));
+
+/** What the page shows of a canonical text. */
+function factsOf(summary) {
+  const { kind, dimension, points, rings, polygons, holes, members, levels, empty, open, short, x, y, z, m } = summary;
+  const lines = summary.leaves.some((leaf) => !leaf.area && !leaf.dots);
+  return { kind, dimension, points, rings, polygons, holes, members, levels, empty, open, short, lines,
+    bounds: boundsOf({ x, y, z, m }) };
+}
+
+export class Desk {
+  /** The texts in their order: id, text, accepted, canonical, summary. One that isn't answered yet is not accepted. */
+  rows = [];
+
+  #wkt;
+  #post;
+  #answered;
+  #places = 18;
+  #left = [];
+  #working = false;
+
+  /** `post` sends the answers away, and `answered` is called when all are there. */
+  constructor(wkt, post, answered) {
+    this.#wkt = wkt;
+    this.#post = post;
+    this.#answered = answered;
+  }
+
+  /** Puts some texts in the place of others. */
+  change({ from, removed, added, places }) {
+    this.#places = places;
+    const rows = added.map(([id, text]) => ({ id, text, accepted: false, front: undefined, gone: false }));
+    for (let i = from; i < from + removed; i++) this.rows[i].gone = true;
+    this.rows = [...this.rows.slice(0, from), ...rows, ...this.rows.slice(from + removed)];
+    this.#left.push(...rows);
+    this.#work();
+  }
+
+  async #work() {
+    if (this.#working) return;
+    this.#working = true;
+    let next = 0;
+    do {
+      const said = [];
+      const until = performance.now() + SLICE;
+      while (next < this.#left.length && performance.now() < until) {
+        const row = this.#left[next++];
+        if (!row.gone) said.push([row.id, this.#answer(row)]);
+      }
+      const left = this.#left.length - next;
+      if (left === 0) this.#left = [];
+      this.#post({ answers: said, left });
+      if (left > 0) await pause();
+    } while (next < this.#left.length);
+    this.#working = false;
+    this.#post({ totals: this.#totals() });
+    this.#answered();
+  }
+
+  #answer(row) {
+    try {
+      row.canonical = this.#wkt.canonical(row.text, { places: this.#places, whole: true });
+      row.summary = new Summary(row.canonical);
+      row.accepted = true;
+      return { accepted: true, canonical: row.canonical, facts: factsOf(row.summary) };
+    } catch (error) {
+      if (!isRefusal(error)) throw error;
+      row.place = error.place;
+      return { accepted: false, words: error.words, status: error.status, place: error.place };
+    }
+  }
+
+  /** What all accepted texts hold together. */
+  #totals() {
+    const all = { geometries: 0, points: 0 };
+    const ranges = Object.fromEntries(AXES.map((name) => [name, new Range()]));
+    for (const { accepted, summary } of this.rows) {
+      if (!accepted) continue;
+      all.geometries++;
+      all.points += summary.points;
+      for (const name of AXES) {
+        const [range, other] = [ranges[name], summary[name]];
+        if (other.empty) continue;
+        if (!range.within(other.low)) range.add(other.low, other.lowText);
+        if (!range.within(other.high)) range.add(other.high, other.highText);
+      }
+    }
+    return { ...all, bounds: boundsOf(ranges) };
+  }
+
+  /** What the picture shows of a row: its canonical text and what that holds, or those of the part before its refusal, or null. */
+  shapeOf(row) {
+    if (row.accepted) return row;
+    if (row.front === undefined) {
+      const canonical = row.place ? this.#readOfRefused(row) : null;
+      row.front = canonical && { canonical, summary: new Summary(canonical) };
+    }
+    return row.front;
+  }
+
+  /** The front of a refused text with its open parentheses closed, if that is accepted: its canonical text, or null. */
+  #readOfRefused({ text, place }) {
+    const front = text.slice(0, place.start);
+    // All that is before the place, else all before the last comma.
+    for (const end of [front.length, front.lastIndexOf(',')]) {
+      let depth = 0;
+      for (let i = 0; i < end; i++) depth += { '(': 1, ')': -1 }[front[i]] ?? 0;
+      if (end <= 0 || depth < 0) continue;
+      try {
+        return this.#wkt.canonical(front.slice(0, end) + ')'.repeat(depth), { places: this.#places, whole: true });
+      } catch (error) {
+        if (!isRefusal(error)) throw error;
+      }
+    }
+    return null;
+  }
+}

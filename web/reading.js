@@ -1,0 +1,285 @@
+// Reads a file in a worker, and joins what some workers count in its blocks. The file is read in pieces; nothing of it is
+// kept but what is counted, listed, and saved.
+import { Blocks, SIZE } from './block.js';
+import { Range } from './range.js';
+import { ASKED, LISTED } from './refusals.js';
+import { Repeats, lineEnd } from './repeats.js';
+import { piecesOf } from './split.js';
+import { LOOKED, formsOf, turned } from './takein.js';
+import { SAMPLE, Tally } from './tally.js';
+
+const PIECE = 4 << 20;
+/** The longest line: its text and its answer stand in the module's memory, which has 4 GB. */
+const LONGEST = 256 << 20;
+/** The longest file that is turned: it stands in memory as a whole. */
+const TURNED = 128 << 20;
+/** How much canonical text is kept to be saved. */
+const KEPT = 2 ** 30;
+const FEED = 10;
+/** How often, in milliseconds, it says how far it is, and what is listed and drawn. */
+const TOLD = 80, LISTS = 600;
+
+/** What the file can't be, said in a user's words. */
+export class Unreadable extends Error {}
+
+/** Words for a file that is no text, by its first bytes; '' where it may be one. */
+function noText([a, b, c, d]) {
+  if ((a === 0xff && b === 0xfe) || (a === 0xfe && b === 0xff)) return 'It is UTF-16. Save it as UTF-8 first.';
+  if (a === 0x1f && b === 0x8b) return 'It is compressed by gzip. Unpack it first.';
+  if (a === 0x50 && b === 0x4b && c < 9 && d < 9) return 'It is a ZIP archive. Unpack it first.';
+  return '';
+}
+
+/** The blocks of another worker, as those of this one are asked. */
+export class FarBlocks {
+  #port;
+  #done = null;
+
+  constructor(port) {
+    this.#port = port;
+    port.onmessage = ({ data }) => (data.failed ? this.#done.reject(new Error(data.failed)) : this.#done.resolve(data));
+  }
+
+  ask(asked) {
+    return new Promise((resolve, reject) => {
+      this.#done = { resolve, reject };
+      this.#port.postMessage(asked);
+    });
+  }
+}
+
+/** Answers one block: what another worker, or this one, is asked for. */
+export async function answerBlock(blocks, { file, from, to, whole, ask, lists }) {
+  const bytes = new Uint8Array(await file.slice(from, to).arrayBuffer());
+  const found = whole ? blocks.one(bytes, ask) : blocks.lines(bytes, ask);
+  return { ...found, counted: lists ? blocks.counted() : null };
+}
+
+/** How the lines of a text are numbered that was turned. */
+const numberOf = (numbers, line) => (numbers ? numbers[line - 1] ?? line : line);
+
+export class Reading {
+  #wkt;
+  #asked;
+  #file;
+  #helpers;
+  #post;
+  #numbers = null;
+  #left = []; // what of the file had no geometry that could be turned
+  #local;
+  #read = new FileReaderSync();
+  #repeats;
+  #counted = new Map();
+  #whys = [];
+  #count = { lines: 0, accepted: 0, blank: 0, refused: 0 };
+  #done = 0;
+  // The canonical lines, as the browser keeps them; null where they became too many.
+  #parts = [];
+  #kept = 0;
+  #started = performance.now();
+  #told = 0;
+  #listed = 0;
+  #forms = [];
+  /** Whether the reader asked to stop. */
+  stopping = false;
+
+  /** `asked` has the file, the places, whether it is one text, and the form that it is turned from; `ports` are of helpers. */
+  constructor(wkt, asked, post) {
+    const seeds = Tally.seeds();
+    this.#wkt = wkt;
+    this.#asked = asked;
+    this.#file = asked.file;
+    this.#post = post;
+    this.#local = new Blocks(wkt, { places: asked.places, seeds });
+    this.#helpers = asked.ports.map((port) => new FarBlocks(port));
+    for (const port of asked.ports) port.postMessage({ seeds });
+    this.#repeats = new Repeats((place, length) => this.#lineAt(place, length));
+  }
+
+  async all() {
+    const first = new Uint8Array(await this.#file.slice(0, LOOKED).arrayBuffer());
+    const words = noText(first);
+    if (words) throw new Unreadable(words);
+    this.#look(first);
+    if (this.#asked.form) await this.#turn();
+    if (this.#asked.split === 'one' && this.#file.size > LONGEST) throw new Unreadable(`One text may have ${LONGEST >> 20} MB here. The command wkt reads longer ones.`);
+    await this.#blocks();
+    this.#tell(true);
+  }
+
+  /** Whether the file is something else that a button turns. */
+  #look(first) {
+    if (this.#asked.form && this.#asked.form.form !== 'pieces') return;
+    this.#forms = formsOf(new TextDecoder('utf-8', { ignoreBOM: true }).decode(first), this.#file.size > first.length);
+  }
+
+  /** Puts the texts of the file, one on each line, in its place. */
+  async #turn() {
+    const { form } = this.#asked;
+    if (this.#file.size > TURNED) throw new Unreadable(`A file of more than ${TURNED >> 20} MB can’t be turned here.`);
+    let text;
+    try {
+      text = new TextDecoder('utf-8', { fatal: true, ignoreBOM: true }).decode(await this.#file.arrayBuffer());
+    } catch {
+      throw new Unreadable('It is not UTF-8.');
+    }
+    if (form.form === 'pieces') {
+      const { texts, lines } = piecesOf(text, 'auto');
+      this.#numbers = lines;
+      this.#file = new Blob([texts.map((it) => it.replaceAll('\n', ' ')).join('\n')]);
+      return;
+    }
+    const { texts, lines, left } = turned(text, form, this.#wkt, this.#asked.places);
+    this.#numbers = lines;
+    this.#left = left;
+    this.#file = new Blob([texts.join('\n')]);
+  }
+
+  /** Where the line ends that goes on at a place: behind its line feed, or at the end of the file. */
+  async #cut(from, at) {
+    let length = 64 << 10;
+    for (let place = at; place < this.#file.size; length = Math.min(2 * length, PIECE)) {
+      const bytes = new Uint8Array(await this.#file.slice(place, place + length).arrayBuffer());
+      const feed = bytes.indexOf(FEED);
+      if (feed >= 0) return place + feed + 1;
+      place += bytes.length;
+      if (place - from > LONGEST + PIECE) throw new Unreadable(`A line behind line ${this.#count.lines} is longer than ${LONGEST >> 20} MB. The command wkt reads it.`);
+    }
+    return this.#file.size;
+  }
+
+  /** Gives a block to each worker as soon as it is free, and takes the answers in the order of the file. */
+  async #blocks() {
+    const { size } = this.#file;
+    const whole = this.#asked.split === 'one';
+    const waiting = [];
+    const free = [...this.#helpers];
+    let from = 0;
+    while (waiting.length > 0 || (from < size && !this.stopping)) {
+      while (from < size && !this.stopping && waiting.length < Math.max(1, this.#helpers.length)) {
+        const to = whole || from + PIECE >= size ? size : await this.#cut(from, from + PIECE - 1);
+        const asked = { file: this.#file, from, to, whole, ask: Math.max(0, ASKED - this.#count.refused), lists: this.#isTime(LISTS) || to === size };
+        const helper = free.pop() ?? null;
+        waiting.push({ from, to, helper, answer: helper ? helper.ask(asked) : answerBlock(this.#local, asked) });
+        from = to;
+      }
+      const { from: place, to, helper, answer } = waiting.shift();
+      const found = await answer;
+      if (helper) free.push(helper);
+      this.#take(found, place, to, helper);
+      this.#tell(false);
+    }
+    for (const helper of this.#helpers) this.#counted.set(helper, (await helper.ask({ counted: true })).counted);
+    this.#counted.set(null, this.#local.counted());
+  }
+
+  #isTime(ms) {
+    return performance.now() - this.#listed > ms;
+  }
+
+  #take({ answers, texts, lines, blank, refusals, kept, counted }, place, to, helper) {
+    const count = this.#count;
+    this.#repeats.begin(answers);
+    for (let i = 0; i < texts.length; i += SIZE) {
+      this.#repeats.add(texts[i + 1], texts[i + 2], answers, texts[i + 3], texts[i + 4], count.lines + texts[i], place + texts[i + 5]);
+    }
+    this.#repeats.settle();
+    if (place === 0) this.#repeats.expect(this.#repeats.entered * this.#file.size / Math.max(1, to));
+    for (const why of refusals.whys.slice(0, ASKED - this.#whys.length)) this.#whys.push({ ...why, line: numberOf(this.#numbers, count.lines + why.line) });
+    count.lines += lines;
+    count.accepted += texts.length / SIZE;
+    count.blank += blank;
+    count.refused += refusals.count;
+    this.#done = to;
+    if (counted) this.#counted.set(helper, counted);
+    this.#keep(kept);
+  }
+
+  #keep(part) {
+    if (this.#parts === null) return;
+    this.#kept += part.size;
+    if (this.#kept > KEPT) this.#parts = null;
+    else this.#parts.push(part);
+  }
+
+  // The part of the file that was read last, since the next line is often in it.
+  #near = { place: 0, bytes: new Uint8Array(0) };
+
+  /** The canonical text, with a line feed, of the line that begins at a place of the file. */
+  #lineAt(place, length) {
+    let bytes;
+    let end;
+    do {
+      bytes = this.#slice(place, length);
+      end = lineEnd(bytes, 0);
+      length *= 2;
+    } while (end === bytes.length && place + end < this.#file.size);
+    return this.#local.lineOf(bytes.subarray(0, end));
+  }
+
+  #slice(place, length) {
+    const { place: start, bytes } = this.#near;
+    const from = place - start;
+    if (from >= 0 && from < bytes.length && lineEnd(bytes, from) < bytes.length) return bytes.subarray(from);
+    const read = new Uint8Array(this.#read.readAsArrayBuffer(this.#file.slice(place, place + length)));
+    this.#near = { place, bytes: read };
+    return read;
+  }
+
+  /** Says how far it is: often in numbers, and less often what is listed and drawn. */
+  #tell(last) {
+    const now = performance.now();
+    if (!last && now - this.#told < TOLD) return;
+    this.#told = now;
+    const { size } = this.#file;
+    const said = { done: last && !this.stopping ? size : this.#done, size, seconds: (now - this.#started) / 1000, ...this.#count,
+      repeats: this.#repeats.count, ...(this.#counted.size > 0 && (last || this.#isTime(LISTS)) ? { lists: this.#lists(now) } : {}) };
+    if (last) Object.assign(said, { last, stopped: this.stopping, saved: this.#parts && new Blob(this.#parts, { type: 'text/plain' }), whys: this.#whys,
+      forms: this.#forms, left: this.#left, numbers: this.#numbers });
+    this.#post(said);
+  }
+
+  #lists(now) {
+    this.#listed = now;
+    const all = joined([...this.#counted.values()]);
+    const reasons = new Map();
+    for (const { hint, expected } of this.#whys) {
+      const reason = hint || `${expected} was expected`;
+      reasons.set(reason, (reasons.get(reason) ?? 0) + 1);
+    }
+    return { ...all, refusals: this.#whys.slice(0, LISTED), reasons: [...reasons], asked: this.#whys.length,
+      repeats: this.#repeats.first.map((pair) => pair.map((line) => numberOf(this.#numbers, line))), entered: this.#repeats.full ? this.#repeats.entered : null };
+  }
+}
+
+/** What was counted by some workers, as one. */
+function joined(counted) {
+  const kinds = {};
+  const ranges = [0, 1, 2, 3].map(() => new Range());
+  let points = 0;
+  for (const part of counted) {
+    points += part.points;
+    for (const [name, n] of Object.entries(part.kinds)) kinds[name] = (kinds[name] ?? 0) + n;
+    part.ranges.forEach((ends, i) => {
+      if (!ends) return;
+      ranges[i].add(ends[0], ends[1]);
+      ranges[i].add(ends[2], ends[3]);
+    });
+  }
+  const [x, y, z, m] = ranges.map((range) => (range.empty ? null : [range.lowText, range.highText]));
+  return { kinds, points, bounds: { x, y, z, m }, sample: sampleOf(counted, points) };
+}
+
+/** Points of all samples, of each as many as its part of all points is. */
+function sampleOf(counted, points) {
+  const all = [];
+  for (const { sample, points: n } of counted) {
+    const had = sample.length / 2;
+    const taken = points <= SAMPLE ? had : Math.min(had, Math.round((SAMPLE * n) / points));
+    for (let k = 0; k < taken; k++) {
+      const i = 2 * Math.floor((k * had) / taken);
+      all.push(sample[i], sample[i + 1]);
+    }
+  }
+  return Float64Array.from(all);
+}

@@ -1,0 +1,183 @@
+// Texts in other clothes: GeoJSON, a column of a CSV, quotes, a byte order mark. What is there is said; a button turns it.
+import { GeoJSONError } from '../javascript/src/index.js';
+import { parseExact } from '../javascript/src/json.js';
+import { firstWord, isKind } from './split.js';
+
+/** So much of a text is looked at, and so many records of it. */
+export const LOOKED = 16384;
+const RECORDS = 50;
+const MARK = '\ufeff';
+
+/** The delimiters of a CSV: the one that gives a column of texts is taken. */
+const DELIMITERS = [',', ';', '\t', '|'];
+
+/** Whether a cell is a text, to the end of its parentheses: a text that a delimiter cuts is none. */
+function isText(cell) {
+  const text = cell.trim();
+  if (!isKind(firstWord(text))) return false;
+  if (/\bempty$/i.test(text)) return true;
+  let depth = 0;
+  for (const c of text) depth += c === '(' ? 1 : c === ')' ? -1 : 0;
+  return depth === 0 && text.endsWith(')');
+}
+
+/** Records of a CSV (RFC 4180), each with its cells and its line. A quote inside of a cell is doubled. */
+export function* records(text, delimiter) {
+  let [at, line] = [0, 1];
+  while (at < text.length) {
+    const cells = [];
+    const first = line;
+    for (;;) {
+      let cell = '';
+      if (text[at] === '"') {
+        for (at++; at < text.length; at++) {
+          const end = text.indexOf('"', at);
+          cell += text.slice(at, end < 0 ? text.length : end);
+          at = end < 0 ? text.length : end + 1;
+          if (text[at] !== '"') break;
+          cell += '"';
+        }
+      }
+      const from = at;
+      while (at < text.length && text[at] !== delimiter && text[at] !== '\n') at++;
+      cells.push(cell + text.slice(from, at));
+      if (text[at] !== delimiter) break;
+      at++;
+    }
+    for (let i = cells.reduce((n, cell) => n + cell.split('\n').length - 1, 0); i > 0; i--) line++;
+    line++;
+    at++;
+    const last = cells[cells.length - 1];
+    if (last.endsWith('\r')) cells[cells.length - 1] = last.slice(0, -1);
+    yield { cells, line: first };
+  }
+}
+
+/** The columns of texts that a CSV has. `cut`: its last record isn't whole. */
+function columnsOf(text, delimiter, cut) {
+  const found = [];
+  for (const record of records(text, delimiter)) {
+    if (record.cells.some((cell) => cell.trim() !== '')) found.push(record.cells);
+    if (found.length > RECORDS) break;
+  }
+  if (cut && found.length <= RECORDS) found.pop();
+  const width = Math.max(0, ...found.map((cells) => cells.length));
+  if (width < 2 || found.length === 0 || found.some(([first]) => /^\s*srid=/i.test(first))) return [];
+  const header = found.length > 1 && !found[0].some(isText) ? found[0] : null;
+  const rows = header ? found.slice(1) : found;
+  return Array.from({ length: width }, (_, i) => i)
+    .filter((i) => {
+      const filled = rows.map((cells) => cells[i] ?? '').filter((cell) => cell.trim() !== '');
+      return filled.filter(isText).length * 2 > filled.length;
+    })
+    .map((column) => ({ form: 'csv', delimiter, column, header: Boolean(header), name: header?.[column].trim() || `${column + 1}` }));
+}
+
+/** A line without its quotes, and the comma or semicolon behind them; null where it has none. */
+function unquoted(line) {
+  const text = line.trim().replace(/[,;]$/, '').trim();
+  const quote = text[0];
+  if (!['"', "'", '`'].includes(quote) || text.length < 2 || !text.endsWith(quote)) return null;
+  return text.slice(1, -1).replaceAll(quote + quote, quote);
+}
+
+function isQuoted(text, cut) {
+  const lines = text.split('\n', RECORDS + 1);
+  if (cut && lines.length <= RECORDS) lines.pop();
+  const filled = lines.filter((line) => line.trim() !== '');
+  return filled.length > 0 && filled.every((line) => isKind(firstWord(unquoted(line) ?? '')));
+}
+
+const isGeoJSON = (text) => /^\s*[[{]/.test(text) && /"(type|coordinates|geometry)"\s*:/.test(text);
+
+/**
+ * What a text is that isn't well-known text as it stands, by its front: forms, each with what `turned` needs. `cut`: the
+ * text is longer than that.
+ */
+export function formsOf(front, cut) {
+  if (front[0] === MARK) return [{ form: 'mark' }];
+  if (isGeoJSON(front)) return [{ form: 'geojson' }];
+  if (isQuoted(front, cut)) return [{ form: 'quotes' }];
+  for (const delimiter of DELIMITERS) {
+    const columns = columnsOf(front, delimiter, cut);
+    if (columns.length > 0) return columns;
+  }
+  return [];
+}
+
+/** All geometries of a value of GeoJSON, each with the number of its feature. */
+function* geometriesOf(value) {
+  const type = value === null || typeof value !== 'object' ? '' : value.type;
+  const features = type === 'FeatureCollection' ? value.features : Array.isArray(value) ? value : [value];
+  if (!Array.isArray(features)) throw new GeoJSONError('features is no list');
+  for (const it of features) yield it !== null && typeof it === 'object' && it.type === 'Feature' ? it.geometry : it;
+}
+
+/** A text of GeoJSON, or lines each of which is one. */
+function values(text) {
+  try {
+    return [parseExact(text)];
+  } catch (error) {
+    const lines = text.split('\n').map((line) => line.replace('\u001e', '').trim()).filter(Boolean);
+    try {
+      if (lines.length > 1) return lines.map(parseExact);
+    } catch {
+      // It is no GeoJSON by lines either: what is wrong with the whole is said.
+    }
+    throw error;
+  }
+}
+
+function ofGeoJSON(text, wkt, places) {
+  const out = { texts: [], lines: [], left: [] };
+  let n = 0;
+  for (const value of values(text)) {
+    for (const geometry of geometriesOf(value)) {
+      n++;
+      if (geometry === null || geometry === undefined) {
+        out.left.push(`feature ${n}: it has no geometry`);
+        continue;
+      }
+      try {
+        out.texts.push(wkt.fromGeoJSON(geometry, { places }));
+        out.lines.push(n);
+      } catch (error) {
+        out.left.push(`feature ${n}: ${error.message}`);
+      }
+    }
+  }
+  return out;
+}
+
+function ofCsv(text, { delimiter, column, header }) {
+  const out = { texts: [], lines: [], left: [] };
+  let first = header;
+  for (const { cells, line } of records(text, delimiter)) {
+    const cell = cells[column] ?? '';
+    if (!first && cell.trim() !== '') {
+      out.texts.push(cell);
+      out.lines.push(line);
+    } else if (!first && cells.some((it) => it.trim() !== '')) {
+      out.left.push(`line ${line}: the cell is empty`);
+    }
+    first = false;
+  }
+  return out;
+}
+
+function ofQuotes(text) {
+  const lines = text.split('\n').map((line, i) => [unquoted(line) ?? line, i + 1]).filter(([line]) => line.trim() !== '');
+  return { texts: lines.map(([line]) => line), lines: lines.map(([, n]) => n), left: [] };
+}
+
+/** The texts that such a text has, one on each line, the lines that they had, and words about what was left out. */
+export function turned(text, form, wkt, places) {
+  const whole = text[0] === MARK ? text.slice(1) : text;
+  const { texts, lines, left } = {
+    mark: () => ({ texts: whole.split('\n'), lines: null, left: [] }),
+    geojson: () => ofGeoJSON(whole, wkt, places),
+    quotes: () => ofQuotes(whole),
+    csv: () => ofCsv(whole, form),
+  }[form.form]();
+  return { texts: texts.map((it) => it.replaceAll('\n', ' ')), lines, left };
+}

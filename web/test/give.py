@@ -1,0 +1,195 @@
+"""What the page takes in and gives out, what it says of a place in the picture, and how fluent it is."""
+import json
+import os
+import time
+
+from chromium import Page
+from selenium.webdriver import ActionChains
+from selenium.webdriver.common.by import By
+from selenium.webdriver.common.keys import Keys
+from selenium.webdriver.support.ui import Select
+
+LINES = "POINT(0.10 2)\nLINESTRING(1 2)\nPOLYGON((0 0,0 1,1 1,0 0))\nPOINT(1)\nPOINT M(1 2 3)"
+# A text; the words on the button; what stands in the field then.
+TAKEN = [
+    ("\ufeffPOINT(1 2)", "Take it off", "POINT(1 2)"),
+    ('{"type":"Feature","geometry":{"type":"Point","coordinates":[0.1,2]}}', "Turn it into WKT", "POINT(0.1 2)"),
+    ('id,geom\n1,"LINESTRING(0 0,1 1)"\n2,POINT(1 2)', "Take column “geom”", "LINESTRING(0 0,1 1)\nPOINT(1 2)"),
+    ("'POINT(1 2)',\n'POINT(3 4)'", "Take them off", "POINT(1 2)\nPOINT(3 4)"),
+]
+# Milliseconds of the main thread for one key, beside those of a bare field with the same text; and to the answer.
+KEY, ANSWER = 16, 50
+KEYS = 25
+
+
+class Give(Page):
+    def choose(self, **chosen):
+        for name, value in chosen.items():
+            Select(self.by_id("give-" + name)).select_by_value(value)
+
+    def saved(self, name):
+        path = os.path.join(self.folder.name, name)
+        self.by_id("give-save").click()
+        self.wait(lambda: os.path.exists(path) and self.said("given").startswith("Saved"))
+        with open(path, encoding="utf-8", newline="") as file:
+            text = file.read()
+        os.remove(path)
+        return text
+
+    def test_given(self):
+        self.open()
+        self.paste(LINES)
+        self.assertEqual(
+            "POINT(0.1 2)\nLINESTRING(1 2)\nPOLYGON((0 0,0 1,1 1,0 0))\nPOINT M(1 2 3)\n",
+            self.saved("texts.canonical.wkt"),
+        )
+        self.assertIn("1 refused line left out", self.said("given"))
+        self.choose(form="geojson", m="drop")
+        features = json.loads(self.saved("texts.geojson"))["features"]
+        self.assertEqual([1, 3, 5], [it["properties"]["line"] for it in features])
+        self.assertEqual([[[0, 0], [1, 1], [0, 1], [0, 0]]], features[1]["geometry"]["coordinates"])  # RFC 7946, 3.1.6
+        self.assertEqual([1, 2], features[2]["geometry"]["coordinates"])
+        self.assertIn("line 2: a line has less than two positions", self.said("given"))
+        self.choose(form="csv")
+        self.assertEqual("4,8,a second number,),,POINT(1)", self.saved("texts.refusals.csv").split("\r\n")[1])
+        self.choose(form="wkt", refused="keep")
+        self.by_id("give-copy").click()
+        self.wait(lambda: self.said("given").startswith("Copied"))
+        self.by_id("text").send_keys(Keys.CONTROL, "av")
+        self.assertEqual("refused", self.value().split("\n")[3])
+
+    def test_given_of_a_file(self):
+        self.open()
+        self.drop(self.file("\n".join(["POINT(1 2)", "POINT(1)"] * 30000)))
+        self.wait(lambda: self.said("say") == "30,000 of 60,000 lines refused")
+        self.choose(form="geojson", refused="drop")
+        features = json.loads(self.saved("texts.geojson"))["features"]
+        self.assertEqual((30000, 59999), (len(features), features[-1]["properties"]["line"]))
+        self.choose(form="csv")
+        self.assertEqual(20001, self.saved("texts.refusals.csv").count("\r\n"))
+        self.assertIn("the first 20,000 of 30,000 refusals", self.said("given"))
+
+    def test_taken(self):
+        self.open()
+        for text, words, wanted in TAKEN:
+            with self.subTest(words):
+                self.paste(text)
+                (button,) = self.driver.find_elements(By.CSS_SELECTOR, "#offer button")
+                self.assertEqual(words, button.text)
+                button.click()
+                self.wait(lambda wanted=wanted: self.value() == wanted)
+                self.assertIn("ccepted", self.said("say"))
+                self.undo()
+                self.assertEqual("", self.value().replace(text, ""))
+        self.paste("POINT(1 2)")
+        self.assertFalse(self.by_id("offer").is_displayed())
+        self.paste('[{"type":"Point","coordinates":[1,2]},{"type":"Feature","geometry":null}]')
+        self.driver.find_element(By.CSS_SELECTOR, "#offer button").click()
+        self.wait(lambda: "1 left out: feature 2: it has no geometry." in self.said("offer"))
+
+    def test_file_taken(self):
+        self.open()
+        rows = "".join(f'{n},"POINT({n}.0 1)"\r\n' for n in range(30000))
+        self.drop(self.file("id,wkt\r\n" + rows + "30000,POINT(1)\r\n", "table.csv"))
+        self.wait(lambda: "refused" in self.said("say"))
+        self.driver.find_element(By.CSS_SELECTOR, "#file-out .offer button").click()
+        self.wait(lambda: self.said("say") == "1 of 30,001 lines refused")
+        self.assertIn("line 30,002, column 8", self.said("file-out"))
+        self.drop(self.file("POLYGON((0 0,\n1 0,1 1,0 0))\n" * 20000 + "POINT(1\n"))
+        self.wait(lambda: self.said("say") == "1 of 20,001 lines refused")
+        self.assertIn("line 40,001", self.said("file-out"))
+
+    def test_readout(self):
+        self.open()
+        self.paste("POLYGON((0 0,30 0,30 40.50,0 0))\nPOINT(1 1)")
+        self.driver.find_element(By.CSS_SELECTOR, "#rows tr").click()
+        self.by_id("canvas").send_keys("")
+        for _ in range(3):
+            self.press(".")
+        self.wait(lambda: "30 40.5" in self.said("vertex"))
+        self.assertEqual("30 40.5 · vertex 3 of 4 vertices · ring: length 120.901 · line 1", self.said("vertex"))
+        self.press(",")
+        self.wait(lambda: "30 0 · vertex 2 of 4" in self.said("vertex"))
+        left, top, right, bottom = self.box("--c0")
+        canvas = self.by_id("canvas")
+        size = canvas.size
+        x, y = (left + right) / 2 - size["width"] / 2, bottom - 6 - size["height"] / 2
+        ActionChains(self.driver).move_to_element_with_offset(canvas, round(x), round(y)).perform()
+        self.wait(lambda: "4 vertices in the ring" in self.script("return document.getElementById('readout').textContent"))
+
+    def test_spoken_once(self):
+        """The live region speaks when one has stopped typing, and not at each key."""
+        self.open()
+        self.type("P")
+        self.wait(lambda: "expected" in self.script("return document.getElementById('spoken').textContent"))
+        self.script(
+            "window.spoken = []; new MutationObserver(() =>"
+            " window.spoken.push(document.getElementById('spoken').textContent))"
+            ".observe(document.getElementById('spoken'), { childList: true, subtree: true, characterData: true });"
+            "const t = document.getElementById('text'); for (const c of 'OINT(1 2)') { t.value += c;"
+            " t.dispatchEvent(new Event('input')); }"
+        )
+        self.wait(lambda: self.script("return window.spoken.length"))
+        time.sleep(1)
+        self.assertEqual(["Accepted: Point. It has 1 point."], self.script("return window.spoken"))
+        live = self.script("return [...document.querySelectorAll('[role=status], [aria-live]')].map((e) => e.id)")
+        self.assertEqual(["spoken", "vertex", "given"], sorted(live, key=["spoken", "vertex", "given"].index))
+
+    def test_labels(self):
+        """Labels of numbers of 20 digits don't overlap."""
+        self.open()
+        for text in ("LINESTRING(12345678901234567890 1,12345678901234569999 2)", "MULTIPOINT(-0.00000000012345 5,1e9 6)"):
+            self.paste(text.replace("1e9", "1000000000.123456789"))
+            labels = json.loads(self.by_id("canvas").get_attribute("data-labels"))
+            self.assertGreater(len(labels), 1)
+            for i, (x, y, width) in enumerate(labels):
+                for other, at, wide in labels[:i]:
+                    self.assertFalse(abs(y - at) < 11 and x < other + wide and other < x + width, text)
+
+    def key(self):
+        """Milliseconds of processor of the main thread that a key takes, and what the clock says to the answer."""
+        def busy():
+            found = self.driver.execute_cdp_cmd("Performance.getMetrics", {})["metrics"]
+            return 1000 * next(it["value"] for it in found if it["name"] == "TaskDuration")
+
+        before = busy()
+        for kind in ("keyDown", "keyUp"):
+            key = {"type": kind, "key": "5", **({"text": "5"} if kind == "keyDown" else {})}
+            self.driver.execute_cdp_cmd("Input.dispatchKeyEvent", key)
+        time.sleep(0.4)
+        self.settled()
+        return busy() - before
+
+    def test_typing(self):
+        """One key in ten thousand lines: the page adds little to what the field itself takes, and answers at once."""
+        text = "\n".join(f"POLYGON(({n} 0,4.25 0,2.125 4,{n} 0))" for n in range(10000))
+        self.driver.execute_cdp_cmd("Performance.enable", {"timeDomain": "threadTicks"})
+        pages = {}
+        self.open()
+        pages["page"] = self.driver.current_window_handle
+        self.paste(text)
+        self.assertLess(len(self.driver.find_elements(By.CSS_SELECTOR, "#rows tr, #mirror > div")), 120)
+        self.script(
+            "window.answered = []; let begun = 0; const verdict = document.getElementById('verdict');"
+            "document.getElementById('text').addEventListener('input', () => { begun = performance.now() }, true);"
+            "new MutationObserver(() => verdict.getAttribute('aria-busy') === 'false' && begun &&"
+            " window.answered.push(performance.now() - begun)).observe(verdict, { attributeFilter: ['aria-busy'] })"
+        )
+        put = "const t = document.getElementById('text'); t.focus(); t.setSelectionRange(arguments[0], arguments[0])"
+        took = {"page": [], "bare": []}
+        self.script(put, 3000)
+        for _ in range(KEYS):
+            took["page"].append(self.key())
+        answered = self.script("return window.answered")
+        self.assertGreaterEqual(len(answered), KEYS)
+        self.driver.get("data:text/html,<textarea id=text spellcheck=false style='width:600px;height:300px;white-space:pre'>")
+        self.script("document.getElementById('text').value = arguments[0]", text)
+        self.script(put, 3000)
+        self.settled = lambda: None
+        for _ in range(KEYS):
+            took["bare"].append(self.key())
+        del self.settled
+        page, bare = min(took["page"]), min(took["bare"])
+        self.note(f"a key in 10,000 lines: {page:.0f} ms of the main thread, {bare:.0f} in a bare field; {min(answered):.0f} ms to the answer")
+        self.assertLess(page - bare, KEY, took)
+        self.assertLess(min(answered), ANSWER, answered)

@@ -1,0 +1,128 @@
+// What the page takes in beside well-known text, and what it gives out: node --test web/test/give.test.js
+import assert from 'node:assert/strict';
+import { test } from 'node:test';
+import { load } from '../../javascript/src/node.js';
+import { asRfc7946, cell, formed, tableOf } from '../features.js';
+import { describe, found, lengthOf, stepped } from '../hit.js';
+import { Summary } from '../summary.js';
+import { formsOf, records, turned } from '../takein.js';
+
+const wkt = await load(process.env.WKT_WASM ?? undefined);
+
+// A text; the forms that it has; what each is turned into.
+const FORMS = [
+  ['\ufeffPOINT(1 2)\nPOINT(3 4)', ['mark'], [['POINT(1 2)', 'POINT(3 4)']]],
+  ['"POINT(1 2)"\n\n\'POINT(3 4)\',\n', ['quotes'], [['POINT(1 2)', 'POINT(3 4)']]],
+  ['id,geom\n1,"LINESTRING(0 0,1 1)"\n2,"POINT(1\n2)"\n3,\n', ['csv geom'], [['LINESTRING(0 0,1 1)', 'POINT(1 2)']]],
+  ['POINT(1 2);a ""b"";POINT EMPTY\r\nPOINT(3 4);;POINT(5 6)\r\n', ['csv 1', 'csv 3'], [['POINT(1 2)', 'POINT(3 4)'], ['POINT EMPTY', 'POINT(5 6)']]],
+  ['name\tthe_geom\nx\tPOLYGON((0 0,1 0,1 1,0 0))\n', ['csv the_geom'], [['POLYGON((0 0,1 0,1 1,0 0))']]],
+  ['{"type":"Point","coordinates":[0.1,12345678901234567890]}', ['geojson'], [['POINT(0.1 12345678901234567890)']]],
+  ['{"type":"FeatureCollection","features":[{"type":"Feature","geometry":{"type":"Point","coordinates":[1,2,3]}},{"type":"Feature","geometry":null}]}',
+    ['geojson'], [['POINT Z(1 2 3)']]],
+  ['{"type":"Point","coordinates":[1,2]}\n{"type":"Point","coordinates":[3,4]}\n', ['geojson'], [['POINT(1 2)', 'POINT(3 4)']]],
+  ...['POINT(1 2)', 'LINESTRING(0 0,1 1)\nLINESTRING(2 2,3 3)', 'SRID=4326;POINT(1 2)\nSRID=4326;POINT(3 4)', 'POINT(1,2)', '', 'a,b\n1,2', '"POINT(1 2)', '[1,2]',
+    'MULTIPOINT((1 2),(3 4))'].map((text) => [text, [], []]),
+];
+test('texts in other clothes', () => {
+  for (const [text, forms, texts] of FORMS) {
+    const got = formsOf(text, false);
+    assert.deepEqual(got.map(({ form, name }) => (name ? `${form} ${name}` : form)), forms, text);
+    assert.deepEqual(got.map((form) => turned(text, form, wkt, 18).texts), texts, text);
+  }
+});
+
+test('what has no text is left out, and said', () => {
+  const left = (text) => turned(text, formsOf(text, false)[0], wkt, 18).left;
+  assert.deepEqual(left('id,geom\n1,POINT(1 2)\n2,\n'), ['line 3: the cell is empty']);
+  assert.match(left('[{"type":"Point","coordinates":[1,2]},{"type":"Feature","geometry":null},{"type":"Point","coordinates":[1,2,3,4]}]').join('; '),
+    /^feature 2: it has no geometry; feature 3: a position has two numbers, or three, and not 4$/);
+  assert.throws(() => turned('{"type":"Point","coordinates":[1,2]', { form: 'geojson' }, wkt, 18), SyntaxError);
+});
+
+test('records of RFC 4180', () => {
+  const found = [...records('a,"b ""c"",\n d",e\r\n\r\n,"",\nlast', ',')];
+  assert.deepEqual(found.map(({ cells }) => cells), [['a', 'b "c",\n d', 'e'], [''], ['', '', ''], ['last']]);
+  assert.deepEqual(found.map(({ line }) => line), [1, 3, 4, 5]);
+});
+
+const SQUARE = '0 0,1 0,1 1,0 1,0 0';
+const TURNED = '0 0,0 1,1 1,1 0,0 0';
+// A canonical text; what is asked; the text of RFC 7946, or words of the error.
+const RFC = [
+  [`POLYGON((${TURNED}),(${SQUARE}))`, {}, `POLYGON((${SQUARE}),(${TURNED}))`],
+  [`POLYGON((${TURNED}),(${SQUARE}))`, { winding: 'keep' }, `POLYGON((${TURNED}),(${SQUARE}))`],
+  [`MULTIPOLYGON(((${TURNED})),EMPTY,((${SQUARE}),(${SQUARE})))`, {}, `MULTIPOLYGON(((${SQUARE})),EMPTY,((${SQUARE}),(${TURNED})))`],
+  [`GEOMETRYCOLLECTION(POINT(1 2),GEOMETRYCOLLECTION(POLYGON((${TURNED})),POLYGON EMPTY),LINESTRING(1 2,3 4))`, {},
+    `GEOMETRYCOLLECTION(POINT(1 2),GEOMETRYCOLLECTION(POLYGON((${SQUARE})),POLYGON EMPTY),LINESTRING(1 2,3 4))`],
+  ['POLYGON((0 0,1 0,1 1))', {}, /doesn’t end where it begins/],
+  ['POLYGON((0 0,1 0,1 1))', { rings: 'close' }, 'POLYGON((0 0,1 0,1 1,0 0))'],
+  ['POLYGON((0 0,1 0,0 0))', {}, /less than four/],
+  ['LINESTRING(1 2)', {}, /less than two/],
+  ['MULTILINESTRING((1 2,3 4),(5 6))', {}, /less than two/],
+  // Doubles don't tell these corners apart: the sign of the area is exact.
+  ['POLYGON((1 1,1 1.000000000000000001,1.000000000000000001 1,1 1))', {}, 'POLYGON((1 1,1.000000000000000001 1,1 1.000000000000000001,1 1))'],
+  // A ring is closed without its m.
+  ['POLYGON M((0 0 1,1 0 2,1 1 3,0 0 4))', { winding: 'keep' }, 'POLYGON M((0 0 1,1 0 2,1 1 3,0 0 4))'],
+  ['POINT ZM EMPTY', {}, 'POINT ZM EMPTY'], ['MULTIPOINT((1 2),(3 4))', {}, 'MULTIPOINT((1 2),(3 4))'],
+];
+test('rings and lines of RFC 7946', () => {
+  for (const [text, asked, wanted] of RFC) {
+    const make = () => asRfc7946(text, { winding: 'right-hand', rings: 'refuse', ...asked });
+    if (typeof wanted === 'string') assert.equal(make(), wanted);
+    else assert.throws(make, (error) => error.name === 'GeoJSONError' && wanted.test(error.message), text);
+  }
+});
+
+function given(lines, asked) {
+  const pieces = formed(wkt, lines, { rings: 'refuse', winding: 'keep', m: 'refuse', refused: 'drop', numberOf: (n) => 10 * n, ...asked });
+  let text = '';
+  for (;;) {
+    const { value, done } = pieces.next();
+    if (done) return { text, left: value };
+    text += value;
+  }
+}
+const LINES = ['POINT(0.1 2)', 'refused', 'LINESTRING(1 2)', 'POINT M(1 2 3)', 'POINT ZM(1 2 3 4)'];
+
+test('features of GeoJSON', () => {
+  const { text, left } = given(LINES, { form: 'geojson', m: 'drop' });
+  const point = (line, ...coordinates) => ({ type: 'Feature', properties: { line }, geometry: { type: 'Point', coordinates } });
+  assert.deepEqual(JSON.parse(text), { type: 'FeatureCollection', features: [point(10, 0.1, 2), point(40, 1, 2), point(50, 1, 2, 3)] });
+  assert.deepEqual(left, [{ line: 30, why: 'a line has less than two positions' }]);
+  const kept = given(LINES, { form: 'geojson', refused: 'keep' });
+  assert.deepEqual(JSON.parse(kept.text).features.map(({ geometry, properties }) => [properties.line, geometry === null, 'refused' in properties]),
+    [[10, false, false], [20, true, true], [30, true, true], [40, true, true], [50, true, true]]);
+  assert.deepEqual(JSON.parse(given([], { form: 'geojson' }).text), { type: 'FeatureCollection', features: [] });
+});
+
+test('canonical lines', () => {
+  assert.equal(given(LINES.slice(0, 3), { form: 'wkt' }).text, 'POINT(0.1 2)\nLINESTRING(1 2)\n');
+  assert.equal(given(LINES.slice(0, 3), { form: 'wkt', refused: 'keep' }).text, 'POINT(0.1 2)\nrefused\nLINESTRING(1 2)\n');
+});
+
+test('a table of refusals', () => {
+  const why = { line: 3, column: 7, expected: 'a first number, `(` or EMPTY', found: '=1+2', hint: '', caret: 'POINT("a")\n      ^' };
+  assert.deepEqual([...records(tableOf([why]), ',')].map(({ cells }) => cells),
+    [['line', 'column', 'expected', 'found', 'hint', 'text'], ['3', '7', 'a first number, `(` or EMPTY', "'=1+2", '', 'POINT("a")']]);
+  assert.deepEqual(['\u202e', '-1', 'a\nb'].map(cell), ['\\u{202e}', "'-1", 'a\\x0ab']);
+});
+
+test('what lies at a place of the picture', () => {
+  const shape = (canonical, id) => ({ row: { id }, canonical, summary: new Summary(canonical) });
+  const shapes = [shape('POLYGON((0 0,10 0,10 10,0 10,0 0),(2 2,2 4,4 4,4 2,2 2))', 1), shape('POINT(20.500 1)', 2)];
+  const at = (x, y) => (found(shapes, x, y, 0.5) ? describe(found(shapes, x, y, 0.5)) : null);
+  const ring = { id: 1, what: 'ring', ring: 1, rings: 2, vertices: 5, length: 40 };
+  assert.deepEqual(at(10.2, 9.9), { ...ring, digits: '10 10', vertex: 3 });
+  assert.deepEqual(at(10.2, 5), { ...ring, vertex: null });
+  assert.deepEqual(at(2, 3), { ...ring, what: 'hole', ring: 2, length: 8, vertex: null });
+  assert.deepEqual(at(7, 7), { id: 1, points: 10 });
+  assert.deepEqual(at(3, 3), null); // in the hole
+  assert.deepEqual(at(20.4, 1.2), { id: 2, digits: '20.500 1' });
+  assert.equal(lengthOf([0, 0, 3, 4, 3, 5]), 6);
+  let [place, seen] = [null, []];
+  for (let i = 0; i < 11; i++) {
+    place = stepped(shapes[0], place, 1);
+    seen.push(describe(place).digits);
+  }
+  assert.deepEqual([seen[0], seen[1], seen[5], seen[10]], ['0 0', '10 0', '2 2', '0 0']);
+});
