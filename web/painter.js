@@ -13,7 +13,13 @@ const REACH = 9;
 /** For how many milliseconds it draws, before the worker looks what else is asked. */
 const SLICE = 8;
 
-const frame = () => new Promise((go) => (self.requestAnimationFrame ? requestAnimationFrame(go) : setTimeout(go, 16)));
+/** The longest time to the next frame, in milliseconds: a browser may show none to a worker. */
+const FRAME = 100;
+
+const frame = () => new Promise((go) => {
+  setTimeout(go, self.requestAnimationFrame ? FRAME : 16);
+  self.requestAnimationFrame?.(go);
+});
 
 export class Painter {
   #desk;
@@ -171,11 +177,14 @@ export class Painter {
   /** Draws before the next frame. */
   draw() {
     this.#wanted = true;
-    if (!this.#painting && this.#colors) this.#paint();
+    if (this.#painting || !this.#colors) return;
+    this.#painting = true;
+    this.#paint().catch((error) => this.#post({ failed: String(error) })).finally(() => {
+      this.#painting = false;
+    });
   }
 
   async #paint() {
-    this.#painting = true;
     while (this.#wanted) {
       await frame();
       this.#wanted = false;
@@ -193,7 +202,6 @@ export class Painter {
       this.#show();
       this.#post({ drawn: { ...this.#words, painted: ++this.#painted } });
     }
-    this.#painting = false;
   }
 
   /** Puts what is drawn on the page at once, and a circle around the vertex that is looked at. */
@@ -230,6 +238,7 @@ export class Painter {
     if (this.#view) {
       const scale = scaleOf(this.#view, this.#middle);
       const labels = drawGrid(to, { w, h }, this.#view, scale, colors);
+      drawLabels(to, labels, colors);
       const pen = new Pen(to, scale);
       if (this.#points) this.#sample(pen);
       const all = shapes.reduce((n, { summary }) => n + summary.points, 0);
@@ -240,7 +249,6 @@ export class Painter {
         this.#shape(pen, shape, on(shape), all);
         yield;
       }
-      drawLabels(to, labels, colors);
       this.#words.labels = labels.map(({ x, y, width: wide }) => [x, y, wide].map(Math.round));
     }
   }

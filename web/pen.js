@@ -2,9 +2,9 @@
 
 /** A point so near to the one before it, in pixels, is left out. */
 const SAME = 0.35;
-/** Between two labels of an axis there is so much room, and so much around the digits of one. */
-const APART = 14, AROUND = 3;
-export const FONT = '11px ui-monospace, Menlo, Consolas, "DejaVu Sans Mono", monospace';
+/** Between two labels of an axis there is so much room. */
+const APART = 14;
+const FONT = '11px ui-monospace, Menlo, Consolas, "DejaVu Sans Mono", monospace';
 
 /** 1, 2 or 5 times a power of ten, and at least `raw`. */
 export function niceStep(raw) {
@@ -69,17 +69,10 @@ export function drawGrid(to, { w, h }, view, { X, Y }, colors) {
   return labels;
 }
 
-/** The labels lie on the geometries: what is behind one is dimmed. */
+/** Writes the labels. The geometries lie on them. */
 export function drawLabels(to, labels, colors) {
-  to.font = FONT;
-  for (const { words, x, y, width } of labels) {
-    to.globalAlpha = 0.75;
-    to.fillStyle = colors.card;
-    to.fillRect(x - AROUND, y - 10, width + 2 * AROUND, 13);
-    to.globalAlpha = 1;
-    to.fillStyle = colors.faint;
-    to.fillText(words, x, y);
-  }
+  to.fillStyle = colors.faint;
+  for (const { words, x, y } of labels) to.fillText(words, x, y);
 }
 
 export class Pen {

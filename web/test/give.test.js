@@ -21,7 +21,7 @@ const FORMS = [
     ['geojson'], [['POINT Z(1 2 3)']]],
   ['{"type":"Point","coordinates":[1,2]}\n{"type":"Point","coordinates":[3,4]}\n', ['geojson'], [['POINT(1 2)', 'POINT(3 4)']]],
   ...['POINT(1 2)', 'LINESTRING(0 0,1 1)\nLINESTRING(2 2,3 3)', 'SRID=4326;POINT(1 2)\nSRID=4326;POINT(3 4)', 'POINT(1,2)', '', 'a,b\n1,2', '"POINT(1 2)', '[1,2]',
-    'MULTIPOINT((1 2),(3 4))'].map((text) => [text, [], []]),
+    'MULTIPOINT((1 2),(3 4))', 'LINESTRING(0 0,1 1)\nPOINT(1)\nPOINT(2)', 'POINT(1)\nPOINT(2)\nLINESTRING(0 0,1 1)\n'].map((text) => [text, [], []]),
 ];
 test('texts in other clothes', () => {
   for (const [text, forms, texts] of FORMS) {
