@@ -17,7 +17,7 @@ TAKEN = [
     ('id,geom\n1,"LINESTRING(0 0,1 1)"\n2,POINT(1 2)', "Take column “geom”", "LINESTRING(0 0,1 1)\nPOINT(1 2)"),
     ("'POINT(1 2)',\n'POINT(3 4)'", "Take them off", "POINT(1 2)\nPOINT(3 4)"),
 ]
-# How many times the processor time that a key takes in a bare field it may take in the page; and how many keys are tried.
+# How many times the processor time of a bare field a key may take in the page, and how many keys are tried.
 TIMES, KEYS = 3, 25
 
 
@@ -138,8 +138,11 @@ class Give(Page):
     def test_labels(self):
         """Labels of numbers of 20 digits don't overlap."""
         self.open()
-        for text in ("LINESTRING(12345678901234567890 1,12345678901234569999 2)", "MULTIPOINT(-0.00000000012345 5,1e9 6)"):
-            self.paste(text.replace("1e9", "1000000000.123456789"))
+        for text in (
+            "LINESTRING(12345678901234567890 1,12345678901234569999 2)",
+            "MULTIPOINT(-0.00000000012345 5,1000000000.123456789 6)",
+        ):
+            self.paste(text)
             labels = json.loads(self.by_id("canvas").get_attribute("data-labels"))
             self.assertGreater(len(labels), 1)
             for i, (x, y, width) in enumerate(labels):
@@ -162,7 +165,7 @@ class Give(Page):
         return busy() - before
 
     def test_typing(self):
-        """One key in ten thousand lines: a few lines stand in the document, and the field itself takes most of the time."""
+        """One key in ten thousand lines: few lines stand in the document; the key is compared with one in a bare field."""
         text = "\n".join(f"POLYGON(({n} 0,4.25 0,2.125 4,{n} 0))" for n in range(10000))
         self.driver.execute_cdp_cmd("Performance.enable", {"timeDomain": "threadTicks"})
         self.open()
