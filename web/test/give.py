@@ -165,7 +165,7 @@ class Give(Page):
         return busy() - before
 
     def test_typing(self):
-        """One key in ten thousand lines: few lines stand in the document; the key is compared with one in a bare field."""
+        """One key in ten thousand lines, beside one in a bare field; few of the lines stand in the document."""
         text = "\n".join(f"POLYGON(({n} 0,4.25 0,2.125 4,{n} 0))" for n in range(10000))
         self.driver.execute_cdp_cmd("Performance.enable", {"timeDomain": "threadTicks"})
         self.open()
