@@ -25,7 +25,10 @@ export class Painter {
   #desk;
   #post;
   #canvas;
+  // What is drawn on. A context is asked for once: Firefox refuses a second time.
+  #front = null;
   #back = null;
+  #to = null;
   #size = { w: 1, h: 1, ratio: 1 };
   #colors = null;
   /** The middle of the picture in the geometry's units, and pixels for a unit; null where there is nothing to draw. */
@@ -190,10 +193,13 @@ export class Painter {
       this.#wanted = false;
       const { w, h, ratio } = this.#size;
       const [wide, high] = [Math.round(w * ratio), Math.round(h * ratio)];
-      if (this.#back?.width !== wide || this.#back?.height !== high) this.#back = new OffscreenCanvas(wide, high);
+      if (this.#back?.width !== wide || this.#back?.height !== high) {
+        this.#back = new OffscreenCanvas(wide, high);
+        this.#to = this.#back.getContext('2d');
+      }
       this.#whole = false;
       let until = performance.now() + SLICE;
-      for (const _ of this.#steps(this.#back.getContext('2d'))) {
+      for (const _ of this.#steps(this.#to)) {
         if (performance.now() < until) continue;
         await pause();
         until = performance.now() + SLICE;
@@ -206,9 +212,10 @@ export class Painter {
 
   /** Puts what is drawn on the page at once, and a circle around the vertex that is looked at. */
   #show() {
-    if (this.#painting && !this.#whole) return; // it is half drawn, and shown soon
+    if (!this.#back || (this.#painting && !this.#whole)) return; // it is half drawn, and shown soon
     const { width, height } = this.#back;
-    const front = this.#canvas.getContext('2d');
+    this.#front ??= this.#canvas.getContext('2d');
+    const front = this.#front;
     if (this.#canvas.width !== width || this.#canvas.height !== height) Object.assign(this.#canvas, { width, height });
     else front.clearRect(0, 0, width, height);
     front.drawImage(this.#back, 0, 0);
