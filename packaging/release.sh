@@ -3,8 +3,8 @@
 #
 # release.sh [OUT]: into OUT (packaging/out): wkt-proved-VERSION/ and its .tar.gz, a source release that needs a C compiler
 # and make, with the proved objects of each processor and what is built over them: the library, the programs, the
-# extensions, the Python package, the Rust crate; the wheel of the Python package; and the package for JavaScript, as npm
-# lays it out. It runs `make check` in the release.
+# extensions, the Python package, the Rust crate; the wheel of the Python package; the package for JavaScript, as npm lays
+# it out; and beside them what they are made of and their sums (sbom.py). It runs `make check` in the release.
 # VERSION is that of include/wkt.h. All times are the date of that version in CHANGELOG.md, or of the commit while it has none.
 set -eu
 unset WKT_C_LIB WKT_LIB_DIR # which would put another library in the place of its own
@@ -33,7 +33,6 @@ cp -r "$here"/release/{Makefile,README,debian} "$to"
     echo " WKT_0@WKT_0 $version"
     sed -n 's/.*\(wkt_[a-z_]*\)(.*/\1/p' "$to/include/wkt.h" | grep -vx wkt_status | LC_ALL=C sort -u | sed "s/.*/ &@WKT_0 $version/"
 } > "$to/debian/libwkt0.symbols"
-(cd "$to" && find . -type f ! -name SHA256SUMS -print0 | LC_ALL=C sort -z | xargs -0 sha256sum > SHA256SUMS)
 # Its bytes depend on the files alone: their time is the release's, their mode no umask's.
 tar -C "$out" --format=gnu --sort=name --owner=0 --group=0 --numeric-owner --mode=u+rwX,go=rX --mtime="@$when" -cf - "wkt-proved-$version" |
     gzip -9n > "$to.tar.gz"
@@ -42,4 +41,6 @@ make -s -C "$to" check
 make -s -C "$to" clean
 SOURCE_DATE_EPOCH=$when "${PYTHON:-/usr/bin/python3}" -m pip wheel -q --no-build-isolation --no-deps --no-index -w "$out" "$to/python"
 "$root/javascript/pack.sh" "$root/dist/wasm/wkt.wasm" "$out" "$when" > /dev/null
-(cd "$out" && ls -l ./*.tar.gz ./*.whl ./*.tgz)
+rm -f "$out"/*_"$version"_*.deb # of an earlier run
+"$here/sbom.py" "$out"
+(cd "$out" && ls -l ./*.tar.gz ./*.whl ./*.tgz ./*.spdx.json SHA256SUMS)

@@ -26,7 +26,7 @@ calls() {
 
 source_release() {
     tar -C "$dir" -xzf "$out"/wkt-proved-*.tar.gz
-    (cd "$dir"/wkt-proved-*/ && sha256sum --quiet -c SHA256SUMS) || fail "sums"
+    (cd "$out" && sha256sum --quiet -c SHA256SUMS) || fail "sums"
     make -s -C "$dir"/wkt-proved-*/ install DESTDIR="$dir/root" PREFIX=/usr > "$dir/log" 2>&1 || { cat "$dir/log"; fail "make install"; }
     calls env PATH="$dir/root/usr/bin:$PATH"
     export PKG_CONFIG_PATH=$dir/root/usr/lib/pkgconfig PKG_CONFIG_SYSROOT_DIR=$dir/root
@@ -46,6 +46,14 @@ bytes() {
     (umask 077 && "$here/release.sh" "$dir/again" > "$dir/log" 2>&1) || { tail -n 20 "$dir/log"; fail "release.sh under umask 077"; }
     for file in "$dir"/again/*.{tar.gz,whl,tgz}; do
         cmp "$file" "$out/$(basename "$file")" || fail "another umask gives other bytes"
+    done
+    # Where debs.sh has run, the lists here have its packages too.
+    for file in "$out"/*.deb; do
+        [ ! -e "$file" ] || cp "$file" "$dir/again"
+    done
+    "$here/sbom.py" "$dir/again"
+    for file in "$dir"/again/{*.spdx.json,SHA256SUMS}; do
+        cmp "$file" "$out/$(basename "$file")" || fail "other lists"
     done
     # Its files are readable, and of one day: that of its newest change.
     [ -z "$(tar -tvzf "$dir"/again/*.tar.gz | awk '{ print $4 }' | sort -u | sed 1d)" ] || fail "files of two days"
@@ -100,7 +108,7 @@ debs() {
         "${DEBIAN_MIRROR:-http://deb.debian.org/debian}" > "$dir/log" 2>&1 || { tail -n 20 "$dir/log"; fail "debootstrap"; }
     cp "$out"/*_"$(dpkg --print-architecture)".deb "$root/capi/examples/show.c" "$dir/debian/tmp"
     local deb
-    for deb in wkt-tools libwkt0 libwkt-dev python3-wkt; do
+    for deb in wkt-tools libwkt0 libwkt-dev python3-wkt libsqlite3-mod-wkt postgresql-15-wkt; do
         local start=$SECONDS
         in_root sh -c "apt-get install -y -q --no-install-recommends /tmp/${deb}_*.deb" > "$dir/log" 2>&1 || { tail -n 20 "$dir/log"; fail "$deb"; }
         echo "$deb: installed in $((SECONDS - start)) s"
@@ -110,6 +118,12 @@ debs() {
     in_root sh -c 'cd /tmp && gcc show.c $(pkg-config --cflags --libs wkt) -o show && ./show | grep -q .' || fail "libwkt-dev"
     in_root python3 -c "import wkt; assert wkt.canonical('$text') == '$answer'" || fail "python3-wkt"
     in_root sh -c 'dpkg -S /usr/bin/wkt' | grep -q '^wkt-tools:' || fail "/usr/bin/wkt"
+    in_root apt-get install -y -q --no-install-recommends sqlite3 > "$dir/log" 2>&1 || { tail -n 20 "$dir/log"; fail "sqlite3"; }
+    [ "$(in_root sqlite3 -cmd '.load mod_wkt' :memory: "SELECT wkt_canonical('$text')")" = "$answer" ] || fail "libsqlite3-mod-wkt"
+    in_root service postgresql start > "$dir/log" 2>&1
+    echo "CREATE EXTENSION wkt; SELECT wkt_canonical('$text')" | in_root su postgres -c 'psql -qAt' > "$dir/said" 2> "$dir/log"
+    in_root service postgresql stop > /dev/null 2>&1
+    grep -qxF "$answer" "$dir/said" || { cat "$dir/log"; fail "postgresql-15-wkt"; }
     echo "Debian packages: installed, each called"
 }
 
