@@ -1,10 +1,12 @@
 #!/usr/bin/env bash
-# Makes the Debian packages libwkt0, libwkt-dev, python3-wkt and wkt-tools of the release that release.sh has made.
+# Makes the Debian packages of the release that release.sh has made: libwkt0, libwkt-dev, python3-wkt, wkt-tools,
+# libsqlite3-mod-wkt, and for the PostgreSQL that debian/control names postgresql-15-wkt.
 #
 # debs.sh [OUT [ARCHITECTURE..]]: in OUT (packaging/out) is the release, and there the packages go; those of this machine's
-# architecture where none is named (amd64, arm64). It needs debhelper, dh-python and libpython3-dev, and for another
-# architecture crossbuild-essential-ARCHITECTURE and libpython3-dev:ARCHITECTURE: those packages are made without their tests
-# (dist/cross.sh), and nothing looks whether what they need is installed. Where lintian is there, it has to be content.
+# architecture where none is named (amd64, arm64). It needs debhelper, dh-python, libpython3-dev, libsqlite3-dev and
+# postgresql-server-dev-15, and for another architecture crossbuild-essential-ARCHITECTURE and libpython3-dev:ARCHITECTURE:
+# those packages are made without their tests (dist/cross.sh) and without PostgreSQL's, whose headers are of one processor,
+# and nothing looks whether what they need is installed. Where lintian is there, it has to be content.
 set -eu
 unset WKT_C_LIB WKT_LIB_DIR
 here=$(cd "$(dirname "$0")" && pwd)
@@ -19,7 +21,7 @@ for architecture; do
     mkdir "$work/$architecture"
     tar -C "$work/$architecture" -xzf "$out"/wkt-proved-*.tar.gz
     words=(-b -us -uc)
-    [ "$architecture" = "$own" ] || words+=(-d "-a$architecture")
+    [ "$architecture" = "$own" ] || words+=(-d "-a$architecture" -Pcross)
     (
         cd "$work/$architecture"/wkt-proved-*/
         [ "$architecture" = "$own" ] || export DEB_BUILD_OPTIONS=nocheck
@@ -28,4 +30,5 @@ for architecture; do
     cp "$work/$architecture"/*.deb "$out"
 done
 ! command -v lintian > /dev/null || lintian --allow-root --fail-on error,warning "$out"/*.deb
+"$here/sbom.py" "$out"
 (cd "$out" && ls -l ./*.deb)
