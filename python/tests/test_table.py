@@ -280,7 +280,7 @@ class Processes(Folder):
             with self.begun("-", "--column", "geom", "--out", "out.csv", "--rejects", "bad.csv") as run:
                 run.stdin.write(b"geom\nPOINT(1 2)\n")
                 run.stdin.flush()
-                while not any(it.startswith("out.csv.") for it in os.listdir(".")):
+                while run.poll() is None and not any(it.startswith("out.csv.") for it in os.listdir(".")):
                     time.sleep(0.05)
                 run.send_signal(number)
                 status = run.wait()
