@@ -2,12 +2,12 @@
 build_editable.
 
 A wheel has wkt/, the shared library, the command `wkt`, and `wkt/_fast.abi3.so` where the Python that builds is 3.11 or
-later, has its headers, and isn't free-threaded: it then serves 3.11 and each later Python. Where that module can't be
-compiled, a line on stderr says why, and the wheel is for Python 3.8 on and calls the library by ctypes alone.
-WKT_FAST=0 makes that wheel too, and WKT_FAST=1 fails where the module can't be compiled. WKT_LIB_DIR names the folder
-with libwkt.so, and with the command `wkt` if it has one; without it capi/build.sh and dist/Makefile make both of the
-proved objects, in a second and without the prover. CC names the C compiler; CFLAGS and LDFLAGS are those of the fast
-module and of the command.
+later and has its headers: it then serves 3.11 and each later Python. Free-threaded Python has no such interface, and
+gets a wheel of its version. Where that module can't be compiled, a line on stderr says why, and the wheel is for Python
+3.8 on and calls the library by ctypes alone. WKT_FAST=0 makes that wheel too, and WKT_FAST=1 fails where the module
+can't be compiled. WKT_LIB_DIR names the folder with libwkt.so, and with the command `wkt` if it has one; without it
+capi/build.sh and dist/Makefile make both of the proved objects, in a second and without the prover. CC names the C
+compiler; CFLAGS and LDFLAGS are those of the fast module and of the command.
 
 A source package has the proved objects and the C files in native/, so it needs neither a clone nor the prover.
 The bytes of a package depend on its files alone; its times are SOURCE_DATE_EPOCH, or 1980.
@@ -105,11 +105,15 @@ def _lacking(compiler, headers):
     """What the fast module needs and isn't there, or None."""
     if sys.version_info < (3, 11):
         return "Python 3.11"
-    if sysconfig.get_config_var("Py_GIL_DISABLED"):
-        return "a Python with the global interpreter lock"
     if not os.path.exists(os.path.join(headers, "Python.h")):
         return "Python.h"
     return None if shutil.which(compiler[0]) else "a C compiler"
+
+
+def _module():
+    """The file name of the fast module: free-threaded Python has no limited API, so there it is of one version."""
+    free = sysconfig.get_config_var("Py_GIL_DISABLED")
+    return "_fast" + (sysconfig.get_config_var("EXT_SUFFIX") if free else ".abi3.so")
 
 
 def _compiled(folder):
@@ -119,8 +123,9 @@ def _compiled(folder):
     compiler = shlex.split(os.environ.get("CC", "cc"))
     if wanted == "0":
         return None
-    made = os.path.join(folder, "_fast.abi3.so")
+    made = os.path.join(folder, _module())
     words = ["-O2", "-fPIC", "-fvisibility=hidden", "-fstack-protector-strong", *_flags("CFLAGS"), "-I", headers]
+    words += ["-I", os.path.join(top, "include")]
     words += [*sorted(glob.glob(os.path.join(here, "src", "*.c"))), "-shared", "-Wl,-z,relro,-z,now"]
     lacks = _lacking(compiler, headers)
     if not lacks and not subprocess.run([*compiler, *words, *_flags("LDFLAGS"), "-o", made], check=False).returncode:
@@ -138,7 +143,7 @@ def _built(folder):
     built = {"libwkt.so": os.path.join(library, "libwkt.so"), "_command": _command(folder, library)}
     fast = _compiled(folder)
     if fast:
-        built["_fast.abi3.so"] = fast
+        built[os.path.basename(fast)] = fast
     return built, library
 
 
@@ -210,7 +215,12 @@ def _when():
 
 def _wheel(folder, held, built, library):
     """Writes a wheel of files, by their names and bytes; those of its dist-info come behind them. Its name."""
-    tag = ("cp311-abi3-" if "_fast.abi3.so" in built else "py3-none-") + _platform(built)
+    python = "cp%d%d-cp%d%dt-" % (2 * sys.version_info[:2])
+    if _module() not in built:
+        python = "py3-none-"
+    elif "abi3" in _module():
+        python = "cp311-abi3-"
+    tag = python + _platform(built)
     held = held + [
         ("%s-%s.data/scripts/wkt" % (NAME, VERSION), SCRIPT),
         (INFO + "METADATA", _about()),

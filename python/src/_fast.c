@@ -1,162 +1,75 @@
-/* wkt._fast: the buffers of a column of Python texts, and texts of buffers, without an object for a row in between; and
- * columns that are lent by Arrow's C interfaces (arrow_in.c, arrow_texts.c, arrow_out.c).
+/* wkt._fast: the calls of the library for one text and for columns, without ctypes and without an object for what stands
+ * in between; and columns that are lent by Arrow's C interfaces (arrow_in.c, arrow_texts.c, arrow_out.c).
  *
- * It calls no library: the package calls libwkt in between. Of Python it needs the limited API of 3.11 alone, so one
- * wheel serves that version and each later one. Where it isn't built, wkt/_blocks.py does the same in Python. */
-#include "arrow.h"
-#include <string.h>
+ * The package loads libwkt, and binds its functions here. Of Python this needs the limited API of 3.11 alone, so one wheel
+ * serves that version and each later one; free-threaded Python has no limited API, and gets a module of its own. Where it
+ * isn't built, wkt/_slow.py does the same by ctypes. */
+#include "fast.h"
+#include <stddef.h>
 
-enum { TEXT, EMPTY_ROW, OTHER, FAILED };
+/* What can be bound: functions of libwkt by their addresses, and objects of the package. */
+#define FUNCTION(name) \
+    { "wkt_" #name, offsetof(State, name), 1 }
+#define OBJECT(name) \
+    { #name, offsetof(State, name), 0 }
+static const struct {
+    const char *name;
+    size_t offset;
+    int is_function;
+} parts[] = {FUNCTION(canonical), FUNCTION(same),   FUNCTION(infer),       FUNCTION(explain),
+             FUNCTION(hint),      FUNCTION(arrays), FUNCTION(from_arrays), OBJECT(places_of),
+             OBJECT(text_of),     OBJECT(refuse),   OBJECT(refuse_two),    OBJECT(refuse_header),
+             OBJECT(one_text),    OBJECT(Arrays),   OBJECT(KINDS),         OBJECT(DIMENSIONS)};
+enum { PARTS = sizeof parts / sizeof *parts };
 
-/* What is known of the texts of some rows. They stand until another call of Python. */
-typedef struct {
-    const char **texts;
-    int64_t *offsets;
-    uint8_t *bits;
-    PyTypeObject *null_type; /* the type of the last null row that was neither None nor a float */
-    int nulls;
-} Rows;
-
-static int is_null(Rows *rows, PyObject *row) {
-    PyTypeObject *type = Py_TYPE(row);
-    PyObject *name;
-    int is;
-    if (row == Py_None || type == rows->null_type) return 1;
-    if (PyFloat_Check(row)) {
-        double number = PyFloat_AsDouble(row);
-        return number != number;
-    }
-    if ((name = PyType_GetName(type)) == NULL) {
-        PyErr_Clear();
-        return 0;
-    }
-    is =
-        PyUnicode_CompareWithASCIIString(name, "NAType") == 0 || PyUnicode_CompareWithASCIIString(name, "NaTType") == 0;
-    Py_DECREF(name);
-    if (is) rows->null_type = type;
-    return is;
-}
-
-/* Where the text of a row stands, and how long it is. OTHER: a row that is left to Python. */
-static int look(Rows *rows, PyObject *row, const char **text, Py_ssize_t *length) {
-    if (PyUnicode_Check(row)) {
-        if ((*text = PyUnicode_AsUTF8AndSize(row, length)) != NULL) return TEXT;
-        /* Lone surrogates have no UTF-8. */
-        if (!PyErr_ExceptionMatches(PyExc_UnicodeEncodeError)) return FAILED;
-        PyErr_Clear();
-        return OTHER;
-    }
-    if (PyBytes_Check(row)) {
-        char *bytes;
-        if (PyBytes_AsStringAndSize(row, &bytes, length) < 0) return FAILED;
-        *text = bytes;
-        return TEXT;
-    }
-    *text = NULL, *length = 0;
-    return is_null(rows, row) ? EMPTY_ROW : OTHER;
-}
-
-/* Looks at all rows. The lock of the interpreter is held, and no code of Python runs, so that they stay as they are. */
-static int look_at_all(Rows *rows, PyObject *given, Py_ssize_t count) {
-    int is_list = PyList_Check(given);
-    int64_t at = 0;
-    for (Py_ssize_t i = 0; i < count; i++) {
-        PyObject *row = is_list ? PyList_GetItem(given, i) : PyTuple_GetItem(given, i);
-        Py_ssize_t length;
-        int seen = row == NULL ? FAILED : look(rows, row, &rows->texts[i], &length);
-        if (seen == OTHER || seen == FAILED) return seen;
-        if (seen == EMPTY_ROW) {
-            rows->bits[i / 8] &= (uint8_t) ~(1 << i % 8);
-            rows->nulls = 1;
+/* The 28 answers of infer. */
+static int make_headers(State *state) {
+    if (state->KINDS == NULL || state->DIMENSIONS == NULL) return 0;
+    for (Py_ssize_t kind = 0; kind < 7; kind++)
+        for (Py_ssize_t dimension = 0; dimension < 4; dimension++) {
+            PyObject *one = PyTuple_GetItem(state->KINDS, kind), *other = PyTuple_GetItem(state->DIMENSIONS, dimension);
+            PyObject *made = one == NULL || other == NULL ? NULL : PyTuple_Pack(2, one, other);
+            if (made == NULL) return -1;
+            Py_XDECREF(state->headers[kind][dimension]);
+            state->headers[kind][dimension] = made;
         }
-        rows->offsets[i] = at;
-        at += length;
-    }
-    rows->offsets[count] = at;
-    return TEXT;
+    return 0;
 }
 
-static PyObject *joined(const Rows *rows, Py_ssize_t count) {
-    PyObject *data = PyBytes_FromStringAndSize(NULL, (Py_ssize_t)rows->offsets[count]);
-    char *to = data == NULL ? NULL : PyBytes_AsString(data);
-    for (Py_ssize_t i = 0; to != NULL && i < count; i++)
-        if (rows->texts[i] != NULL)
-            memcpy(to + rows->offsets[i], rows->texts[i], (size_t)(rows->offsets[i + 1] - rows->offsets[i]));
-    return data;
-}
-
-static PyObject *pack(PyObject *self, PyObject *given) {
-    Rows rows = {0};
-    PyObject *offsets = NULL, *bits = NULL, *data = NULL, *made = NULL;
-    Py_ssize_t count;
-    (void)self;
-    if (!PyList_Check(given) && !PyTuple_Check(given)) Py_RETURN_NONE;
-    /* Not by a len() of a class of their own: it is code of Python, and may say anything. */
-    count = PyList_Check(given) ? PyList_Size(given) : PyTuple_Size(given);
-    if (count < 0) return NULL;
-    rows.texts = PyMem_Malloc((size_t)(count + 1) * sizeof *rows.texts);
-    offsets = PyBytes_FromStringAndSize(NULL, (count + 1) * (Py_ssize_t)sizeof(int64_t));
-    bits = PyBytes_FromStringAndSize(NULL, (count + 7) / 8);
-    if (rows.texts == NULL) PyErr_NoMemory();
-    if (rows.texts == NULL || offsets == NULL || bits == NULL) goto done;
-    rows.offsets = (int64_t *)PyBytes_AsString(offsets);
-    rows.bits = (uint8_t *)PyBytes_AsString(bits);
-    memset(rows.bits, 255, (size_t)((count + 7) / 8));
-    switch (look_at_all(&rows, given, count)) {
-    case OTHER:
-        made = Py_None;
-        Py_INCREF(made);
-        break;
-    case TEXT:
-        if ((data = joined(&rows, count)) == NULL) break;
-        if (!rows.nulls) { /* no bits: no row is null */
-            Py_DECREF(bits);
-            if ((bits = PyBytes_FromStringAndSize(NULL, 0)) == NULL) break;
+/* bind(name, address or object): the package does so once, when it is imported, and tests do. */
+static PyObject *bind(PyObject *self, PyObject *const *args, Py_ssize_t count) {
+    State *state = state_of(self);
+    if (!has_count(count, 2)) return NULL;
+    for (size_t i = 0; i < PARTS; i++) {
+        void *part = (char *)state + parts[i].offset;
+        if (!PyUnicode_Check(args[0]) || PyUnicode_CompareWithASCIIString(args[0], parts[i].name) != 0) continue;
+        if (parts[i].is_function) {
+            void *address = PyLong_AsVoidPtr(args[1]);
+            if (address == NULL) return PyErr_Occurred() ? NULL : PyErr_Format(PyExc_ValueError, "no address");
+            memcpy(part, &address, sizeof address);
+        } else {
+            PyObject *before;
+            memcpy(&before, part, sizeof before);
+            Py_INCREF(args[1]);
+            memcpy(part, &args[1], sizeof args[1]);
+            Py_XDECREF(before);
+            if (make_headers(state) < 0) return NULL;
         }
-        made = PyTuple_Pack(3, data, offsets, bits);
+        Py_RETURN_NONE;
     }
-done:
-    PyMem_Free(rows.texts);
-    Py_XDECREF(data);
-    Py_XDECREF(offsets);
-    Py_XDECREF(bits);
-    return made;
+    return PyErr_Format(PyExc_KeyError, "%R", args[0]);
 }
 
-/* Whether a row is a str of these bytes: then it is its own canonical text. */
-static int is_itself(PyObject *row, const char *text, Py_ssize_t length) {
-    Py_ssize_t its_length;
-    const char *its_text;
-    if (row == NULL || !PyUnicode_CheckExact(row) || PyUnicode_GetLength(row) != length) return 0;
-    if ((its_text = PyUnicode_AsUTF8AndSize(row, &its_length)) == NULL) {
-        PyErr_Clear();
-        return 0;
-    }
-    return its_length == length && memcmp(its_text, text, (size_t)length) == 0;
-}
-
-static PyObject *text_of(PyObject *given, Py_ssize_t i, const char *text, Py_ssize_t length) {
-    PyObject *row = given != NULL && i < PyList_Size(given) ? PyList_GetItem(given, i) : NULL;
-    if (is_itself(row, text, length)) {
-        Py_INCREF(row);
-        return row;
-    }
-    return PyUnicode_FromStringAndSize(text, length);
-}
-
-static PyObject *texts_of(const Py_buffer *out, const int64_t *ends, const uint32_t *statuses, Py_ssize_t count,
-                          PyObject *given) {
+static PyObject *texts_of(const Py_buffer *out, const int64_t *ends, const uint32_t *statuses, Py_ssize_t count) {
     PyObject *texts = PyList_New(count);
     for (Py_ssize_t i = 0; texts != NULL && i < count; i++) {
-        PyObject *text = Py_None;
-        if (ends[i] < 0 || ends[i + 1] < ends[i] || ends[i + 1] > out->len) {
+        PyObject *text = NULL;
+        if (ends[i] < 0 || ends[i + 1] < ends[i] || ends[i + 1] > out->len)
             PyErr_SetString(PyExc_ValueError, "an offset is past the bytes");
-            text = NULL;
-        } else if (statuses[i] == 0) {
-            text = text_of(given, i, (const char *)out->buf + ends[i], (Py_ssize_t)(ends[i + 1] - ends[i]));
-        } else {
-            Py_INCREF(text);
-        }
+        else if (statuses[i] == 0)
+            text = PyUnicode_FromStringAndSize((const char *)out->buf + ends[i], (Py_ssize_t)(ends[i + 1] - ends[i]));
+        else
+            text = Py_NewRef(Py_None);
         if (text == NULL || PyList_SetItem(texts, i, text) < 0) Py_CLEAR(texts);
     }
     return texts;
@@ -164,26 +77,44 @@ static PyObject *texts_of(const Py_buffer *out, const int64_t *ends, const uint3
 
 static PyObject *unpack(PyObject *self, PyObject *args) {
     Py_buffer out = {0}, ends = {0}, statuses = {0};
-    PyObject *given = NULL, *texts = NULL;
+    PyObject *texts = NULL;
+    Py_ssize_t count;
     (void)self;
-    if (!PyArg_ParseTuple(args, "y*y*y*|O", &out, &ends, &statuses, &given)) return NULL;
-    Py_ssize_t count = statuses.len / (Py_ssize_t)sizeof(uint32_t);
-    if (given != NULL && !PyList_Check(given)) given = NULL;
+    if (!PyArg_ParseTuple(args, "y*y*y*", &out, &ends, &statuses)) return NULL;
+    count = statuses.len / (Py_ssize_t)sizeof(uint32_t);
     if (ends.len != (count + 1) * (Py_ssize_t)sizeof(int64_t))
         PyErr_SetString(PyExc_ValueError, "there is one offset more than statuses");
     else
-        texts = texts_of(&out, ends.buf, statuses.buf, count, given);
+        texts = texts_of(&out, ends.buf, statuses.buf, count);
     PyBuffer_Release(&out);
     PyBuffer_Release(&ends);
     PyBuffer_Release(&statuses);
     return texts;
 }
 
+/* A function that takes its arguments as they stand on the stack. */
+#define FAST(name, words) \
+    { #name, (PyCFunction)(void (*)(void))fast_##name, METH_FASTCALL, words }
 static PyMethodDef methods[] = {
-    {"pack", pack, METH_O,
-     "pack(rows) -> (bytes of all rows, int64 offsets, bits or b''), or None where a row is left to Python"},
-    {"unpack", unpack, METH_VARARGS,
-     "unpack(bytes, int64 offsets, uint32 statuses, rows=None) -> list of str, and of None where a status isn't 0"},
+    {"bind", (PyCFunction)(void (*)(void))bind, METH_FASTCALL, "bind(name, address or object)"},
+    FAST(canonical, "canonical(text, places, whole) -> str"),
+    FAST(reads, "reads(text, places, whole) -> bool"),
+    FAST(same, "same(one, other, places, whole) -> bool"),
+    {"infer", fast_infer, METH_O, "infer(text) -> (kind, dimension)"},
+    FAST(explain, "explain(bytes, places) -> (status, message, start, stop, expected)"),
+    FAST(hint, "hint(bytes, places) -> (status, hint)"),
+    FAST(canonical_rows, "canonical_rows(rows, places, invalid, report, statuses or None) -> list"),
+    FAST(statuses, "statuses(rows, places, report) -> uint32s"),
+    FAST(same_rows, "same_rows(rows, rows or canonical text, places, invalid, report) -> list"),
+    FAST(infer_rows, "infer_rows(rows, invalid) -> list"),
+    FAST(lines_rows, "lines_rows(rows, places) -> list"),
+    FAST(canonical_buffers,
+         "canonical_buffers((data, offsets, bits, rows), places, report) -> (data, offsets, statuses)"),
+    FAST(arrays, "arrays(text, places, whole) -> Arrays"),
+    FAST(arrays_rows, "arrays_rows(rows or buffers, places, report, are buffers) -> nine buffers"),
+    FAST(cut, "cut(ColumnArrays, whether rings and polygons are shared) -> list of Arrays"),
+    FAST(from_arrays_rows, "from_arrays_rows(rows, places or None, numbered) -> list"),
+    {"unpack", unpack, METH_VARARGS, "unpack(bytes, int64 offsets, uint32 statuses) -> list of str and None"},
     {"arrow_array", arrow_array, METH_VARARGS,
      "arrow_array(schema, array) -> ((is of UTF-8, metadata), (data, int64 offsets, bits or b'', rows))"},
     {"arrow_stream", arrow_stream, METH_O, "arrow_stream(stream) -> (what arrow_next takes, (is of UTF-8, metadata))"},
@@ -196,6 +127,35 @@ static PyMethodDef methods[] = {
      "export_stream(such a tuple, iterator of such tuples) -> stream"},
     {NULL, NULL, 0, NULL}};
 
-static struct PyModuleDef module = {PyModuleDef_HEAD_INIT, "wkt._fast", NULL, 0, methods, NULL, NULL, NULL, NULL};
+static int made_ready(PyObject *module) {
+    State *state = state_of(module);
+    state->lent_type = (PyTypeObject *)PyType_FromModuleAndSpec(module, &lent_spec, NULL);
+    return state->lent_type == NULL ? -1 : 0;
+}
 
-PyMODINIT_FUNC PyInit__fast(void) { return arrow_ready() < 0 ? NULL : PyModule_Create(&module); }
+static int traverse(PyObject *module, visitproc visit, void *arg) {
+    State *state = state_of(module);
+    for (size_t i = 0; i < PARTS; i++)
+        if (!parts[i].is_function) Py_VISIT(*(PyObject **)(void *)((char *)state + parts[i].offset));
+    Py_VISIT(state->lent_type);
+    return 0;
+}
+
+static int clear(PyObject *module) {
+    State *state = state_of(module);
+    for (size_t i = 0; i < PARTS; i++)
+        if (!parts[i].is_function) Py_CLEAR(*(PyObject **)(void *)((char *)state + parts[i].offset));
+    for (int i = 0; i < 28; i++) Py_CLEAR(state->headers[i / 4][i % 4]);
+    Py_CLEAR(state->lent_type);
+    return 0;
+}
+
+static PyModuleDef_Slot slots[] = {{Py_mod_exec, made_ready},
+#ifdef Py_GIL_DISABLED
+                                   {Py_mod_gil, Py_MOD_GIL_NOT_USED},
+#endif
+                                   {0, NULL}};
+static struct PyModuleDef module = {
+    PyModuleDef_HEAD_INIT, "wkt._fast", NULL, sizeof(State), methods, slots, traverse, clear, NULL};
+
+PyMODINIT_FUNC PyInit__fast(void) { return PyModuleDef_Init(&module); }

@@ -3,12 +3,12 @@
 #ifndef WKT_ARROW_H
 #define WKT_ARROW_H
 #define PY_SSIZE_T_CLEAN
+#include <pyconfig.h>
+#ifndef Py_GIL_DISABLED /* such a Python has no limited API */
 #define Py_LIMITED_API 0x030b0000
+#endif
 #include <Python.h>
 #include <stdint.h>
-#ifdef Py_GIL_DISABLED
-#error "wkt._fast relies on the global interpreter lock: free-threaded Python goes without it"
-#endif
 
 struct ArrowSchema {
     const char *format, *name, *metadata;
@@ -63,15 +63,14 @@ static inline void raise_again(Aside it) {
 PyObject *arrow_array(PyObject *self, PyObject *args);
 PyObject *arrow_stream(PyObject *self, PyObject *capsule);
 PyObject *arrow_next(PyObject *self, PyObject *stream);
-int arrow_ready(void);
+extern PyType_Spec lent_spec;
 /* arrow_texts.c: the texts of an array, once its type is known */
 typedef struct {
     const struct ArrowSchema *texts; /* the type of the texts: that of the dictionary, if there is one */
     int nested, index;               /* a struct of one column; the size of a dictionary's indices, or 0 */
     int is_signed;                   /* those */
 } Type;
-PyObject *arrow_texts(const Type *type, const struct ArrowArray *array, PyObject *owner);
-PyObject *arrow_lent(const void *data, Py_ssize_t length, PyObject *owner);
+PyObject *arrow_texts(PyObject *module, const Type *type, const struct ArrowArray *array, PyObject *owner);
 /* arrow_out.c: what this module lends */
 PyObject *arrow_export(PyObject *self, PyObject *tree);
 PyObject *arrow_export_schema(PyObject *self, PyObject *tree);

@@ -1,48 +1,7 @@
 /* Arrow columns that others lend, by their capsules. An array is moved out of its capsule, and is released once nothing
  * of it is used any more. What a producer says of its sizes is checked as far as the interface says it. */
-#include "arrow.h"
+#include "fast.h"
 #include <errno.h>
-#include <stdlib.h>
-#include <string.h>
-
-/* Bytes of an array that is lent, as a buffer that keeps it. */
-typedef struct {
-    PyObject_HEAD
-    const void *data;
-    Py_ssize_t length;
-    PyObject *owner;
-} Lent;
-
-static PyTypeObject *lent_type;
-
-static void lent_dealloc(PyObject *self) {
-    PyTypeObject *type = Py_TYPE(self);
-    Py_XDECREF(((Lent *)self)->owner);
-    ((freefunc)PyType_GetSlot(type, Py_tp_free))(self);
-    Py_DECREF(type);
-}
-
-static int lent_buffer(PyObject *self, Py_buffer *view, int flags) {
-    return PyBuffer_FillInfo(view, self, (void *)((Lent *)self)->data, ((Lent *)self)->length, 1, flags);
-}
-
-static PyType_Slot lent_slots[] = {{Py_tp_dealloc, lent_dealloc}, {Py_bf_getbuffer, lent_buffer}, {0, NULL}};
-static PyType_Spec lent_spec = {"wkt._fast.Lent", sizeof(Lent), 0,
-                                Py_TPFLAGS_DEFAULT | Py_TPFLAGS_DISALLOW_INSTANTIATION, lent_slots};
-
-int arrow_ready(void) {
-    if (lent_type == NULL) lent_type = (PyTypeObject *)PyType_FromSpec(&lent_spec);
-    return lent_type == NULL ? -1 : 0;
-}
-
-PyObject *arrow_lent(const void *data, Py_ssize_t length, PyObject *owner) {
-    Lent *made = (Lent *)((allocfunc)PyType_GetSlot(lent_type, Py_tp_alloc))(lent_type, 0);
-    if (made == NULL) return NULL;
-    made->data = length == 0 ? "" : data, made->length = length;
-    Py_INCREF(owner);
-    made->owner = owner;
-    return (PyObject *)made;
-}
 
 static const char *const array_name = "wkt.array", *const stream_name = "wkt.stream";
 
@@ -137,7 +96,6 @@ PyObject *arrow_array(PyObject *self, PyObject *args) {
     struct ArrowSchema *schema;
     struct ArrowArray *array, *mine;
     Type type;
-    (void)self;
     if (!PyArg_ParseTuple(args, "OO", &one, &other)) return NULL;
     if ((schema = PyCapsule_GetPointer(one, "arrow_schema")) == NULL) return NULL;
     if ((array = PyCapsule_GetPointer(other, "arrow_array")) == NULL) return NULL;
@@ -147,7 +105,7 @@ PyObject *arrow_array(PyObject *self, PyObject *args) {
     } else if ((owner = new_array(&mine)) != NULL) {
         *mine = *array;
         array->release = NULL;
-        texts = arrow_texts(&type, mine, owner);
+        texts = arrow_texts(self, &type, mine, owner);
         Py_DECREF(owner);
     }
     if (texts == NULL) {
@@ -231,7 +189,6 @@ PyObject *arrow_next(PyObject *self, PyObject *capsule) {
     PyObject *owner, *texts = NULL;
     Aside raised;
     int error;
-    (void)self;
     if (stream == NULL || (owner = new_array(&array)) == NULL) return NULL;
     raised = set_aside();
     Py_BEGIN_ALLOW_THREADS
@@ -245,7 +202,7 @@ PyObject *arrow_next(PyObject *self, PyObject *capsule) {
         texts = Py_None;
         Py_INCREF(texts);
     } else {
-        texts = arrow_texts(&stream->type, array, owner);
+        texts = arrow_texts(self, &stream->type, array, owner);
     }
     Py_DECREF(owner);
     return texts;

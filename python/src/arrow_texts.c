@@ -1,9 +1,7 @@
 /* The texts of an Arrow array, as the library takes a column: their bytes, 64-bit offsets from 0 on, and bits. Bytes of
  * utf8 and binary aren't copied; views and dictionaries are gathered. Offsets and bits are copied, and then checked, so
  * that a producer's other thread changes nothing behind a check. Nothing is taken to be aligned. */
-#include "arrow.h"
-#include <stdlib.h>
-#include <string.h>
+#include "fast.h"
 
 static PyObject *wrong(const char *what) {
     PyErr_Format(PyExc_ValueError, "the Arrow column is wrong: %s", what);
@@ -75,7 +73,8 @@ static int copy_offsets(const void *offsets, int is_64, int64_t at, int64_t rows
 }
 
 /* A column of offsets: the bytes are the producer's. */
-static PyObject *plain(const Type *type, const struct ArrowArray *array, int64_t at, int64_t rows, PyObject *owner) {
+static PyObject *plain(State *state, const Type *type, const struct ArrowArray *array, int64_t at, int64_t rows,
+                       PyObject *owner) {
     int is_64 = type->texts->format[0] == 'U' || type->texts->format[0] == 'Z';
     const char *bytes = array->buffers[2];
     PyObject *offsets, *bits, *data = NULL;
@@ -88,7 +87,7 @@ static PyObject *plain(const Type *type, const struct ArrowArray *array, int64_t
     else if (to[rows] > 0 && bytes == NULL)
         wrong("it has texts and no bytes");
     else
-        data = arrow_lent(bytes == NULL ? "" : bytes + start, (Py_ssize_t)to[rows], owner);
+        data = lent(state, bytes == NULL ? "" : bytes + start, (Py_ssize_t)to[rows], owner);
     bits = data == NULL ? NULL : bits_of(array, at, rows);
     if (bits == NULL) {
         Py_XDECREF(data);
@@ -97,12 +96,6 @@ static PyObject *plain(const Type *type, const struct ArrowArray *array, int64_t
     }
     return Py_BuildValue("NNNL", data, offsets, bits, (long long)rows);
 }
-
-/* A text of a view or of a dictionary: NULL where the row is null. */
-typedef struct {
-    const char *text;
-    int64_t length;
-} Cell;
 
 static int view_at(const struct ArrowArray *array, int64_t at, Cell *cell) {
     const char *view = (const char *)array->buffers[1] + 16 * at;
@@ -240,7 +233,7 @@ static const struct ArrowArray *column_in(const struct ArrowArray *table, int64_
     return column;
 }
 
-PyObject *arrow_texts(const Type *type, const struct ArrowArray *array, PyObject *owner) {
+PyObject *arrow_texts(PyObject *module, const Type *type, const struct ArrowArray *array, PyObject *owner) {
     const struct ArrowArray *column = array;
     int64_t first = 0, rows = array->length;
     PyObject *texts = NULL;
@@ -248,7 +241,7 @@ PyObject *arrow_texts(const Type *type, const struct ArrowArray *array, PyObject
     if (type->nested && (column = column_in(array, &first)) == NULL) return NULL;
     if (type->index == 0 && type->texts->format[0] != 'v') {
         if (!has(column, 3, 3, first, rows)) return NULL;
-        return plain(type, column, column->offset + first, rows, owner);
+        return plain(state_of(module), type, column, column->offset + first, rows, owner);
     }
     if (rows < 0 || rows > INT64_MAX / 32) return wrong("its length or its offset");
     if ((cells = calloc((size_t)rows + 1, sizeof *cells)) == NULL) return PyErr_NoMemory();

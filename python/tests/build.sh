@@ -67,8 +67,7 @@ mkdir "$work/again" && (cd "$work/clone/python" && "$python" -m build -s --no-is
 cmp "$work"/built/*.tar.gz "$work"/again/*.tar.gz || fail "two source packages have other bytes"
 echo "two wheels, and that of the source package, have the same bytes"
 
-# Where the fast module can't be compiled, the wheel goes without it, and says so; WKT_FAST=1 fails. A Python without its
-# lock is one whose configuration says so, or whose headers do.
+# Where the fast module can't be compiled, the wheel goes without it, and says so; WKT_FAST=1 fails.
 # without WORDS CODE [VARIABLE=VALUE..]
 without() {
     local built
@@ -79,7 +78,7 @@ without() {
     ! (cd "$work/clone/python" && env WKT_FAST=1 "${@:3}" "$python" -c "$2; import sys, backend; backend.build_wheel(sys.argv[1])" "$work") > "$work/said" 2>&1 || fail "WKT_FAST=1: $1"
     grep -q "^the fast module $1\$" "$work/said" || { cat "$work/said"; fail "WKT_FAST=1, not said: $1"; }
 }
-without 'needs a Python with the global interpreter lock' 'import sysconfig; sysconfig.get_config_vars()["Py_GIL_DISABLED"] = 1'
+without 'needs Python.h' 'import sysconfig; sysconfig.get_paths = lambda: {"include": "/nowhere"}'
 without "doesn't compile" pass CFLAGS=-DPy_GIL_DISABLED=1
 echo "without the fast module it is built too"
 

@@ -1,4 +1,10 @@
-"""Modules that a test takes where they are."""
+"""What several tests use: modules that are taken where they are, and a library that answers otherwise."""
+import contextlib
+import ctypes
+import unittest.mock
+
+import wkt
+from wkt._native import BOUND, _fast
 
 
 def installed(name):
@@ -7,3 +13,26 @@ def installed(name):
         return __import__(name)
     except ImportError:
         return None
+
+
+@contextlib.contextmanager
+def patched(name, change):
+    """The library's call of this name, after which `change` gets what it was given, and may return a status."""
+    call = getattr(wkt._library, name)
+
+    def changed(*given):
+        status = call(*given)
+        answer = change(status, *given)
+        return status if answer is None else answer
+
+    known = name[4:] in BOUND
+    if known:  # as a function of C, which the module in C calls too
+        kinds = [ctypes.c_size_t if kind is ctypes.c_void_p else kind for kind in call.argtypes]
+        changed = ctypes.CFUNCTYPE(call.restype, *kinds)(changed)
+        changed.argtypes = call.argtypes
+    with unittest.mock.patch.object(wkt._library, name, changed):
+        for function in (changed, call):
+            if known and _fast is not None:
+                _fast.bind(name, ctypes.cast(function, ctypes.c_void_p).value)
+            if function is changed:
+                yield

@@ -1,5 +1,5 @@
 /* refuse: allocations that are refused, for the tests of wkt._fast. It hooks the allocators of Python, and is compiled into
- * a _fast of the tests too (with -Dcalloc=refused_calloc -Dfree=refused_free), whose calloc then goes there.
+ * a _fast of the tests too (with -Dcalloc=refused_calloc and the like), whose memory then comes from there.
  *
  *   after(n)     from now on the allocation n (1 is the next) is refused, once
  *   stop()       no more; returns whether one was refused */
@@ -7,6 +7,7 @@
 #include <Python.h>
 
 void *refused_calloc(size_t count, size_t size) { return PyMem_RawCalloc(count, size); }
+void *refused_realloc(void *held, size_t size) { return PyMem_RawRealloc(held, size); }
 void refused_free(void *held) { PyMem_RawFree(held); }
 
 #ifndef IN_FAST

@@ -9,7 +9,7 @@ import threading
 import unittest
 
 import wkt
-from modules import installed
+from modules import installed, patched
 
 numpy, pandas = installed("numpy"), installed("pandas")
 
@@ -293,19 +293,17 @@ class Shared(unittest.TestCase):
     def test_arrays_are_copied(self):
         """A call gets none of the caller's arrays, so that nothing can change them while it runs."""
         seen = []
-        names = ("wkt_from_arrays", "wkt_column_from_arrays")
-        library = wkt._arrays._library if hasattr(wkt, "_arrays") else wkt._calls._library
-        calls = {name: getattr(library, name) for name in names}
         numbers, rings, offsets = numpy.array([1, 2]), numpy.array([0, 1], numpy.uint64), numpy.array([0, 2])
-        try:
-            for name, call in calls.items():
-                setattr(library, name, lambda *args, call=call: seen.extend(args) or call(*args))
-            self.assertEqual(wkt.from_arrays(wkt.Arrays("Point", "XY", numbers, rings, rings), 0), "POINT(1 2)")
+
+        def look(status, *given):
+            seen.extend(given)
+
+        with patched("wkt_from_arrays", look), patched("wkt_column_from_arrays", look):
+            arrays = wkt.Arrays("Point", "XY", numbers, rings, rings, 0)
+            for call, wanted in ((wkt.from_arrays, "POINT(1 2)"), (lambda it: wkt.from_arrays([it]), ["POINT(1 2)"])):
+                self.assertEqual(call(arrays), wanted)
             one = wkt.ColumnArrays([0], [0], numbers, offsets, rings, offsets, rings, offsets, [0])
             self.assertEqual(wkt.from_arrays_column(one, 0)[0], ["POINT(1 2)"])
-        finally:
-            for name, call in calls.items():
-                setattr(library, name, call)
         addresses = [each for each in seen if isinstance(each, int)]
         self.assertGreater(len(addresses), 20)
         for given in (numbers, rings, offsets):

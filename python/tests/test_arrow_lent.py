@@ -213,9 +213,6 @@ class Memory(Arrow):
         self.fail("no end")
 
     def test_each_allocation(self):
-        rows = TEXTS + ["POINT(%d 2)" % i for i in range(20)]
-        data, offsets, bits = self.each(lambda: _fast.pack(rows))
-        self.assertEqual(bytes(data), "".join(text or "" for text in rows).encode())
         ends, statuses = numpy.array([0, 3, 5]), numpy.array([0, 0], numpy.uint32)
         self.assertEqual(self.each(lambda: _fast.unpack(b"abcde", ends, statuses)), ["abc", "de"])
         for format in FORMATS:
@@ -232,6 +229,50 @@ class Memory(Arrow):
 
         answer = self.each(taken, lambda: [Streamed([HELD, HELD]).__arrow_c_stream__()])
         self.assertEqual(answer, [7, 7, None])
+
+    def test_rows(self):
+        """Each call for one text and for rows."""
+        long, given = "MULTIPOINT(%s)" % ",".join(["EMPTY"] * 300), [text for text in TEXTS if text != "PINT(5 6)"]
+        rows = [*[text for text in given if text != ""], b"point(3 4)", bytearray(b"point(3 4)"), long, "\xe4"]
+        wanted, texts = wkt.canonical_column(rows), [long, "POINT(1 2)"]
+        column = wkt.to_arrays_column(texts)
+        packed = tuple(wkt._slow.pack([long, "POINT(1 2)"]))
+        for call, answer in (
+            (lambda: _fast.canonical(long, 18, True), long),
+            (lambda: _fast.canonical(bytearray(b"point(1 2)"), 18, True), "POINT(1 2)"),
+            (lambda: _fast.same(long, long, 18, True), True),
+            (lambda: _fast.reads(long, 18, True), True),
+            (lambda: _fast.infer(long), ("MultiPoint", "XY")),
+            (lambda: _fast.explain(b"POINT(1", 18)[0], 0),
+            (lambda: len(_fast.arrays(long, 6, True)), 5),
+            (lambda: _fast.canonical_rows(rows, 18, 1, None, None), wanted[0]),
+            (lambda: list(memoryview(_fast.statuses(rows, 18, None)).cast("B").cast("I")), wanted[1]),
+            (lambda: _fast.same_rows(texts, texts, 18, 0, None), [True, True]),
+            (lambda: _fast.same_rows(texts, "POINT(1 2)", 18, 0, None), [False, True]),
+            (lambda: _fast.infer_rows(texts, 0), [("MultiPoint", "XY"), ("Point", "XY")]),
+            (lambda: _fast.lines_rows(rows[:3], 18), [*wanted[0][:3]]),
+            (lambda: len(_fast.arrays_rows(rows, 6, None, False)), 9),
+            (lambda: bytes(_fast.canonical_buffers(packed, 18, None)[0]), "".join(texts).encode()),
+            (lambda: [it.kind for it in _fast.cut(column, False)], ["MultiPoint", "Point"]),
+        ):
+            self.right_or_none(call, answer)
+        arrays = wkt.to_arrays(texts)
+        self.right_or_none(lambda: _fast.from_arrays_rows(arrays, None, True), texts)
+
+    def right_or_none(self, call, answer):
+        """With each allocation refused a call has no memory, or could do without."""
+        for n in range(1, 10_000):
+            refuse.after(n)
+            try:
+                made = call()
+            except MemoryError:
+                made = None
+            finally:
+                was = refuse.stop()
+            self.assertIn(made, (answer,) if not was else (None, answer), n)
+            if not was:
+                return
+        self.fail("no end")
 
     def test_lent(self):
         column = made(TEXTS, NAMED)

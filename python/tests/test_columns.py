@@ -7,7 +7,7 @@ import unittest.mock
 
 import wkt
 from modules import installed
-from wkt._blocks import _fast as compiled
+from wkt._native import _fast as compiled
 
 numpy, pandas, tqdm = installed("numpy"), installed("pandas"), installed("tqdm")
 

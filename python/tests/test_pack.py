@@ -1,13 +1,26 @@
-"""The buffers that are made of Python's values, where these are out of the ordinary."""
+"""Rows that are out of the ordinary: what says another length, changes during a call, or fails."""
 import array
 import io
 import unittest
 
 import wkt
 from modules import installed
-from wkt import _blocks
+from wkt._native import _fast, calls as native
 
 numpy = installed("numpy")
+
+
+# What each call for rows answers of these: point(1 2), a null row, x.
+ROWS = {
+    "canonical": (lambda it: native.canonical_rows(it, 18, 1, None, None), ["POINT(1 2)", None, None]),
+    "keep": (lambda it: native.canonical_rows(it, 18, 2, None, None), ["POINT(1 2)", None, "x"]),
+    "statuses": (lambda it: list(memoryview(native.statuses(it, 18, None)).cast("B").cast("I")), [0, 28, 3]),
+    "same": (lambda it: native.same_rows(it, it, 18, 1, None), [True, None, None]),
+    "same as": (lambda it: native.same_rows(it, "POINT(1 2)", 18, 1, None), [True, None, None]),
+    "infer": (lambda it: native.infer_rows(it, 1), [("Point", "XY"), None, None]),
+    "lines": (lambda it: native.lines_rows(it, 18), ["POINT(1 2)", None, "refused"]),
+    "arrays": (lambda it: list(memoryview(native.arrays_rows(it, 6, None, False)[8]).cast("B").cast("I")), [0, 28, 3]),
+}
 
 
 class Wrong(list):
@@ -32,12 +45,11 @@ class Pack(unittest.TestCase):
     def test_lengths_that_are_wrong(self):
         with self.assertRaises(KeyError):
             wkt.canonical(Wrong(["POINT(1 2)"]))
-        if _blocks._fast is None:
-            return
         # Only the rows that are there are read, and all of them.
-        for rows in (Wrong(["ab", None, "c"]), Longer(["ab", None, "c"], 0), Longer(["ab", None, "c"], 1000)):
-            data, offsets, bits = _blocks._fast.pack(rows)
-            self.assertEqual((data, len(offsets), bits[0] & 7), (b"abc", 32, 5))
+        rows = ["point(1 2)", None, "x"]
+        for wrong in (Wrong(rows), Longer(rows, 0), Longer(rows, 1000)) if _fast is not None else ():
+            for call, wanted in ROWS.values():
+                self.assertEqual(call(wrong), wanted)
 
         class Itself(Longer):
             """A list of which each part is the list itself, with the length that it says."""
@@ -51,13 +63,23 @@ class Pack(unittest.TestCase):
             )
 
     def test_offsets_that_are_wrong(self):
-        if _blocks._fast is None:
+        if _fast is None:
             return
         statuses = array.array("I", [0, 0])
+        calls = [
+            lambda ends: _fast.unpack(b"abcde", array.array("q", ends), statuses),
+            lambda ends: _fast.canonical_buffers((b"abcde", array.array("q", ends), b"", 2), 18, None),
+            lambda ends: _fast.arrays_rows((b"abcde", array.array("q", ends), b"", 2), 18, None, True),
+        ]
         for ends in ([0, 3, 6], [-1, 2, 3], [0, 3, 2], [0, 3], [0, 1, 2, 3]):
+            for call in calls:
+                with self.assertRaises(ValueError):
+                    call(ends)
+        ends = array.array("q", [0, 3, 5])
+        for wrong in ((b"abcde", ends, b"12", 2), (b"abcde", ends, b"", 1 << 60), (b"abcde", ends, b"", -1)):
             with self.assertRaises(ValueError):
-                _blocks._fast.unpack(b"abcde", array.array("q", ends), statuses)
-        self.assertEqual(_blocks._fast.unpack(b"abcde", array.array("q", [0, 3, 5]), statuses), ["abc", "de"])
+                _fast.canonical_buffers(wrong, 18, None)
+        self.assertEqual(_fast.unpack(b"abcde", ends, statuses), ["abc", "de"])
 
     @unittest.skipIf(numpy is None, "no NumPy")
     def test_masks(self):
@@ -223,11 +245,49 @@ class Liars(unittest.TestCase):
                 (wkt.canonical, wanted),
                 (wkt.canonical_column, (wanted, [0] * 70_000)),
                 (wkt.reads, [True] * 70_000),
+                (wkt.explain, [None] * 70_000),
                 (lambda it, progress: wkt.same(it, before, progress=progress), [True] * 70_000),
                 (lambda it, progress: wkt.from_arrays_column(wkt.to_arrays_column(it, progress=progress))[0], wanted),
             ):
                 rows = list(before)
                 self.assertTrue(call(rows, progress=lambda done: change(rows)) == answer)
+
+    def test_rows_that_change_rows(self):
+        """A row whose attributes are code changes the rows around it, while it is refused."""
+        for call in (wkt.canonical, wkt.canonical_column, wkt.infer, wkt.lines, wkt.reads, wkt.explain, wkt.to_arrays,
+                     wkt.to_arrays_column, lambda it: wkt.same(it, it), wkt.from_arrays):  # fmt: skip
+            rows = ["POINT(1 2)" * 10] * 10
+
+            class Changes:
+                def __getattr__(self, name):
+                    rows.clear()
+                    raise AttributeError(name)
+
+            rows[5:5] = [Changes()]
+            with self.assertRaises(TypeError):
+                call(rows if call is not wkt.from_arrays else [wkt.to_arrays("POINT(1 2)"), *rows[5:]])
+
+    def test_arrays_of_another_size(self):
+        """An Arrays that is made behind the back of its class, and buffers of other items."""
+        for count in range(6):
+            with self.assertRaises((TypeError, IndexError, wkt.WktError)):
+                wkt.from_arrays([tuple.__new__(wkt.Arrays, ("Point", "XY", [1], [0, 1], [0])[:count])])
+        arrays = wkt.to_arrays("POINT(1 2)", 0)
+        for numbers, wanted in (
+            (array.array("q", [1, 2]), "POINT(1 2)"),
+            (array.array("i", [1, 2]), "POINT(1 2)"),
+            (memoryview(array.array("q", [1, 9, 2]))[::2], "POINT(1 2)"),
+            (memoryview(array.array("Q", [1, 2])), "POINT(1 2)"),
+            (array.array("d", [1, 2]), TypeError),
+            (b"12345678", TypeError),
+        ):
+            made = arrays._replace(numbers=numbers)
+            for given, answer in ((made, wanted), ([made], [wanted])):
+                if isinstance(wanted, str):
+                    self.assertEqual(wkt.from_arrays(given), answer)
+                else:
+                    with self.assertRaises(wanted):
+                        wkt.from_arrays(given)
 
 
 if __name__ == "__main__":

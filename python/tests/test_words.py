@@ -7,7 +7,7 @@ import unittest
 import unittest.mock
 
 import wkt
-from modules import installed
+from modules import installed, patched
 
 numpy = installed("numpy")
 
@@ -215,24 +215,18 @@ class Words(unittest.TestCase):
 class Later(unittest.TestCase):
     """A later library may have statuses, expectations and hints that this package doesn't know."""
 
-    def patched(self, name, change):
-        """The library's call of this name, after which `change` gets what it was given, and may return a status."""
-        call = getattr(wkt._library, name)
-
-        def changed(*given):
-            status = call(*given)
-            return change(status, *given) or status
-
-        return unittest.mock.patch.object(wkt._library, name, changed)
-
     def test_places_in_texts(self):
+        def put(value, at):
+            ctypes.c_uint32.from_address(at).value = value
+
         def explain(status, *given):
-            given[3]._obj.value, given[6]._obj.value = 15, 11
+            put(15, given[3])
+            put(11, given[6])
 
         def hint(status, *given):
-            given[3]._obj.value = 12
+            put(12, given[3])
 
-        with self.patched("wkt_explain", explain), self.patched("wkt_hint", hint):
+        with patched("wkt_explain", explain), patched("wkt_hint", hint):
             for text, places in (("POINT(1 x)", 18), ("POINT(1 2.55)", 1)):
                 found = wkt.explain(text, places)
                 self.assertEqual((found.status, found.message, found.hint), (15, "Status 15", ""))
@@ -260,7 +254,7 @@ class Later(unittest.TestCase):
         calls.update(wkt_column_canonical=column(11), wkt_column_arrays=column(24), wkt_explain=lambda *given: 34)
         calls["wkt_message"] = lambda words, status: b"A reason of tomorrow"
         for name, change in calls.items():
-            self.enterContext(self.patched(name, change))
+            self.enterContext(patched(name, change))
         texts = ["POINT(1 2)", None, "PINT(1)"]
         for call in (wkt.canonical, wkt.to_arrays, lambda it: wkt.same(it, "POINT(1 2)"), wkt.infer):
             for given in (texts[2], texts):

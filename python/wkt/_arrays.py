@@ -1,19 +1,18 @@
 """Geometries as flat arrays of numbers, one by one and as columns."""
-import ctypes
 import itertools
 import operator
-from typing import Any, Callable, Iterator, List, NamedTuple, Optional, Tuple
+from typing import Any, List, NamedTuple, Optional, Tuple
 
 from . import _arrow, _buffers, _library
-from ._blocks import Progress, Packed, Room, pack, parts, pointer, shown, unpacked
 from ._columns import check_invalid, column_of, is_column, or_null, refused_of, rows_of
 from ._errors import WktError, check, words_of
 from ._explain import refusal
-from ._names import DIMENSIONS, KINDS, NOT_COLUMN, NOT_WHOLE, TOO_SMALL
-from ._values import WHOLE, Ints, Text, encoded, integers, is_null, numpy, places_of, zeros
+from ._names import DIMENSIONS, KINDS, NOT_COLUMN, TOO_SMALL
+from ._native import bind, calls
+from ._progress import Progress, shown
+from ._room import Room, pointer
+from ._values import WHOLE, Ints, array_of, integers, is_null, numpy, places_of, zeros
 
-# Rows that a call takes: few enough that its buffers stay near the processor, and a signal or a callback gets its turn.
-BLOCK = 1 << 16
 CODES = dict(
     kinds="I", dimensions="I", numbers="q", number_offsets="q",
     rings="Q", ring_offsets="q", polygons="Q", polygon_offsets="q",
@@ -112,31 +111,13 @@ def _parts(*held: Any) -> Any:
     return itertools.chain.from_iterable((pointer(values), len(values)) for values in held)
 
 
-def _three(sizes: Any, likely: int, call: Callable[..., int]) -> Tuple[Any, Any, Any]:
-    """The numbers and the offsets of rings and of polygons that a call fills, which says how many they are."""
-    room = (likely, likely, likely)
-    while True:
-        held = [zeros(code, length) for code, length in zip("qQQ", room)]
-        status = call(*_parts(*held))
-        if status != TOO_SMALL:
-            break
-        room = (sizes.numbers, sizes.rings, sizes.polygons)
-    check(status)
-    numbers, rings, polygons = held
-    return numbers[: sizes.numbers], rings[: sizes.rings], polygons[: sizes.polygons]
+def _text_arrays(text: Any, places: int, whole: bool) -> Arrays:
+    kind, dimension, numbers, rings, polygons = calls.arrays(text, places, whole)
+    three = array_of("q", numbers), array_of("Q", rings), array_of("Q", polygons)
+    return Arrays(KINDS[kind], DIMENSIONS[dimension], *three, places)
 
 
-def _text_arrays(text: Text, places: int) -> Arrays:
-    data, sizes = encoded(text), _library.Sizes()
-
-    def call(*three: Any) -> int:
-        status: int = _library.wkt_arrays(data, len(data), places, ctypes.byref(sizes), *three)
-        if status and status != TOO_SMALL and (status < 20 or status == NOT_WHOLE):
-            raise refusal(status, text, places)
-        return status
-
-    three = _three(sizes, len(data) // 2 + 4, call)
-    return Arrays(KINDS[sizes.kind], DIMENSIONS[sizes.dimension], *three, places=places % WHOLE)
+bind("Arrays", Arrays)
 
 
 def to_arrays(text: Any, places: int = 6, invalid: str = "raise", progress: Progress = None, whole: bool = True) -> Any:
@@ -144,98 +125,25 @@ def to_arrays(text: Any, places: int = 6, invalid: str = "raise", progress: Prog
 
     places: digits after the point, 0 to 18; a number is whole units of ten to the minus `places`.
     invalid: "raise" or "null": None of a text that has no arrays. progress, whole: as of `canonical`.
-    They are of the value as it is read; for the same arrays of the same key, pass the canonical text.
+    They are of the value as it is read; for the same arrays of the same key, pass the canonical text. Rows of a column
+    may share arrays of rings and polygons, which can't be written.
     WktError: the text is refused (1 to 14, 20, 30), is a collection (24), or has a number that 64 bits don't hold (25).
     """
-    places = places_of(places, whole)
+    checked = places_of(places, whole)
     check_invalid(invalid, ("raise", "null"))
     if not is_column(text):
-        return or_null(invalid, None, lambda: _text_arrays(text, places))
+        return or_null(invalid, None, lambda: _text_arrays(text, checked % WHOLE, whole))
     rows: Any = text if _arrow.is_texts(text) and invalid == "null" else column_of(text)
-    held = _column_arrays(rows, places, progress)
+    held = _column_arrays(rows, checked, progress)
     if invalid == "raise":
         for row in refused_of(held.statuses)[:1]:
-            raise refusal(int(held.statuses[row]), rows[row], places, row)
-    return list(_rows(held))
-
-
-def _rows(held: ColumnArrays) -> Iterator[Optional[Arrays]]:
-    """The arrays of each row."""
-
-    def cut(values: Any, offsets: Any) -> Iterator[Any]:
-        bounds = offsets.tolist()
-        return (values[start:end] for start, end in zip(bounds, bounds[1:]))
-
-    words = zip(held.statuses.tolist(), held.kinds.tolist(), held.dimensions.tolist())
-    lists = zip(*(cut(values, offsets) for values, offsets in zip(held[2:8:2], held[3:8:2])))
-    for (status, kind, dimension), (numbers, rings, polygons) in zip(words, lists):
-        yield None if status else Arrays(KINDS[kind], DIMENSIONS[dimension], numbers, rings, polygons, held.places)
-
-
-def _column_call(held: Packed, places: int, words: Any, ends: Any, three: Any) -> Tuple[int, Any]:
-    """The status of a call for the arrays of some rows, and what it says of the sizes."""
-    sizes = _library.ColumnSizes()
-    joined = (part for values, end in zip(three, ends) for part in _parts(values, end))
-    status = _library.wkt_column_arrays(
-        *parts(held), places, ctypes.byref(sizes), *_parts(*words[:2]), *joined, *_parts(words[2])
-    )
-    if status != TOO_SMALL:
-        check(status)
-    return status, (sizes.numbers, sizes.rings, sizes.polygons)
-
-
-def _likely(held: Packed) -> int:
-    """How many numbers, or offsets, some rows have at most, mostly."""
-    return len(held.data) // 8 + 2 * held.rows + 8
-
-
-class _Filling:
-    """The arrays of a column, which are filled by blocks of rows, each behind the one before it."""
-
-    def __init__(self, rows: int) -> None:
-        self.words = [zeros("I", rows) for _ in range(3)]  # kinds, dimensions, statuses
-        self.ends = [zeros("q", rows + 1) for _ in range(3)]
-        self.three = [zeros(code, 0) for code in "qQQ"]  # numbers, rings, polygons
-        self.used = [0, 0, 0]
-        self.rows = rows
-
-    def holds(self, sizes: Any) -> None:
-        """Makes room for so many behind what is filled."""
-        for i, size in enumerate(sizes):
-            values, used = self.three[i], self.used[i]
-            if len(values) < used + size:
-                more = zeros("Q" if i else "q", used + size + used // 2)
-                more[:used] = values[:used]
-                self.three[i] = more
-
-    def add(self, first: int, held: Packed, places: int) -> None:
-        """The rows from one on."""
-        last = first + held.rows
-        if not first:
-            self.holds(3 * [_likely(held) * (self.rows // held.rows + 1) if held.rows else 8])
-        self.holds(3 * [_likely(held)])
-        words, ends = self.words, self.ends
-        if held.rows < self.rows:  # by NumPy, whose parts share the items
-            words = [values[first:last] for values in words]
-            ends = [values[first : last + 1] for values in ends]
-        while True:
-            behind = [values[used:] if used else values for values, used in zip(self.three, self.used)]
-            status, sizes = _column_call(held, places, words, ends, behind)
-            if status == 0:
-                break
-            self.holds(sizes)
-        for i, size in enumerate(sizes):
-            if self.used[i]:
-                ends[i] += self.used[i]
-            self.used[i] += size
-
-    def made(self, places: int) -> ColumnArrays:
-        """All of it, with numbers of so many places."""
-        three = [values[:used] for values, used in zip(self.three, self.used)]
-        kinds, dimensions, statuses = self.words
-        return ColumnArrays(
-            *[kinds, dimensions, *itertools.chain.from_iterable(zip(three, self.ends)), statuses, places]
-        )
+            raise refusal(int(held.statuses[row]), rows[row], checked, row)
+    if numpy is None:
+        return calls.cut(held, False)
+    # Rows share those that are equal, as most are: so nobody may write them.
+    for shared in (held.rings, held.polygons):
+        shared.flags.writeable = False
+    return calls.cut(held, True)
 
 
 def to_arrays_column(texts: Any, places: int = 6, progress: Progress = None, whole: bool = True) -> ColumnArrays:
@@ -249,18 +157,11 @@ def to_arrays_column(texts: Any, places: int = 6, progress: Progress = None, who
 
 
 def _column_arrays(texts: Any, places: int, progress: Progress) -> ColumnArrays:
-    held = _buffers.whole(_arrow.taken(texts)) if _arrow.is_texts(texts) else None
-    rows = () if held is not None else column_of(texts)
-    count = held.rows if held is not None else len(rows)
-    filling = _Filling(count)
-    # Without NumPy one call takes all rows, since no other shares its arrays.
-    step = BLOCK if numpy is not None else max(count, 1)
-    with shown(progress, count) as report:
-        for first in range(0, max(count, 1), step):
-            part = pack(rows[first : first + step], first) if held is None else _buffers.part(held, first, step)
-            filling.add(first, part, places)
-            report(first + part.rows)
-    return filling.made(places % WHOLE)
+    lent = _arrow.is_texts(texts)
+    column: Any = tuple(_buffers.whole(_arrow.taken(texts))) if lent else column_of(texts)
+    with shown(progress, column[3] if lent else len(column)) as report:
+        made = calls.arrays_rows(column, places, report, lent)
+    return ColumnArrays._make([*map(array_of, "IIqqQqQqI", made), places % WHOLE])
 
 
 def _index(names: Tuple[str, ...], name: Any, what: str) -> int:
@@ -302,15 +203,21 @@ def from_arrays(arrays: Any, places: Optional[int] = None) -> Any:
     TypeError: one is a float, a bool or another type, or the arrays aren't five. OverflowError: one is out of the range
     of its 64 bits. WktError: the arrays are of no geometry (26); in a list it names the row.
     """
+    checked = None if places is None else places_of(places)
     # A tuple is one geometry: Arrays is one, and so is what is given in its place.
     if isinstance(arrays, tuple):
-        return _arrays_text(arrays, places)
-    if places is not None:
-        places_of(places)
+        return calls.from_arrays_rows([arrays], checked, False)[0]
     rows = rows_of(arrays)
     if rows is None:
         raise TypeError("arrays are wkt.Arrays or a list of them, and not %s" % type(arrays).__name__)
-    return [None if is_null(each) else _arrays_text(each, places, row) for row, each in enumerate(rows)]
+    return calls.from_arrays_rows(list(rows), checked, True)
+
+
+def _one_text(arrays: Any, places: Optional[int], row: Optional[int]) -> Optional[str]:
+    return None if row is not None and is_null(arrays) else _arrays_text(arrays, places, row)
+
+
+bind("one_text", _one_text)
 
 
 def from_arrays_column(arrays: ColumnArrays, places: Optional[int] = None) -> Tuple[List[Optional[str]], List[int]]:
@@ -322,12 +229,12 @@ def from_arrays_column(arrays: ColumnArrays, places: Optional[int] = None) -> Tu
     """
     if not all(hasattr(arrays, name) for name in ColumnArrays._fields[:-1]):
         raise TypeError("a column of arrays is wkt.ColumnArrays, and not %s" % type(arrays).__name__)
-    out, needed, ends, statuses = _column_texts(arrays, _places_in(arrays, places))
-    return unpacked(out, needed, ends, statuses), statuses.tolist()
+    out, ends, statuses = _column_texts(arrays, _places_in(arrays, places))
+    return calls.unpack(out, ends, statuses), statuses.tolist()
 
 
-def _column_texts(arrays: ColumnArrays, places: int) -> Tuple[Any, int, Any, Any]:
-    """The canonical texts of arrays as a buffer, how long they are, where each begins, and the status of each row."""
+def _column_texts(arrays: ColumnArrays, places: int) -> Tuple[Any, Any, Any]:
+    """The canonical texts of arrays as a buffer, where each begins, and the status of each row."""
     held = {name: integers(code, getattr(arrays, name), name) for name, code in CODES.items()}
     given = integers("I", arrays.statuses, "statuses")
     rows = held["kinds"].length
@@ -343,8 +250,8 @@ def _column_texts(arrays: ColumnArrays, places: int) -> Tuple[Any, int, Any, Any
         return status
 
     room = Room(12 * held["numbers"].length + 24 * rows + 64)
-    needed = room.call(call)
-    return room.out, needed, ends, statuses
+    room.call(call)
+    return room.out, ends, statuses
 
 
 def _valid_bits(statuses: Ints) -> bytes:

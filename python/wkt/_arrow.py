@@ -8,10 +8,12 @@ import struct
 from collections.abc import Sequence
 from typing import Any, Dict, Iterator, List, Optional, Tuple
 
-from ._blocks import Packed, Progress, _fast
 from ._buffers import Buffers, Texts, answered, bounds, fixed_array, fixed_packed, is_fixed, joined, rows_in, shown_text
 from ._errors import printable
 from ._names import NOT_UTF8
+from ._native import _fast
+from ._progress import Progress
+from ._slow import Packed
 from ._values import numpy
 
 _NULLABLE = 2

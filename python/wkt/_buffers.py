@@ -1,14 +1,11 @@
 """Columns as buffers, with no object for a row: those that Arrow lends, and NumPy's arrays of bytes. It needs NumPy."""
-import ctypes
 from typing import Any, Callable, Iterator, List, NamedTuple, Optional, Tuple
 
-from . import _blocks, _library
-from ._blocks import Packed, Progress, pointer, shown
-from ._errors import check
-from ._names import NOT_UTF8, NULL, TOO_SMALL
-from ._values import numpy
-
-BLOCK = 1 << 18
+from ._names import NOT_UTF8, NULL
+from ._native import calls
+from ._progress import Progress, shown
+from ._slow import Packed
+from ._values import array_of, numpy
 
 
 class Texts(NamedTuple):
@@ -53,13 +50,6 @@ def fixed_array(texts: Texts, shape: Any) -> Any:
     return made.view("S%d" % width).reshape(shape)
 
 
-def part(held: Packed, first: int, most: int = BLOCK) -> Packed:
-    """A block of the rows, from one on that is a multiple of 8."""
-    rows = min(most, held.rows - first)
-    bits = held.bits[first // 8 : (first + rows + 7) // 8]
-    return Packed(held.data, held.offsets[first : first + rows + 1], bits, rows)
-
-
 def whole(held: Buffers) -> Packed:
     """All rows as one chunk."""
     chunks = list(held.chunks)
@@ -88,32 +78,14 @@ def _ends(offsets: List[Any]) -> Any:
     return numpy.concatenate(parts)
 
 
-def canonical_chunk(held: Packed, places: int, report: Callable[[int], None]) -> Texts:
-    """The canonical texts of a chunk, by blocks, each of which is written behind the one before it."""
-    spans = held.offsets[-1] - held.offsets[0] if held.rows else 0
-    out = numpy.empty(int(spans) + int(spans) // 8 + 64, numpy.uint8)
-    ends, statuses = numpy.zeros(held.rows + 1, numpy.int64), numpy.empty(held.rows, numpy.uint32)
-    at, needed = 0, _library.size()
-    for first in range(0, held.rows, BLOCK):
-        block = part(held, first)
-        last = first + block.rows
-        where = (ends[first : last + 1], statuses[first:last])
-        while True:
-            rest = out[at:]
-            status = _library.wkt_column_canonical(
-                *_blocks.parts(block), places, pointer(rest), len(rest), pointer(where[0]), block.rows + 1,
-                pointer(where[1]), block.rows, ctypes.byref(needed),
-            )  # fmt: skip
-            if status != TOO_SMALL:
-                break
-            # What the rows to come need isn't known: so much as those of this block, in proportion.
-            more = needed.value * (held.rows - first) // block.rows
-            out = numpy.concatenate([out[:at], numpy.empty(more + more // 8 + 64, numpy.uint8)])
-        check(status)
-        where[0][:] += at
-        at += needed.value
-        report(last)
-    return Texts(out[:at], ends, statuses)
+def canonical_chunk(held: Packed, places: int, report: Optional[Callable[[int], None]]) -> Texts:
+    """The canonical texts of a chunk."""
+    made = calls.canonical_buffers(tuple(held), places, report)
+    return Texts(*(array_of(code, each) if code else _bytes(each) for code, each in zip(("", "q", "I"), made)))
+
+
+def _bytes(buffer: Any) -> Any:
+    return numpy.frombuffer(buffer, numpy.uint8)
 
 
 def refused(texts: Texts) -> Any:
@@ -158,13 +130,17 @@ def shown_text(text: bytes) -> Any:
         return text
 
 
+def _from(report: Callable[[int], None], first: int) -> Callable[[int], None]:
+    return lambda done: report(first + done)
+
+
 def answered(held: Buffers, places: int, invalid: str, progress: Progress, bytes_too: bool = False) -> Iterator[Texts]:
     """The canonical texts of each chunk, once they are asked for."""
     first = 0
     with shown(progress, held.rows) as report:
         for chunk in held.chunks:
-            before = first
-            texts = canonical_chunk(chunk, places, lambda done: report(before + done))
+            counted = None if report is None else _from(report, first)
+            texts = canonical_chunk(chunk, places, counted)
             if invalid == "raise":
                 raise_first(chunk, texts, places, first)
             elif invalid == "keep":

@@ -1,47 +1,20 @@
 """The functions on texts."""
-import ctypes
-from typing import Any, List, Optional, Sequence, Tuple
+from typing import Any, List, Optional, Tuple
 
 from . import _arrow, _library
-from ._blocks import Progress, Room, canonical_blocks
-
 from ._columns import (
-    canonical_like, canonical_rows, check_invalid, column_of, is_column, is_series, like, or_null, refused_of,
-    series_like,
+    INVALID, canonical_like, canonical_rows, check_invalid, column_of, is_column, is_series, like, or_null, refused_of,
+    series_like, statuses_of,
 )  # fmt: skip
 from ._errors import check
-from ._explain import Explanation, explained, refusal
-from ._library import size, u32
-from ._names import (
-    DIMENSIONS,
-    HEADER_MESSAGES,
-    KINDS,
-    LAST_REFUSAL,
-    MESSAGES,
-    NO_MEMORY,
-    NO_PLACES,
-    NOT_WHOLE,
-    NULL,
-    TOO_SMALL,
-)
-from ._values import Text, encoded, is_null, places_of
+from ._explain import Explanation, explained
+from ._names import HEADER_MESSAGES, MESSAGES
+from ._native import bind, calls
+from ._progress import Progress, shown
+from ._room import Room
+from ._values import encoded, is_null, numpy, places_of
 
-_INFERRED = HEADER_MESSAGES + MESSAGES[len(HEADER_MESSAGES) :]
-
-
-def _text_canonical(text: Text, places: int) -> str:
-    data, end, needed = encoded(text), size(), size()
-    room = len(data) + 96 & -64
-    while True:
-        out = (ctypes.c_char * room)()
-        status = _library.wkt_canonical(data, len(data), places, out, room, ctypes.byref(needed), ctypes.byref(end))
-        if status == 0:
-            return str(memoryview(out)[: needed.value], "ascii")
-        if 1 <= status <= LAST_REFUSAL or status == NOT_WHOLE:
-            raise refusal(status, text, places)
-        if status != TOO_SMALL:
-            check(status)
-        room = needed.value
+_canonical, _same, _infer, _reads = calls.canonical, calls.same, calls.infer, calls.reads
 
 
 def canonical(
@@ -64,13 +37,13 @@ def canonical(
     int.
     OverflowError: places is below 0, or too large for 32 bits.
     """
-    places = places_of(places, whole)
-    if type(text) is not str and is_column(text):
-        return canonical_like(text, places, invalid, progress)
-    if invalid == "raise":
-        return _text_canonical(text, places)
+    if type(text) is str and invalid == "raise":
+        return _canonical(text, places, whole)
+    checked = places_of(places, whole)
+    if is_column(text):
+        return canonical_like(text, checked, invalid, progress)
     check_invalid(invalid)
-    return or_null(invalid, text, lambda: _text_canonical(text, places))
+    return or_null(invalid, text, lambda: _canonical(text, places, whole))
 
 
 def batches(
@@ -101,19 +74,8 @@ def canonical_column(
     A status is 0, or 28 of a null row, or why the text is refused; where it isn't 0 there is None for a text.
     places, progress, whole: as of `canonical`.
     """
-    places = places_of(places, whole)
-    answers, statuses = canonical_rows(column_of(texts), places, "null", progress)
-    return answers, statuses.tolist()
-
-
-def _text_same(one: Text, other: Text, places: int) -> bool:
-    a, b, answer = encoded(one), encoded(other), u32()
-    status = _library.wkt_same(a, len(a), b, len(b), places, ctypes.byref(answer))
-    if 1 <= status <= LAST_REFUSAL or status == NOT_WHOLE:
-        wrong = one if explained(one, places) is not None else other
-        raise refusal(status, wrong, places)
-    check(status)
-    return answer.value == 1
+    statuses: List[int] = []
+    return canonical_rows(column_of(texts), places_of(places, whole), "null", progress, statuses), statuses
 
 
 def same(
@@ -127,66 +89,33 @@ def same(
     `canonical`; the WktError of a column names the first row that is refused. ValueError: the columns have different
     lengths or indexes.
     """
-    places = places_of(places, whole)
     if type(one) is type(other) is str and invalid == "raise":
-        return _text_same(one, other, places)
+        return _same(one, other, places, whole)
+    checked = places_of(places, whole)
     check_invalid(invalid, ("raise", "null"))
     columns = [is_column(one), is_column(other)]
     if not any(columns):
-        return or_null(invalid, None, lambda: _text_same(one, other, places))
+        return or_null(invalid, None, lambda: _same(one, other, places, whole))
     series = [it for it, column in zip((one, other), columns) if column and is_series(it)]
-    ones, others = (column_of(it) if column else None for it, column in zip((one, other), columns))
-    if ones is None or others is None:
-        answers = _same_as(
-            ones if ones is not None else others or (), other if others is None else one, places, invalid, progress
-        )
-    elif len(others) != len(ones):
-        raise ValueError("columns of %d and of %d rows" % (len(ones), len(others)))
-    elif len(series) == 2 and not series[0].index.equals(series[1].index):
+    if len(series) == 2 and len(one) == len(other) and not series[0].index.equals(series[1].index):
         raise ValueError("two Series with different indexes: align them, or give the rows of one as a list")
+    if not columns[0]:
+        one, other = other, one
+    rows = column_of(one)
+    wanted = column_of(other) if all(columns) else None if is_null(other) else _canonical(other, places, whole)
+    if wanted is None:
+        answers: Any = [None] * len(rows)
     else:
-        answers = _same_rows(ones, others, places, invalid, progress)
+        with shown(progress, len(rows)) as report:
+            answers = calls.same_rows(rows, wanted, checked, INVALID.index(invalid), report)
     return series_like(series[0], answers, "boolean") if series else answers
 
 
-def _same_rows(
-    ones: Sequence[Any], others: Sequence[Any], places: int, invalid: str, progress: Progress
-) -> List[Optional[bool]]:
-    """Whether each row of a column names the geometry of that of another."""
-    answers: List[Optional[bool]] = []
-    blocks = zip(canonical_blocks(ones, places, progress), canonical_blocks(others, places))
-    for (first, texts, codes), (_, their_texts, their_codes) in blocks:
-        if invalid == "raise":
-            _raise_of_two(((ones, codes), (others, their_codes)), first, places)
-        answers += [None if a is None or b is None else a == b for a, b in zip(texts, their_texts)]
-    return answers
+def _refuse_header(status: int, row: Optional[int]) -> None:
+    check(status, HEADER_MESSAGES + MESSAGES[len(HEADER_MESSAGES) :], row)
 
 
-def _raise_of_two(both: Sequence[Tuple[Sequence[Any], Any]], first: int, places: int) -> None:
-    """Raises the error of the first row that is refused in one of two columns and null in neither."""
-    rows = sorted({i for _, codes in both for i in refused_of(codes)})
-    for i in rows:
-        if any(codes[i] == NULL for _, codes in both):
-            continue
-        for column, codes in both:
-            if codes[i]:
-                raise refusal(int(codes[i]), column[first + i], places, first + i)
-
-
-def _same_as(column: Sequence[Any], text: Any, places: int, invalid: str, progress: Progress) -> List[Optional[bool]]:
-    """Whether each row of a column names the geometry of one text."""
-    if is_null(text):
-        return [None] * len(column)
-    wanted = _text_canonical(text, places)
-    answers, _ = canonical_rows(column, places, invalid, progress)
-    return [None if answer is None else answer == wanted for answer in answers]
-
-
-def _text_kind(text: Text, row: Optional[int] = None) -> Tuple[str, str]:
-    data, kind, dimension = encoded(text, row), u32(), u32()
-    status = _library.wkt_infer(data, len(data), ctypes.byref(kind), ctypes.byref(dimension))
-    check(status, _INFERRED, row)
-    return KINDS[kind.value], DIMENSIONS[dimension.value]
+bind("refuse_header", _refuse_header)
 
 
 def infer(text: Any, invalid: str = "raise") -> Any:
@@ -196,13 +125,12 @@ def infer(text: Any, invalid: str = "raise") -> Any:
     "raise" or "null": None of a text without a header. WktError: the text begins with no kind word (1), EMPTY comes
     first with no space before it (2), there is neither a parenthesis nor EMPTY (3), or it isn't UTF-8 (20).
     """
+    if type(text) is str and invalid == "raise":
+        return _infer(text)
     check_invalid(invalid, ("raise", "null"))
     if not is_column(text):
-        return or_null(invalid, None, lambda: _text_kind(text))
-
-    rows = enumerate(column_of(text))
-    kinds = [None if is_null(row) else or_null(invalid, None, lambda: _text_kind(row, i)) for i, row in rows]
-    return series_like(text, kinds)
+        return or_null(invalid, None, lambda: _infer(text))
+    return series_like(text, calls.infer_rows(column_of(text), INVALID.index(invalid)))
 
 
 def reads(text: Any, places: int = 18, progress: Progress = None, whole: bool = True) -> Any:
@@ -212,19 +140,15 @@ def reads(text: Any, places: int = 18, progress: Progress = None, whole: bool = 
     row False. It says nothing on what Shapely calls valid: a polygon that crosses itself reads. places, progress,
     whole: as of `canonical`.
     """
-    places = places_of(places, whole)
+    if type(text) is str:
+        return _reads(text, places, whole)
+    checked = places_of(places, whole)
     if not is_column(text):
-        data = encoded(text)
-        status = _library.wkt_canonical(data, len(data), places, None, 0, ctypes.byref(size()), ctypes.byref(size()))
-        if status in (NO_MEMORY, NO_PLACES):
-            check(status)
-        return status in (0, TOO_SMALL)
+        return _reads(text, places, whole)
     if _arrow.is_texts(text):
-        return _arrow.statuses(text, places, progress) == 0
-    codes: List[bool] = []
-    for _, _, statuses in canonical_blocks(column_of(text), places, progress, texts=False):
-        codes += [status == 0 for status in statuses.tolist()]
-    return like(text, codes, bool)
+        return _arrow.statuses(text, checked, progress) == 0
+    statuses = statuses_of(column_of(text), checked, progress)
+    return like(text, (statuses == 0).tolist() if numpy is not None else [not it for it in statuses], bool)
 
 
 def explain(text: Any, places: int = 18, progress: Progress = None, whole: bool = True) -> Any:
@@ -240,9 +164,8 @@ def explain(text: Any, places: int = 18, progress: Progress = None, whole: bool 
         return explained(text, places)
     rows = column_of(text)
     answers: List[Optional[Explanation]] = [None] * len(rows)
-    for first, _, statuses in canonical_blocks(rows, places, progress, texts=False):
-        for i in refused_of(statuses):
-            answers[first + i] = or_null("null", None, lambda: explained(rows[first + i], places))
+    for i in refused_of(statuses_of(rows, places, progress)):
+        answers[i] = or_null("null", None, lambda: explained(rows[i], places))
     return series_like(text, answers)
 
 
@@ -263,9 +186,4 @@ def lines(data: Any, places: int = 18) -> Any:
             return status
 
         return Room(len(held) + len(held) // 4 + 64).bytes(call)
-    column = column_of(data)
-    rows = [b"" if is_null(row) else encoded(row, i) for i, row in enumerate(column)]
-    if any(b"\n" in row for row in rows):
-        raise ValueError("a text of a column holds a line feed")
-    answers = lines(b"".join(row + b"\n" for row in rows), places).decode().split("\n")
-    return series_like(data, [None if is_null(row) else answer for row, answer in zip(column, answers)])
+    return series_like(data, calls.lines_rows(column_of(data), places))

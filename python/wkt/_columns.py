@@ -1,13 +1,13 @@
 """What counts as a column, and how its answers come back in the same kind."""
 import sys
-from typing import Any, List, Optional, Sequence, Tuple
+from typing import Any, List, Optional, Sequence
 
 from . import _arrow
-from ._blocks import Progress, canonical_blocks
 from ._errors import WktError
-from ._explain import refusal
 from ._names import NULL
-from ._values import TEXTS, numpy, zeros
+from ._native import calls
+from ._progress import Progress, shown
+from ._values import TEXTS, array_of, numpy
 
 INVALID = ("raise", "null", "keep")
 
@@ -127,7 +127,8 @@ def like(values: Any, answers: List[Any], kind: Any = None) -> Any:
 def refused_of(statuses: Any) -> Any:
     """The rows that are neither answered nor null, by their number."""
     if numpy is not None:
-        return numpy.flatnonzero((statuses != 0) & (statuses != NULL)).tolist()
+        codes = numpy.asarray(statuses)
+        return numpy.flatnonzero((codes != 0) & (codes != NULL)).tolist()
     return [i for i, status in enumerate(statuses) if status not in (0, NULL)]
 
 
@@ -147,19 +148,19 @@ def or_null(invalid: str, text: Any, call: Any) -> Any:
         return text if invalid == "keep" else None
 
 
-def canonical_rows(rows: Sequence[Any], places: int, invalid: str, progress: Progress) -> Tuple[List[Any], Any]:
-    """The canonical texts of some rows, and the status of each."""
-    answers: List[Any] = []
-    codes = zeros("I", len(rows))
-    for first, texts, statuses in canonical_blocks(rows, places, progress):
-        codes[first : first + len(statuses)] = statuses
-        if invalid != "null":
-            for i in refused_of(statuses):
-                if invalid == "raise":
-                    raise refusal(int(statuses[i]), rows[first + i], places, first + i)
-                texts[i] = rows[first + i]
-        answers += texts
-    return answers, codes
+def canonical_rows(
+    rows: Sequence[Any], places: int, invalid: str, progress: Progress, statuses: Optional[List[int]] = None
+) -> List[Any]:
+    """The canonical texts of some rows; the status of each is put into a list."""
+    with shown(progress, len(rows)) as report:
+        answers: List[Any] = calls.canonical_rows(rows, places, INVALID.index(invalid), report, statuses)
+    return answers
+
+
+def statuses_of(rows: Sequence[Any], places: int, progress: Progress) -> Any:
+    """The status of each row."""
+    with shown(progress, len(rows)) as report:
+        return array_of("I", calls.statuses(rows, places, report))
 
 
 def canonical_like(values: Any, places: int, invalid: str, progress: Progress) -> Any:
@@ -167,4 +168,4 @@ def canonical_like(values: Any, places: int, invalid: str, progress: Progress) -
     check_invalid(invalid)
     if _arrow.is_texts(values):
         return _arrow.canonical(values, places, invalid, progress)
-    return like(values, canonical_rows(column_of(values), places, invalid, progress)[0])
+    return like(values, canonical_rows(column_of(values), places, invalid, progress))

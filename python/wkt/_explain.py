@@ -1,12 +1,10 @@
 """Where a text is refused, why, and what could stand there."""
-import ctypes
 import re
-from typing import NamedTuple, Optional, Tuple, Union
+from typing import NamedTuple, NoReturn, Optional, Tuple, Union
 
-from . import _library
 from ._errors import WktError, check, printable, words_of
-from ._library import size, u32
-from ._names import ACCEPTED, EXPECTED, HINTS, MESSAGES, NOT_WHOLE, OK
+from ._names import ACCEPTED, COLLECTION, EXPECTED, HINTS, LAST_REFUSAL, MESSAGES, NOT_WHOLE, OK, TOO_LARGE
+from ._native import bind, calls
 from ._values import WHOLE, Text, encoded
 
 _WIDTH = 72
@@ -93,10 +91,10 @@ def _too_many(number: str, most: int) -> str:
 
 def _hint(data: bytes, word: bytes, places: int) -> str:
     """Why a text is refused at a word, for a user; "" where it isn't known."""
-    hint = u32()
-    if _library.wkt_hint(data, len(data), places, ctypes.byref(hint)) != OK:
+    status, hint = calls.hint(data, places)
+    if status != OK:
         return ""
-    words = HINTS[hint.value] if hint.value < len(HINTS) else ""  # a later library may know more
+    words: str = HINTS[hint] if hint < len(HINTS) else ""  # a later library may know more
     # The one with a number is of a number with too many places: here it says which.
     return _too_many(word.decode("ascii", "replace"), places % WHOLE) if "%u" in words else words
 
@@ -104,28 +102,41 @@ def _hint(data: bytes, word: bytes, places: int) -> str:
 def explained(text: Text, places: int) -> Optional[Explanation]:
     """Where and why a text is refused; None where it is read."""
     data = encoded(text)
-    message, start, stop, expected = u32(), size(), size(), u32()
-    status = _library.wkt_explain(data, len(data), places, *map(ctypes.byref, (message, start, stop, expected)))
+    status, message, first, last, expected = calls.explain(data, places)
     if status == ACCEPTED:
         return None
     if status != NOT_WHOLE:
         check(status)
     shown: Union[str, bytes] = data
-    first, last = start.value, stop.value
     hint = _hint(data, data[first:last], places) if status == OK else ""
     if isinstance(text, str):
         shown = data.decode("utf-8")
         first, last = len(data[:first].decode("utf-8")), len(data[:last].decode("utf-8"))
     if status == NOT_WHOLE:
         return Explanation(shown, status, MESSAGES[status], first, last, _END)
-    what = EXPECTED[expected.value] if expected.value < len(EXPECTED) else "something else (%d)" % expected.value
-    return Explanation(shown, message.value, words_of(message.value), first, last, what, hint)
+    what = EXPECTED[expected] if expected < len(EXPECTED) else "something else (%d)" % expected
+    return Explanation(shown, message, words_of(message), first, last, what, hint)
 
 
 def refusal(status: int, text: Text, places: int, row: Optional[int] = None) -> WktError:
-    """The error of a text that a call refuses with a status."""
+    """The error of a text that a call refuses with a status. Where a text has no arrays, no place in it is wrong."""
     try:
-        explanation = explained(text, places)
+        explanation = None if status in (COLLECTION, TOO_LARGE) else explained(text, places)
     except (WktError, MemoryError):
         explanation = None
     return WktError(status, words_of(status), row, explanation)
+
+
+def _refuse(status: int, text: Text, places: int, row: Optional[int]) -> NoReturn:
+    raise refusal(status, text, places, row)
+
+
+def _refuse_two(status: int, one: Text, other: Text, places: int, row: Optional[int]) -> NoReturn:
+    """Of two texts the first that is refused is named; neither, where one isn't UTF-8."""
+    if not 1 <= status <= LAST_REFUSAL and status != NOT_WHOLE:
+        check(status, row=row)
+    raise refusal(status, one if explained(one, places) is not None else other, places, row)
+
+
+bind("refuse", _refuse)
+bind("refuse_two", _refuse_two)

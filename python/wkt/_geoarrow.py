@@ -2,8 +2,8 @@
 from typing import Any, NamedTuple, Tuple
 
 from . import _arrow
-from ._blocks import _fast
 from ._names import DIMENSIONS, KINDS
+from ._native import _fast
 from ._values import numpy
 
 # The names of the lists of each kind, from the outermost on, as GeoArrow has them.

@@ -1,16 +1,17 @@
 """Lines from one file to another, in bounded memory."""
 import errno
 import io
-from typing import Any, Callable, Iterator, List
+from typing import Any, Callable, Iterator, List, Optional
 
 from . import _library
-from ._blocks import Progress, Room, shown
+from ._progress import Progress, shown
+from ._room import Room
 from ._values import encoded, integer, places_of
 
 PIECE = 1 << 20
 
 
-def _pieces(source: Any, report: Callable[[int], None]) -> Iterator[bytes]:
+def _pieces(source: Any, report: Optional[Callable[[int], None]]) -> Iterator[bytes]:
     done = 0
     while True:
         data = source.read(PIECE)
@@ -21,7 +22,8 @@ def _pieces(source: Any, report: Callable[[int], None]) -> Iterator[bytes]:
             return
         yield data
         done += len(data)
-        report(done)
+        if report is not None:
+            report(done)
 
 
 def _write(sink: Any, data: bytes) -> None:
@@ -40,7 +42,7 @@ def _write(sink: Any, data: bytes) -> None:
         done += taken
 
 
-def _whole_lines(source: Any, report: Callable[[int], None]) -> Iterator[bytes]:
+def _whole_lines(source: Any, report: Optional[Callable[[int], None]]) -> Iterator[bytes]:
     """The input by pieces, each of whole lines; the last may end without a line feed."""
     rest: List[bytes] = []
     for data in _pieces(source, report):

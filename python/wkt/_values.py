@@ -40,6 +40,11 @@ def encoded(text: Any, row: Optional[int] = None) -> bytes:
     raise TypeError("%sa text is a str or bytes, and not %s%s" % (where, type(text).__name__, more))
 
 
+def text_of(row: Any, number: Optional[int]) -> Optional[bytes]:
+    """The bytes of a row, and None of one that is null; with no number those of a text, which is no row."""
+    return None if number is not None and is_null(row) else encoded(row, number)
+
+
 def is_null(row: Any) -> bool:
     """Whether a row of a column is null: None, NaN, or pandas' NA or NaT."""
     if row is None:
@@ -147,8 +152,8 @@ def zeros(code: str, length: int) -> Any:
     return array.array(code, bytes(array.array(code).itemsize * length))
 
 
-def address(values: Any) -> int:
-    """Where an array of `zeros` or of `array` begins."""
-    if isinstance(values, array.array):
-        return values.buffer_info()[0]
-    return int(values.__array_interface__["data"][0])
+def array_of(code: str, buffer: Any) -> Any:
+    """An array over the items of a buffer that a call has made."""
+    if numpy is not None:
+        return numpy.frombuffer(buffer, _TYPES[code])
+    return buffer if isinstance(buffer, array.array) else array.array(code, bytes(buffer))

@@ -6,7 +6,7 @@ import numpy
 import pandas
 import wkt
 
-FAST = wkt._blocks._fast is not None
+FAST = wkt._native._fast is not None
 
 
 def status_of(call, *words, **options):

@@ -1,0 +1,284 @@
+/* Columns by blocks of about a megabyte. The texts of a block are where Python or Arrow has them: nothing is copied but
+ * what is neither str nor bytes. */
+#include "fast.h"
+
+enum { MOST_ROWS = 1 << 15, MOST_BYTES = 1 << 20 };
+
+int has_count(Py_ssize_t count, Py_ssize_t wanted) {
+    if (count != wanted) PyErr_Format(PyExc_TypeError, "%zd arguments, and not %zd", wanted, count);
+    return count == wanted;
+}
+
+int places_in(State *state, PyObject *places, PyObject *whole, uint32_t *to) {
+    long value = -1;
+    PyObject *made;
+    if (PyLong_CheckExact(places) && (whole == Py_True || whole == Py_False)) {
+        int overflow;
+        value = PyLong_AsLongAndOverflow(places, &overflow);
+        if (value >= 0 && value <= 18) {
+            *to = (uint32_t)value | (whole == Py_True ? WKT_WHOLE : 0);
+            return 0;
+        }
+    }
+    if ((made = PyObject_CallFunctionObjArgs(state->places_of, places, whole, NULL)) == NULL) return -1;
+    value = PyLong_AsLong(made);
+    Py_DECREF(made);
+    *to = (uint32_t)value;
+    return value < 0 ? -1 : 0;
+}
+
+PyObject *refused(State *state, uint32_t status, PyObject *text, uint32_t places, Py_ssize_t row) {
+    PyObject *number, *made;
+    if (status == WKT_NO_MEMORY) return PyErr_NoMemory();
+    number = row < 0 ? Py_NewRef(Py_None) : PyLong_FromSsize_t(row);
+    if (number == NULL) return NULL;
+    made = PyObject_CallFunction(state->refuse, "IOIN", status, text, places, number);
+    if (made == NULL) return NULL;
+    Py_DECREF(made);
+    PyErr_SetString(PyExc_SystemError, "a refused text raises nothing");
+    return NULL;
+}
+
+/* The text of a row that is neither str nor bytes, or has lone surrogates, as Python has it. */
+static int text_by_python(State *state, PyObject *row, PyObject *number, Cell *cell, PyObject **held) {
+    char *text;
+    *cell = (Cell){NULL, 0};
+    if ((*held = PyObject_CallFunctionObjArgs(state->text_of, row, number, NULL)) == NULL) return -1;
+    if (*held == Py_None) {
+        Py_CLEAR(*held);
+        return 0;
+    }
+    if (PyBytes_AsStringAndSize(*held, &text, &cell->length) < 0) {
+        Py_CLEAR(*held);
+        return -1;
+    }
+    cell->text = text;
+    return 0;
+}
+
+/* Where the text of a str or of bytes stands: 1. 0: Python has to look at it. */
+static int text_there(PyObject *row, Cell *cell) {
+    if (PyUnicode_Check(row)) {
+        if ((cell->text = PyUnicode_AsUTF8AndSize(row, &cell->length)) != NULL) return 1;
+        /* Lone surrogates have no UTF-8. */
+        if (!PyErr_ExceptionMatches(PyExc_UnicodeEncodeError)) return -1;
+        PyErr_Clear();
+        return 0;
+    }
+    if (PyBytes_Check(row)) {
+        char *text;
+        if (PyBytes_AsStringAndSize(row, &text, &cell->length) < 0) return -1;
+        cell->text = text;
+        return 1;
+    }
+    return 0;
+}
+
+int text_in(State *state, PyObject *text, Cell *cell, PyObject **held) {
+    int there = text_there(text, cell);
+    *held = NULL;
+    if (there != 0) return there < 0 ? -1 : 0;
+    return text_by_python(state, text, Py_None, cell, held);
+}
+
+static int row_in(Walk *walk, PyObject *row, Py_ssize_t i, Cell *cell) {
+    PyObject *held, *number;
+    int there = text_there(row, cell), failed;
+    if (there != 0) return there < 0 ? -1 : 0;
+    *cell = (Cell){NULL, 0};
+    if (row == Py_None || row == walk->null) return 0;
+    if (PyFloat_Check(row) && PyFloat_AsDouble(row) != PyFloat_AsDouble(row)) return 0;
+    if ((number = PyLong_FromSsize_t(i)) == NULL) return -1;
+    failed = text_by_python(walk->state, row, number, cell, &held);
+    Py_DECREF(number);
+    if (failed < 0) return -1;
+    if (held == NULL) {
+        walk->null = row; /* it stays in the rows */
+        return 0;
+    }
+    failed = PyList_Append(walk->held, held);
+    Py_DECREF(held);
+    return failed;
+}
+
+/* The memory of a block, once it is known how many rows there are. */
+static int started(Walk *walk, State *state, PyObject *report) {
+    Py_ssize_t most = walk->count < MOST_ROWS ? walk->count : MOST_ROWS;
+    size_t size = (size_t)(most + 1) * sizeof *walk->cells;
+    walk->state = state;
+    walk->report = report;
+    walk->held = PyList_New(0);
+    walk->cells = PyMem_Malloc(size);
+    walk->others = walk->other == NULL ? NULL : PyMem_Malloc(size);
+    walk->statuses = PyMem_Malloc((size_t)(most + 1) * sizeof *walk->statuses);
+    if (walk->held == NULL) return -1;
+    if (walk->cells != NULL && walk->statuses != NULL && (walk->other == NULL || walk->others != NULL)) return 0;
+    PyErr_NoMemory();
+    return -1;
+}
+
+/* A copy of rows, since Python may run during the walk. Not by methods of a class of their own, which may say anything. */
+static PyObject *copied(PyObject *rows, Py_ssize_t *count) {
+    PyObject *made = NULL;
+    if (PyList_Check(rows)) {
+        if ((made = PyList_GetSlice(rows, 0, PY_SSIZE_T_MAX)) != NULL) *count = PyList_Size(made);
+    } else if (PyTuple_Check(rows)) {
+        if ((made = PyTuple_GetSlice(rows, 0, PY_SSIZE_T_MAX)) != NULL) *count = PyTuple_Size(made);
+    } else {
+        PyErr_SetString(PyExc_TypeError, "rows are a list or a tuple");
+    }
+    return made;
+}
+
+int walk_rows(Walk *walk, State *state, PyObject *rows, PyObject *other, PyObject *report) {
+    Py_ssize_t its = 0;
+    *walk = (Walk){0};
+    if ((walk->rows = copied(rows, &walk->count)) == NULL) return -1;
+    if (other != NULL && (walk->other = copied(other, &its)) == NULL) return -1;
+    if (other != NULL && its != walk->count) {
+        PyErr_Format(PyExc_ValueError, "columns of %zd and of %zd rows", its, walk->count);
+        return -1;
+    }
+    return started(walk, state, report);
+}
+
+static int has_buffer(PyObject *from, Py_buffer *to, Py_ssize_t size, const char *what) {
+    if (PyObject_GetBuffer(from, to, PyBUF_SIMPLE) < 0) return -1;
+    if (size < 0 || to->len == size) return 0;
+    PyErr_Format(PyExc_ValueError, "%s of another size", what);
+    return -1;
+}
+
+/* packed: (bytes of all, 64-bit offsets, bits or none, rows) */
+int walk_buffers(Walk *walk, State *state, PyObject *packed, PyObject *report) {
+    PyObject *data, *offsets, *bits;
+    *walk = (Walk){0};
+    if (!PyTuple_Check(packed)) return PyErr_SetString(PyExc_TypeError, "buffers are a tuple"), -1;
+    if (!PyArg_ParseTuple(packed, "OOOn", &data, &offsets, &bits, &walk->count)) return -1;
+    if (walk->count < 0 || walk->count > PY_SSIZE_T_MAX / 16)
+        return PyErr_SetString(PyExc_ValueError, "so many rows"), -1;
+    if (has_buffer(data, &walk->data, -1, "data") < 0) return -1;
+    if (has_buffer(offsets, &walk->offsets, 8 * (walk->count + 1), "offsets") < 0) return -1;
+    if (has_buffer(bits, &walk->bits, -1, "bits") < 0) return -1;
+    if (walk->bits.len != 0 && walk->bits.len != (walk->count + 7) / 8)
+        return PyErr_SetString(PyExc_ValueError, "bits of another size"), -1;
+    return started(walk, state, report);
+}
+
+void walk_end(Walk *walk) {
+    Py_XDECREF(walk->rows);
+    Py_XDECREF(walk->other);
+    Py_XDECREF(walk->held);
+    if (walk->data.obj != NULL) PyBuffer_Release(&walk->data);
+    if (walk->offsets.obj != NULL) PyBuffer_Release(&walk->offsets);
+    if (walk->bits.obj != NULL) PyBuffer_Release(&walk->bits);
+    PyMem_Free(walk->cells);
+    PyMem_Free(walk->others);
+    PyMem_Free(walk->statuses);
+}
+
+PyObject *row_at(PyObject *rows, Py_ssize_t i) {
+    return PyList_Check(rows) ? PyList_GetItem(rows, i) : PyTuple_GetItem(rows, i);
+}
+
+static int buffer_in(const Walk *walk, Py_ssize_t i, Cell *cell) {
+    const uint8_t *bits = walk->bits.buf;
+    int64_t bounds[2];
+    memcpy(bounds, (const char *)walk->offsets.buf + 8 * i, sizeof bounds);
+    *cell = (Cell){NULL, 0};
+    if (bounds[0] < 0 || bounds[1] < bounds[0] || bounds[1] > walk->data.len) {
+        PyErr_SetString(PyExc_ValueError, "an offset is past the bytes");
+        return -1;
+    }
+    if (walk->bits.len != 0 && !(bits[i / 8] >> i % 8 & 1)) return 0;
+    *cell = (Cell){bounds[1] == bounds[0] ? "" : (const char *)walk->data.buf + bounds[0], bounds[1] - bounds[0]};
+    return 0;
+}
+
+static int reported(const Walk *walk) {
+    PyObject *made;
+    if (walk->report == Py_None || walk->last == 0) return 0;
+    made = PyObject_CallFunction(walk->report, "n", walk->last);
+    Py_XDECREF(made);
+    return made == NULL ? -1 : 0;
+}
+
+int walk_next(Walk *walk) {
+    Py_ssize_t bytes = 0;
+    if (reported(walk) < 0 || PyErr_CheckSignals() < 0) return -1;
+    if (PyList_Size(walk->held) > 0 && PyList_SetSlice(walk->held, 0, PY_SSIZE_T_MAX, NULL) < 0) return -1;
+    walk->first = walk->last;
+    while (walk->last < walk->count && walk->last - walk->first < MOST_ROWS && bytes < MOST_BYTES) {
+        Py_ssize_t at = walk->last++, i = at - walk->first;
+        if ((walk->rows == NULL ? buffer_in(walk, at, &walk->cells[i])
+                                : row_in(walk, row_at(walk->rows, at), at, &walk->cells[i])) < 0)
+            return -1;
+        bytes += walk->cells[i].length;
+        if (walk->other == NULL) continue;
+        if (row_in(walk, row_at(walk->other, at), at, &walk->others[i]) < 0) return -1;
+        bytes += walk->others[i].length;
+    }
+    return walk->last > walk->first;
+}
+
+int room_holds(Room *room, size_t more) {
+    size_t wanted;
+    void *grown;
+    if (room->room - room->used >= more) return 0;
+    wanted = room->used + more;
+    if (wanted < more || wanted > PY_SSIZE_T_MAX / room->size) return -1;
+    if (wanted < PY_SSIZE_T_MAX / room->size / 2) wanted += wanted / 2;
+    if ((grown = realloc(room->items, wanted * room->size)) == NULL) return -1;
+    room->items = grown, room->room = wanted;
+    return 0;
+}
+
+/* Bytes as a buffer that keeps what they are of. */
+typedef struct {
+    PyObject_HEAD
+    void *data;
+    Py_ssize_t length;
+    int writable;
+    PyObject *owner;
+} Lent;
+
+static void lent_dealloc(PyObject *self) {
+    PyTypeObject *type = Py_TYPE(self);
+    if (((Lent *)self)->owner == NULL) free(((Lent *)self)->data);
+    Py_XDECREF(((Lent *)self)->owner);
+    ((freefunc)PyType_GetSlot(type, Py_tp_free))(self);
+    Py_DECREF(type);
+}
+
+static int lent_buffer(PyObject *self, Py_buffer *view, int flags) {
+    Lent *held = (Lent *)self;
+    static char none[8];
+    return PyBuffer_FillInfo(view, self, held->length == 0 ? none : held->data, held->length, !held->writable, flags);
+}
+
+static PyType_Slot lent_slots[] = {{Py_tp_dealloc, lent_dealloc}, {Py_bf_getbuffer, lent_buffer}, {0, NULL}};
+PyType_Spec lent_spec = {"wkt._fast.Lent", sizeof(Lent), 0, Py_TPFLAGS_DEFAULT | Py_TPFLAGS_DISALLOW_INSTANTIATION,
+                         lent_slots};
+
+PyObject *lent(State *state, const void *data, Py_ssize_t length, PyObject *owner) {
+    Lent *made = (Lent *)((allocfunc)PyType_GetSlot(state->lent_type, Py_tp_alloc))(state->lent_type, 0);
+    if (made == NULL) return NULL;
+    made->data = (void *)data, made->length = length;
+    made->owner = Py_XNewRef(owner);
+    return (PyObject *)made;
+}
+
+/* What is used of a room, which is no one's then. */
+PyObject *lent_room(State *state, Room *room, int writable) {
+    PyObject *made;
+    if (room->room > room->used && room->used > 0) { /* of no bytes realloc is free */
+        void *less = realloc(room->items, room->used * room->size);
+        if (less != NULL) room->items = less;
+    }
+    made = lent(state, room->items, (Py_ssize_t)(room->used * room->size), NULL);
+    if (made != NULL) {
+        ((Lent *)made)->writable = writable;
+        room->items = NULL;
+    }
+    return made;
+}

@@ -1,0 +1,190 @@
+/* Texts, one by one: each call takes what wkt_*.py give, and raises what they raise. */
+#include "fast.h"
+
+wkt_status answer(State *state, const Cell *cell, uint32_t places, Room *out) {
+    size_t needed, end, likely = (size_t)cell->length + (size_t)cell->length / 8 + 80;
+    for (;;) {
+        wkt_status status;
+        if (room_holds(out, likely) < 0) return WKT_NO_MEMORY;
+        status = state->canonical((const uint8_t *)cell->text, (size_t)cell->length, places,
+                                  (uint8_t *)out->items + out->used, out->room - out->used, &needed, &end);
+        if (status == WKT_OK) out->used += needed;
+        if (status != WKT_TOO_SMALL) return status;
+        likely = needed;
+    }
+}
+
+PyObject *fast_canonical(PyObject *self, PyObject *const *args, Py_ssize_t count) {
+    State *state = state_of(self);
+    char small[512];
+    Room out = {small, 1, 0, sizeof small};
+    Cell cell;
+    uint32_t places;
+    wkt_status status;
+    size_t needed = 0, end;
+    PyObject *held, *made = NULL;
+    if (!has_count(count, 3) || places_in(state, args[1], args[2], &places) < 0) return NULL;
+    if (text_in(state, args[0], &cell, &held) < 0) return NULL;
+    if (cell.length <= 200) { /* its answer has 465 bytes at most */
+        status = state->canonical((const uint8_t *)cell.text, (size_t)cell.length, places, (uint8_t *)small,
+                                  sizeof small, &needed, &end);
+    } else {
+        out = (Room){NULL, 1, 0, 0};
+        Py_BEGIN_ALLOW_THREADS
+        status = answer(state, &cell, places, &out);
+        Py_END_ALLOW_THREADS
+        needed = out.used;
+    }
+    if (status == WKT_OK)
+        made = PyUnicode_FromStringAndSize(out.items, (Py_ssize_t)needed);
+    else
+        refused(state, status, args[0], places, -1);
+    if (out.items != small) free(out.items);
+    Py_XDECREF(held);
+    return made;
+}
+
+/* Whether a text is read: its answer finds no room. */
+wkt_status status_of(State *state, const Cell *cell, uint32_t places) {
+    size_t needed, end;
+    wkt_status status =
+        state->canonical((const uint8_t *)cell->text, (size_t)cell->length, places, NULL, 0, &needed, &end);
+    return status == WKT_TOO_SMALL ? WKT_OK : status;
+}
+
+PyObject *fast_reads(PyObject *self, PyObject *const *args, Py_ssize_t count) {
+    State *state = state_of(self);
+    Cell cell;
+    uint32_t places;
+    wkt_status status;
+    PyObject *held;
+    if (!has_count(count, 3) || places_in(state, args[1], args[2], &places) < 0) return NULL;
+    if (text_in(state, args[0], &cell, &held) < 0) return NULL;
+    if (cell.length < LONG_TEXT) {
+        status = status_of(state, &cell, places);
+    } else {
+        Py_BEGIN_ALLOW_THREADS
+        status = status_of(state, &cell, places);
+        Py_END_ALLOW_THREADS
+    }
+    Py_XDECREF(held);
+    return status == WKT_NO_MEMORY ? PyErr_NoMemory() : PyBool_FromLong(status == WKT_OK);
+}
+
+wkt_status compared(State *state, const Cell *one, const Cell *other, uint32_t places, uint32_t *same) {
+    return state->same((const uint8_t *)one->text, (size_t)one->length, (const uint8_t *)other->text,
+                       (size_t)other->length, places, same);
+}
+
+PyObject *fast_same(PyObject *self, PyObject *const *args, Py_ssize_t count) {
+    State *state = state_of(self);
+    Cell one, other;
+    uint32_t places, same = 0;
+    wkt_status status;
+    PyObject *held, *its_held;
+    if (!has_count(count, 4) || places_in(state, args[2], args[3], &places) < 0) return NULL;
+    if (text_in(state, args[0], &one, &held) < 0) return NULL;
+    if (text_in(state, args[1], &other, &its_held) < 0) {
+        Py_XDECREF(held);
+        return NULL;
+    }
+    if (one.length + other.length < LONG_TEXT) {
+        status = compared(state, &one, &other, places, &same);
+    } else {
+        Py_BEGIN_ALLOW_THREADS
+        status = compared(state, &one, &other, places, &same);
+        Py_END_ALLOW_THREADS
+    }
+    Py_XDECREF(held);
+    Py_XDECREF(its_held);
+    if (status == WKT_OK) return PyBool_FromLong((long)same);
+    if (status == WKT_NO_MEMORY) return PyErr_NoMemory();
+    return PyObject_CallFunction(state->refuse_two, "IOOIO", status, args[0], args[1], places, Py_None);
+}
+
+PyObject *fast_infer(PyObject *self, PyObject *text) {
+    State *state = state_of(self);
+    uint32_t kind = 0, dimension = 0;
+    Cell cell;
+    PyObject *held;
+    wkt_status status;
+    if (text_in(state, text, &cell, &held) < 0) return NULL;
+    status = state->infer((const uint8_t *)cell.text, (size_t)cell.length, &kind, &dimension);
+    Py_XDECREF(held);
+    if (status != WKT_OK) return PyObject_CallFunction(state->refuse_header, "IO", status, Py_None);
+    return Py_NewRef(state->headers[kind % 7][dimension % 4]);
+}
+
+/* (bytes, places) -> (status, message, start, stop, expected) */
+PyObject *fast_explain(PyObject *self, PyObject *const *args, Py_ssize_t count) {
+    State *state = state_of(self);
+    uint32_t message = 0, expected = 0;
+    size_t start = 0, stop = 0;
+    char *text;
+    Py_ssize_t length;
+    unsigned long places;
+    wkt_status status;
+    if (!has_count(count, 2) || PyBytes_AsStringAndSize(args[0], &text, &length) < 0) return NULL;
+    if ((places = PyLong_AsUnsignedLong(args[1])) == (unsigned long)-1 && PyErr_Occurred()) return NULL;
+    Py_BEGIN_ALLOW_THREADS
+    status =
+        state->explain((const uint8_t *)text, (size_t)length, (uint32_t)places, &message, &start, &stop, &expected);
+    Py_END_ALLOW_THREADS
+    return Py_BuildValue("IInnI", status, message, (Py_ssize_t)start, (Py_ssize_t)stop, expected);
+}
+
+/* (bytes, places) -> (status, hint) */
+PyObject *fast_hint(PyObject *self, PyObject *const *args, Py_ssize_t count) {
+    State *state = state_of(self);
+    uint32_t hint = 0;
+    char *text;
+    Py_ssize_t length;
+    unsigned long places;
+    wkt_status status;
+    if (!has_count(count, 2) || PyBytes_AsStringAndSize(args[0], &text, &length) < 0) return NULL;
+    if ((places = PyLong_AsUnsignedLong(args[1])) == (unsigned long)-1 && PyErr_Occurred()) return NULL;
+    Py_BEGIN_ALLOW_THREADS
+    status = state->hint((const uint8_t *)text, (size_t)length, (uint32_t)places, &hint);
+    Py_END_ALLOW_THREADS
+    return Py_BuildValue("II", status, hint);
+}
+
+/* The statuses of a block, once another thread may run. Returns WKT_NO_MEMORY where one is that. */
+static wkt_status block_statuses(const Walk *walk, uint32_t places) {
+    for (Py_ssize_t i = 0; i < walk->last - walk->first; i++) {
+        const Cell *cell = &walk->cells[i];
+        walk->statuses[i] = cell->text == NULL ? WKT_NULL : status_of(walk->state, cell, places);
+        if (walk->statuses[i] == WKT_NO_MEMORY) return WKT_NO_MEMORY;
+    }
+    return WKT_OK;
+}
+
+/* (rows, places, report) -> the status of each row, as 32 bits each */
+PyObject *fast_statuses(PyObject *self, PyObject *const *args, Py_ssize_t count) {
+    Room all = {NULL, sizeof(uint32_t), 0, 0};
+    State *state = state_of(self);
+    Walk walk;
+    PyObject *made = NULL;
+    unsigned long places;
+    int more = -1;
+    if (!has_count(count, 3) || (places = PyLong_AsUnsignedLong(args[1])) > UINT32_MAX) return NULL;
+    if (walk_rows(&walk, state, args[0], NULL, args[2]) == 0)
+        while ((more = walk_next(&walk)) > 0) {
+            size_t rows = (size_t)(walk.last - walk.first);
+            wkt_status status;
+            Py_BEGIN_ALLOW_THREADS
+            status = block_statuses(&walk, (uint32_t)places);
+            Py_END_ALLOW_THREADS
+            if (status != WKT_OK || room_holds(&all, rows) < 0) {
+                PyErr_NoMemory();
+                more = -1;
+                break;
+            }
+            memcpy((uint32_t *)all.items + all.used, walk.statuses, rows * sizeof(uint32_t));
+            all.used += rows;
+        }
+    walk_end(&walk);
+    if (more == 0) made = lent_room(state, &all, 1);
+    free(all.items);
+    return made;
+}

@@ -1,0 +1,319 @@
+"""What wkt._fast has, by ctypes: each function takes the same, answers the same and raises the same."""
+import array
+import ctypes
+import itertools
+from typing import Any, Callable, Dict, Iterator, List, NamedTuple, Optional, Sequence, Tuple
+
+from . import _library
+from ._library import size, u32
+from ._names import DIMENSIONS, KINDS, NO_MEMORY, NULL, OK, TOO_SMALL
+from ._room import Room, pointer
+
+_bound: Dict[str, Any] = {}
+bind = _bound.__setitem__
+BLOCK = 1 << 16
+BYTES = 1 << 20
+_Report = Optional[Callable[[int], Any]]
+
+
+class Packed(NamedTuple):
+    """Texts as Arrow's large_utf8 has them: the bytes of all, where each begins, with the end of the last, and bits."""
+
+    data: Any
+    offsets: Any
+    bits: Any
+    rows: int
+
+
+def _encoded(text: Any) -> bytes:
+    data: bytes = _bound["text_of"](text, None)
+    return data
+
+
+def _refuse(status: int, text: Any, places: int, row: Optional[int] = None) -> None:
+    if status == NO_MEMORY:
+        raise MemoryError
+    _bound["refuse"](status, text, places, row)
+
+
+def _canonical(data: bytes, places: int) -> Tuple[int, str]:
+    needed, end = size(), size()
+    room = len(data) + 96 & -64
+    while True:
+        out = (ctypes.c_char * room)()
+        status = _library.wkt_canonical(data, len(data), places, out, room, ctypes.byref(needed), ctypes.byref(end))
+        if status != TOO_SMALL:
+            return status, str(memoryview(out)[: needed.value], "ascii") if status == OK else ""
+        room = needed.value
+
+
+def canonical(text: Any, places: Any, whole: Any) -> str:
+    places = _bound["places_of"](places, whole)
+    status, answer = _canonical(_encoded(text), places)
+    if status:
+        _refuse(status, text, places)
+    return answer
+
+
+def _status(data: bytes, places: int) -> int:
+    status: int = _library.wkt_canonical(
+        data, len(data), places, None, 0, ctypes.byref(size()), ctypes.byref(size())
+    )
+    return OK if status == TOO_SMALL else status
+
+
+def reads(text: Any, places: Any, whole: Any) -> bool:
+    status = _status(_encoded(text), _bound["places_of"](places, whole))
+    if status == NO_MEMORY:
+        raise MemoryError
+    return status == OK
+
+
+def same(one: Any, other: Any, places: Any, whole: Any) -> bool:
+    places = _bound["places_of"](places, whole)
+    a, b, answer = _encoded(one), _encoded(other), u32()
+    status = _library.wkt_same(a, len(a), b, len(b), places, ctypes.byref(answer))
+    if status == NO_MEMORY:
+        raise MemoryError
+    if status:
+        _bound["refuse_two"](status, one, other, places, None)
+    return answer.value == 1
+
+
+def _header(data: bytes) -> Tuple[int, Tuple[str, str]]:
+    kind, dimension = u32(), u32()
+    status = _library.wkt_infer(data, len(data), ctypes.byref(kind), ctypes.byref(dimension))
+    return status, (KINDS[kind.value], DIMENSIONS[dimension.value])
+
+
+def infer(text: Any) -> Tuple[str, str]:
+    status, header = _header(_encoded(text))
+    if status:
+        _bound["refuse_header"](status, None)
+    return header
+
+
+def explain(data: bytes, places: int) -> Tuple[int, int, int, int, int]:
+    message, start, stop, expected = u32(), size(), size(), u32()
+    status = _library.wkt_explain(data, len(data), places, *map(ctypes.byref, (message, start, stop, expected)))
+    return status, message.value, start.value, stop.value, expected.value
+
+
+def hint(data: bytes, places: int) -> Tuple[int, int]:
+    found = u32()
+    return _library.wkt_hint(data, len(data), places, ctypes.byref(found)), found.value
+
+
+def _bits(rows: Sequence[Any]) -> bytes:
+    """A bit for each row, from the lowest on, which is 0 where the row is null."""
+    bits = bytearray((len(rows) + 7) // 8)
+    for i, row in enumerate(rows):
+        bits[i // 8] |= (row is not None) << i % 8
+    return bytes(bits)
+
+
+def pack(rows: Sequence[Any], first: int = 0) -> Packed:
+    """The buffers of some rows, of which the first is this one of its column."""
+    try:
+        joined = "".join(rows)
+    except TypeError:
+        joined = "\x80"
+    if joined.isascii():
+        ends = array.array("q", itertools.accumulate(map(str.__len__, rows), initial=0))
+        return Packed(joined.encode(), ends, b"", len(rows))
+    known = [_bound["text_of"](row, first + i) for i, row in enumerate(rows)]
+    held = [text or b"" for text in known]
+    ends = array.array("q", itertools.accumulate(map(len, held), initial=0))
+    return Packed(b"".join(held), ends, _bits(known), len(rows))
+
+
+def parts(held: Packed) -> Tuple[Any, ...]:
+    """The six arguments of a call that name a column."""
+    return (
+        pointer(held.data), len(held.data), pointer(held.offsets), held.rows + 1, pointer(held.bits), len(held.bits),
+    )  # fmt: skip
+
+
+def _blocks(rows: Sequence[Any], report: _Report) -> Iterator[Tuple[int, Any, Packed]]:
+    """Of each block where it begins, its rows and their buffers: about a megabyte of them."""
+    first, step = 0, 1024
+    while first < len(rows):
+        block = rows[first : first + step]
+        held = pack(block, first)
+        yield first, block, held
+        first += held.rows
+        step = max(1, min(BLOCK, step * BYTES // (len(held.data) + 1)))
+        if report is not None:
+            report(first)
+
+
+def _answers(rows: Sequence[Any], places: int, report: _Report) -> Iterator[Tuple[int, List[str], Any]]:
+    """Of each block where it begins, the canonical texts, and the status of each row."""
+    room = Room(1)
+    for first, _, held in _blocks(rows, report):
+        room.holds(len(held.data) + len(held.data) // 8 + 64)
+        ends, statuses = array.array("q", bytes(8 * (held.rows + 1))), array.array("I", bytes(4 * held.rows))
+        needed = room.call(_column_call(held, places, ends, statuses))
+        text = str(memoryview(room.out)[:needed], "ascii")
+        yield first, [text[start:end] for start, end in zip(ends, ends[1:])], statuses
+
+
+def _column_call(held: Packed, places: int, ends: Any, statuses: Any) -> Callable[[Any, int, Any], int]:
+    def call(out: Any, length: int, needed: Any) -> int:
+        status: int = _library.wkt_column_canonical(
+            *parts(held), places, out, length, pointer(ends), held.rows + 1, pointer(statuses), held.rows, needed
+        )
+        return status
+
+    return call
+
+
+def canonical_rows(
+    rows: Sequence[Any], places: int, invalid: int, report: _Report, codes: Optional[List[int]]
+) -> List[Any]:
+    answers: List[Any] = []
+    for first, texts, statuses in _answers(rows, places, report):
+        made: List[Any] = texts
+        for i, status in enumerate(statuses):
+            if status:
+                made[i] = rows[first + i] if invalid == 2 and status != NULL else None
+                if status != NULL and not invalid:
+                    _refuse(status, rows[first + i], places, first + i)
+        answers += made
+        if codes is not None:
+            codes.extend(statuses)
+    return answers
+
+
+def statuses(rows: Sequence[Any], places: int, report: _Report) -> Any:
+    made = array.array("I")
+    for _, _, codes in _answers(rows, places, report):
+        made.extend(codes)
+    return made
+
+
+def same_rows(ones: Sequence[Any], others: Any, places: int, invalid: int, report: _Report) -> List[Optional[bool]]:
+    if isinstance(others, str):
+        return [it and it == others for it in canonical_rows(ones, places, invalid, report, None)]
+    if len(others) != len(ones):
+        raise ValueError("columns of %d and of %d rows" % (len(others), len(ones)))
+    mine: List[int] = []
+    theirs: List[int] = []
+    texts = canonical_rows(ones, places, 1, report, mine), canonical_rows(others, places, 1, None, theirs)
+    if not invalid:
+        for i, both in enumerate(zip(mine, theirs)):
+            if any(both) and NULL not in both:
+                _refuse(*((both[0], ones[i]) if both[0] else (both[1], others[i])), places, i)
+    return [None if a is None or b is None else a == b for a, b in zip(*texts)]
+
+
+def infer_rows(rows: Sequence[Any], invalid: int) -> List[Optional[Tuple[str, str]]]:
+    answers: List[Optional[Tuple[str, str]]] = []
+    for i, row in enumerate(rows):
+        data = _bound["text_of"](row, i)
+        status, header = (NULL, None) if data is None else _header(data)
+        if status not in (OK, NULL) and not invalid:
+            _bound["refuse_header"](status, i)
+        answers.append(None if status else header)
+    return answers
+
+
+def lines_rows(rows: Sequence[Any], places: int) -> List[Optional[str]]:
+    if any(b"\n" in (_bound["text_of"](row, i) or b"") for i, row in enumerate(rows)):
+        raise ValueError("a text of a column holds a line feed")
+    codes: List[int] = []
+    texts = canonical_rows(rows, places, 1, None, codes)
+    return [text if status in (OK, NULL) else "refused" for text, status in zip(texts, codes)]
+
+
+def canonical_buffers(packed: Any, places: int, report: _Report) -> Tuple[Any, Any, Any]:
+    held = Packed(*packed)
+    room = Room(len(held.data) + len(held.data) // 8 + 64)
+    ends, statuses = array.array("q", bytes(8 * (held.rows + 1))), array.array("I", bytes(4 * held.rows))
+    needed = room.call(_column_call(held, places, ends, statuses))
+    if report is not None:
+        report(held.rows)
+    return memoryview(room.out).cast("B")[:needed], ends, statuses
+
+
+def _three(sizes: Any, likely: int, call: Callable[..., int]) -> Tuple[int, Tuple[Any, Any, Any]]:
+    """The numbers and the offsets of rings and of polygons that a call fills, which says how many they are."""
+    room = (likely, likely, likely)
+    while True:
+        held = [array.array(code, bytes(8 * length)) for code, length in zip("qQQ", room)]
+        status = call(*itertools.chain.from_iterable((pointer(values), len(values)) for values in held))
+        if status != TOO_SMALL:
+            numbers, rings, polygons = held
+            return status, (numbers[: sizes.numbers], rings[: sizes.rings], polygons[: sizes.polygons])
+        room = (sizes.numbers, sizes.rings, sizes.polygons)
+
+
+def _arrays(data: bytes, places: int) -> Tuple[int, Any, Any]:
+    sizes = _library.Sizes()
+
+    def call(*three: Any) -> int:
+        status: int = _library.wkt_arrays(data, len(data), places, ctypes.byref(sizes), *three)
+        return status
+
+    status, three = _three(sizes, len(data) // 2 + 4, call)
+    return status, sizes, three
+
+
+def arrays(text: Any, places: Any, whole: Any) -> Tuple[int, int, Any, Any, Any]:
+    places = _bound["places_of"](places, whole)
+    status, sizes, three = _arrays(_encoded(text), places)
+    if status:
+        _refuse(status, text, places)
+    numbers, rings, polygons = three
+    return sizes.kind, sizes.dimension, numbers, rings, polygons
+
+
+def arrays_rows(column: Any, places: int, report: _Report, are_buffers: bool) -> Tuple[Any, ...]:
+    held = Packed(*column) if are_buffers else pack(column)
+    words = [array.array("I", bytes(4 * held.rows)) for _ in range(3)]  # kinds, dimensions, statuses
+    ends = [array.array("q", bytes(8 * (held.rows + 1))) for _ in range(3)]
+    sizes = _library.ColumnSizes()
+
+    def both(values: Any) -> Tuple[Any, int]:
+        return pointer(values), len(values)
+
+    def call(*three: Any) -> int:
+        pairs = zip(three[::2], three[1::2], ends)
+        joined = itertools.chain.from_iterable((at, length, *both(end)) for at, length, end in pairs)
+        status: int = _library.wkt_column_arrays(
+            *parts(held), places, ctypes.byref(sizes), *both(words[0]), *both(words[1]), *joined, *both(words[2])
+        )
+        return status
+
+    status, three = _three(sizes, len(held.data) // 8 + 2 * held.rows + 8, call)
+    if status:
+        _refuse(status, "", places)
+    if report is not None:
+        report(held.rows)
+    joined = itertools.chain.from_iterable(zip(three, ends))
+    return (words[0], words[1], *joined, words[2])
+
+
+def cut(column: Any, shares: bool) -> List[Any]:
+    """The Arrays of each row."""
+
+    def parts_of(values: Any, offsets: Any) -> Iterator[Any]:
+        bounds = offsets.tolist()
+        return (values[start:end] for start, end in zip(bounds, bounds[1:]))
+
+    words = zip(column[8].tolist(), column[0].tolist(), column[1].tolist())
+    lists = zip(*(parts_of(values, offsets) for values, offsets in zip(column[2:8:2], column[3:8:2])))
+    return [
+        None if status else _bound["Arrays"](KINDS[kind], DIMENSIONS[dimension], *three, column[9])
+        for (status, kind, dimension), three in zip(words, lists)
+    ]
+
+
+def from_arrays_rows(rows: Sequence[Any], places: Optional[int], numbered: bool) -> List[Optional[str]]:
+    return [_bound["one_text"](row, places, i if numbered else None) for i, row in enumerate(rows)]
+
+
+def unpack(out: Any, ends: Any, statuses: Any) -> List[Optional[str]]:
+    """The texts in a buffer, and None where a status isn't 0."""
+    text = str(memoryview(out)[: ends[len(statuses)]], "ascii")
+    return [None if status else text[start:end] for status, start, end in zip(statuses, ends, ends[1:])]
