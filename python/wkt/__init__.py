@@ -17,6 +17,7 @@ from ._calls import batches, canonical, canonical_column, explain, infer, lines,
 from ._errors import WktError
 from ._explain import Explanation
 from ._geoarrow import GeoArrow
+from ._geometries import geometries, keys
 from ._names import DIMENSIONS, KINDS
 from ._stream import stream
 from ._version import __version__
@@ -38,7 +39,9 @@ __all__ = [
     "explain",
     "from_arrays",
     "from_arrays_column",
+    "geometries",
     "infer",
+    "keys",
     "lines",
     "reads",
     "same",

@@ -1,15 +1,18 @@
-"""The accessor `.wkt` of a Series and an Index of pandas, once this module is imported.
+"""The accessor `.wkt` of a Series and an Index of pandas, and what joins, groups and reads tables by their geometry.
 
     >>> import pandas, wkt.pandas
     >>> pandas.Series(["point(1 2.0)"]).wkt.canonical(places=6)
     0    POINT(1 2)
     dtype: object
+
+A row whose text is null or refused has no key: it is the same as no other row, as null is in SQL.
 """
 import importlib
-from typing import Any
+from typing import Any, Optional
 
 from . import _calls
 from ._arrays import to_arrays_column
+from ._columns import check_invalid
 
 pandas: Any = importlib.import_module("pandas")
 
@@ -41,3 +44,69 @@ class Accessor:
 
     def to_arrays_column(self, places: int = 6, progress: Any = None, whole: bool = True) -> Any:
         return to_arrays_column(self._values, places, progress, whole)
+
+
+def _keys(frame: Any, column: Any, places: int, whole: bool) -> Any:
+    """The key of each row, None where it has none."""
+    return _calls.canonical(frame[column].astype(object), places, "null", whole=whole)
+
+
+def drop_duplicates(frame: Any, column: Any, places: int = 18, keep: Any = "first", whole: bool = True) -> Any:
+    """The rows of a frame without those whose geometry another row has; each row without a key stays.
+
+    column: the name of the one with the texts. keep: "first", "last" or False, as of pandas' drop_duplicates. Index,
+    order, texts and `attrs` stay.
+    """
+    keys = _keys(frame, column, places, whole)
+    return frame[~(keys.duplicated(keep) & keys.notna()).to_numpy()]
+
+
+def groupby(frame: Any, column: Any, places: int = 18, whole: bool = True, **more: Any) -> Any:
+    """`frame.groupby` by the key of a column; rows without a key are in no group.
+
+    The groups are named by their keys. more: what groupby of pandas takes.
+    """
+    return frame.groupby(_keys(frame, column, places, whole), dropna=True, **more)
+
+
+def merge(
+    left: Any, right: Any, left_on: Any, right_on: Any = None, how: str = "inner", places: int = 18,
+    whole: bool = True, key: Optional[str] = None, **more: Any
+) -> Any:  # fmt: skip
+    """The rows of two frames whose geometries are the same, as `left.merge(right)` gives them; the index is new.
+
+    A row without a key meets none; with how="left", "right" or "outer" it is there alone. left_on, right_on: the names
+    of the columns with the texts; right_on is left_on unless it is given. key: the name of a column that gets the keys.
+    more: what merge of pandas takes, such as suffixes. `attrs` are those of left.
+    """
+    name = "wkt.key"  # a column of ours, while they are joined
+    sides = []
+    for side, frame, column in (("l", left, left_on), ("r", right, left_on if right_on is None else right_on)):
+        if name in frame.columns:
+            raise ValueError("a frame has the column %r, which is needed here" % name)
+        keys = _keys(frame, column, places, whole)
+        # What is no key of any text, for each row another: pandas would pair nulls with each other.
+        alone = pandas.Series(["-%s%d" % (side, i) for i in range(len(frame))], index=keys.index, dtype=object)
+        sides.append(frame.assign(**{name: keys.where(keys.notna(), alone)}))
+    made = sides[0].merge(sides[1], how=how, on=name, **more)
+    keys = made.pop(name)
+    if key is not None:
+        made[key] = keys.mask(keys.str.startswith("-"), None)
+    made.attrs.update(left.attrs)
+    return made
+
+
+def read_csv(*given: Any, wkt: Any, places: int = 18, invalid: str = "raise", whole: bool = True, **more: Any) -> Any:
+    """`pandas.read_csv`, with the texts of one column made canonical.
+
+    wkt: the name of that column. invalid: what becomes of a refused text, as of `wkt.canonical`. The rest goes to
+    pandas. With chunksize an iterator of frames comes back, and the row of an error is that of its chunk.
+    """
+    check_invalid(invalid)
+
+    def keyed(frame: Any) -> Any:
+        frame[wkt] = _calls.canonical(frame[wkt].astype(object), places, invalid, whole=whole)
+        return frame
+
+    made = pandas.read_csv(*given, **more)
+    return keyed(made) if isinstance(made, pandas.DataFrame) else map(keyed, made)

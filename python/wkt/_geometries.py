@@ -1,0 +1,148 @@
+"""Keys of geometries that are no texts: of Shapely 2, and so of GeoPandas; and geometries of arrays."""
+import sys
+from typing import Any, Dict, List, Optional, Tuple
+
+from ._arrays import ColumnArrays, from_arrays_column
+from ._columns import check_invalid, is_series
+from ._doubles import decimals, scaled
+from ._errors import WktError, words_of
+from ._names import COLLECTION, DIMENSIONS, KINDS, NULL
+from ._values import numpy, places_of
+
+BAD_NUMBER = 13  # WKT_BAD_NUMBER of include/wkt.h
+# Shapely's numbers of kinds. A LinearRing (2) and a GeometryCollection (7) have no arrays.
+_KINDS = {0: 0, 1: 1, 3: 2, 4: 3, 5: 4, 6: 5}
+
+
+def _shapely() -> Any:
+    shapely = sys.modules.get("shapely")
+    if numpy is None or not hasattr(shapely, "to_ragged_array"):
+        raise TypeError("keys of geometries need NumPy and Shapely 2; give texts, as GeoSeries.to_wkt does")
+    return shapely
+
+
+def _inclusive(starts: Any, ends: Any) -> Tuple[Any, Any]:
+    """The numbers from each start to its end, that too, one after the other; and where each row's begin."""
+    counts = ends - starts + 1
+    offsets = numpy.concatenate([[0], numpy.cumsum(counts)])
+    return numpy.arange(offsets[-1]) - numpy.repeat(offsets[:-1] - starts, counts), offsets
+
+
+def _from_zero(values: Any, rows: Any) -> Tuple[Any, Any]:
+    """What `values` has from each row's beginning to its end, as counted from the row's beginning on."""
+    places, offsets = _inclusive(rows[:-1], rows[1:])
+    return values[places] - numpy.repeat(values[rows[:-1]], numpy.diff(offsets)), offsets
+
+
+def ragged(kind: int, dimension: int, coordinates: Any, lists: Tuple[Any, ...]) -> Dict[str, Any]:
+    """What ColumnArrays has but numbers, of rows of one kind: of GeoArrow's lists, from the outermost on.
+
+    A point that is all NaN is EMPTY. numbers: the coordinates without these.
+    """
+    width = len(DIMENSIONS[dimension])
+    lists = tuple(numpy.asarray(each, numpy.int64) for each in lists)
+    if kind in (0, 3):  # a ring for each point
+        there = ~numpy.isnan(coordinates).all(axis=1)
+        ends = numpy.concatenate([[0], numpy.cumsum(there)])
+        rings = lists[0] if kind else numpy.arange(len(coordinates) + 1)
+        coordinates = coordinates[there]
+    elif kind == 1:
+        ends, rings = lists[0], numpy.arange(len(lists[0]))
+    else:
+        ends, rings = lists[-1], lists[1][lists[0]] if kind == 5 else lists[0]
+    of_rings, ring_offsets = _from_zero(ends, rings)
+    if kind == 5:
+        of_polygons, polygon_offsets = _from_zero(lists[1], lists[0])
+    else:  # all rings are one polygon
+        both = numpy.stack([numpy.zeros(len(rings) - 1, numpy.int64), numpy.diff(rings)], axis=1)
+        of_polygons, polygon_offsets = both.reshape(-1), 2 * numpy.arange(len(rings))
+    made = dict(kinds=kind, dimensions=dimension, numbers=coordinates.reshape(-1), number_offsets=ends[rings] * width)
+    made.update(rings=of_rings, ring_offsets=ring_offsets, polygons=of_polygons, polygon_offsets=polygon_offsets)
+    return made
+
+
+def _some(values: Any, offsets: Any, rows: Any) -> Tuple[Any, Any]:
+    """The values of some rows, which a mask says, and their offsets."""
+    counts = numpy.diff(offsets)
+    return values[numpy.repeat(rows, counts)], numpy.concatenate([[0], numpy.cumsum(counts[rows])])
+
+
+def texts_of(held: Dict[str, Any], places: int) -> Tuple[List[Optional[str]], List[int]]:
+    """The canonical texts of such rows, whose numbers are doubles, and the status of each."""
+    offsets = held["number_offsets"]
+    units, used, has = decimals(held["numbers"], places)
+    rows = len(offsets) - 1
+    number_rows = numpy.repeat(numpy.arange(rows), numpy.diff(offsets))
+    most = numpy.zeros(rows, numpy.int64)
+    numpy.maximum.at(most, number_rows, used)
+    units, fits = scaled(units, used, most[number_rows])
+    good = numpy.ones(rows, bool)
+    good[number_rows[~(has & fits)]] = False
+    texts: List[Optional[str]] = [None] * rows
+    statuses = [0 if it else BAD_NUMBER for it in good.tolist()]
+    for own in numpy.unique(most[good]).tolist():  # a call has numbers of so many places
+        some = good & (most == own)
+        count = int(some.sum())
+        pairs = [
+            _some(units if name == "numbers" else held[name], held[name[:-1] + "_offsets"], some)
+            for name in ("numbers", "rings", "polygons")
+        ]
+        words = [numpy.full(count, held[name], numpy.uint32) for name in ("kinds", "dimensions")]
+        flat = [part for pair in pairs for part in pair]
+        made, codes = from_arrays_column(ColumnArrays._make([*words, *flat, numpy.zeros(count, numpy.uint32), own]))
+        for row, text, code in zip(numpy.flatnonzero(some).tolist(), made, codes):
+            texts[row], statuses[row] = text, code
+    return texts, statuses
+
+
+def keys(geometries: Any, places: int = 18, invalid: str = "raise") -> Any:
+    """The canonical texts of geometries of Shapely 2, from their coordinates: no text is written in between.
+
+    geometries: a GeoSeries, an array or a list of geometries and None. What comes back is a Series with the index, the
+    name and, in `attrs`, the crs of a GeoSeries, and else a list; None where there is no geometry. A coordinate is the
+    shortest decimal that is the same double, as `repr` writes it. That is tested, and not proved.
+    places: a coordinate that has more is refused. invalid: "raise" or "null".
+    WktError: a coordinate has too many places, or is NaN or infinite (13), or the geometry is a collection (24): it
+    names the row. TypeError: there is no Shapely 2.
+    """
+    places = places_of(places)
+    check_invalid(invalid, ("raise", "null"))
+    shapely, series = _shapely(), geometries if is_series(geometries) else None
+    held = numpy.array(geometries if series is None else list(series), object).reshape(-1)
+    kinds = shapely.get_type_id(held)
+    flags = [shapely.has_z(held), shapely.has_m(held) if hasattr(shapely, "has_m") else numpy.zeros(len(held), bool)]
+    texts = numpy.full(len(held), None, object)
+    statuses = numpy.where(kinds == -1, NULL, COLLECTION).astype(int)
+    for theirs, kind in _KINDS.items():
+        for dimension in range(4):
+            z, m = dimension in (1, 3), dimension in (2, 3)
+            rows = numpy.flatnonzero((kinds == theirs) & (flags[0] == z) & (flags[1] == m))
+            if not len(rows):
+                continue
+            more = dict(include_m=m) if hasattr(shapely, "has_m") else {}
+            _, coordinates, lists = shapely.to_ragged_array(held[rows], include_z=z, **more)
+            made, codes = texts_of(ragged(kind, dimension, coordinates, lists[::-1]), places)
+            texts[rows], statuses[rows] = numpy.array(made, object), codes
+    wrong = numpy.flatnonzero((statuses != 0) & (statuses != NULL))
+    if invalid == "raise" and len(wrong):
+        raise WktError(int(statuses[wrong[0]]), words_of(int(statuses[wrong[0]])), int(wrong[0]))
+    if series is None:
+        return texts.tolist()
+    answer = sys.modules["pandas"].Series(texts, index=series.index, name=series.name, dtype=object)
+    answer.attrs.update(series.attrs)
+    if getattr(series, "crs", None) is not None:
+        answer.attrs["crs"] = series.crs
+    return answer
+
+
+def geometries(arrays: ColumnArrays) -> Any:
+    """Geometries of Shapely 2 of a column of arrays, which is of one kind and dimension; None of a null row.
+
+    `geopandas.GeoSeries(wkt.geometries(arrays), crs=crs)` takes them. ValueError: the rows have several kinds.
+    """
+    shapely, made = _shapely(), arrays.geoarrow()
+    kind = [name.lower() for name in KINDS].index(made.extension.partition(".")[2])
+    known = shapely.GeometryType({v: k for k, v in _KINDS.items()}[kind])
+    answer = shapely.from_ragged_array(known, made.coordinates, made.offsets[::-1] or None)
+    answer[~made.valid] = None
+    return answer
