@@ -1,5 +1,7 @@
 """Processor time and peak of memory for a column of points of six decimals, beside Shapely: columns.py [ROWS [FEW]]
 
+columns.py sizes: the same for lists of rows of 33 bytes to 90 KB, in all 33 or 64 MB, beside a loop of single calls.
+
 Each row of the table is a process of its own: the seconds are the least of three calls, and the memory is the peak of
 the first call above what stood before it. Shapely 1.8 has a call a row, so it gets FEW rows (by default a tenth), and
 its figures are scaled up. It needs NumPy and pandas, and Shapely for its rows.
@@ -48,7 +50,16 @@ def tasks():
 
         return numpy.array(texts, object)
 
+    def one_by_one(call):
+        return lambda texts: [call(text) for text in texts]
+
     return {
+        "canonical, a loop": (list, one_by_one(wkt.canonical)),
+        "reads, list": (list, wkt.reads),
+        "infer, list": (list, wkt.infer),
+        "lines, list": (list, wkt.lines),
+        "Arrays, list": (list, wkt.to_arrays),
+        "texts of Arrays, list": (wkt.to_arrays, wkt.from_arrays),
         "canonical, list": (list, wkt.canonical),
         "canonical, list, spelled otherwise": (spelled_otherwise, wkt.canonical),
         "canonical, array of objects": (objects_of, wkt.canonical),
@@ -94,10 +105,43 @@ def resident():
     return int(held["VmRSS"].split()[0]) << 10, int(held["VmHWM"].split()[0]) << 10
 
 
+SIZES = {
+    "33 B": (33, 1_000_000), "1 KB": (1000, 64_000), "5 KB": (5000, 12_800), "22 KB": (22_000, 2_900),
+    "90 KB": (90_000, 700),
+}  # fmt: skip
+
+
+def lines_of(size, rows):
+    """Lines of about so many bytes, each another, spelled as no canonical text is."""
+    import random
+
+    make = random.Random(size)
+    places = ["%.6f %.6f" % (make.uniform(-180, 180), make.uniform(-90, 90)) for _ in range(4000)]
+    count = max(1, (size - 12) // 22)
+    for i in range(rows):
+        start = make.randrange(4000)
+        some = (places[start:] + places * (count // 4000 + 1))[:count]
+        yield "LineString (%d 1,%s)" % (i, ",".join(some))
+
+
+def sizes():
+    print("| lists, by the size of a row | canonical | peak of memory, texts | a loop |\n|---|---|---|---|")
+    for name, (_, rows) in SIZES.items():
+        cells = []
+        for task in ("canonical, list", "canonical, a loop"):
+            words = [sys.executable, __file__, task, name]
+            cells.append(list(map(float, subprocess.run(words, stdout=subprocess.PIPE, check=True).stdout.split())))
+        (seconds, peak, held), (loop, _, _) = cells
+        shown = name, rows, seconds, peak / 1e6, held / 1e6, loop
+        print("| %s, %d rows | %.3f | %.0f, %.0f MB | %.3f |" % shown, flush=True)
+
+
 def measure(name, rows):
     known = shapely_tasks() if name.startswith("Shapely") else tasks()
     prepare, call = known[name]
-    given = prepare(texts_of(rows))
+    texts = list(lines_of(*SIZES[rows])) if rows in SIZES else texts_of(int(rows))
+    held = sum(map(len, texts))
+    given = prepare(texts)
     with open("/proc/self/clear_refs", "w", encoding="ascii") as mark:
         mark.write("5")
     before = resident()[0]
@@ -109,7 +153,7 @@ def measure(name, rows):
         best = min(best, end.ru_utime + end.ru_stime - start.ru_utime - start.ru_stime)
         peak = peak or resident()[1] - before
         del answer
-    print(best, peak)
+    print(best, peak, held)
 
 
 def main(rows=1_000_000, few=None):
@@ -123,13 +167,15 @@ def main(rows=1_000_000, few=None):
     for name in names:
         count = few if name.startswith("Shapely") else rows
         made = subprocess.run([sys.executable, __file__, name, str(count)], stdout=subprocess.PIPE, check=True)
-        seconds, peak = map(float, made.stdout.split())
+        seconds, peak, _ = map(float, made.stdout.split())
         scale = rows / count
         print("| %s | %.2f | %.0f MB |" % (name, seconds * scale, peak * scale / 1e6), flush=True)
 
 
 if __name__ == "__main__":
-    if len(sys.argv) == 3 and not sys.argv[1].isdigit():
-        measure(sys.argv[1], int(sys.argv[2]))
+    if sys.argv[1:] == ["sizes"]:
+        sizes()
+    elif len(sys.argv) == 3 and not sys.argv[1].isdigit():
+        measure(sys.argv[1], sys.argv[2])
     else:
         main(*map(int, sys.argv[1:]))
