@@ -1,6 +1,6 @@
 """Processor time and peak of memory for a column of points of six decimals, beside Shapely: columns.py [ROWS [FEW]]
 
-columns.py sizes: the same for lists of rows of 33 bytes to 90 KB, in all 33 or 64 MB, beside a loop of single calls.
+columns.py sizes: the same for lists of rows of 33 bytes to 90 KB, 8 to 16 MB in all, beside a loop of single calls.
 
 Each row of the table is a process of its own: the seconds are the least of three calls, and the memory is the peak of
 the first call above what stood before it. Shapely 1.8 has a call a row, so it gets FEW rows (by default a tenth), and
@@ -106,8 +106,8 @@ def resident():
 
 
 SIZES = {
-    "33 B": (33, 1_000_000), "1 KB": (1000, 64_000), "5 KB": (5000, 12_800), "22 KB": (22_000, 2_900),
-    "90 KB": (90_000, 700),
+    "33 B": (33, 250_000), "1 KB": (1000, 16_000), "5 KB": (5000, 3_200), "22 KB": (22_000, 700),
+    "90 KB": (90_000, 180),
 }  # fmt: skip
 
 
@@ -120,7 +120,7 @@ def lines_of(size, rows):
     count = max(1, (size - 12) // 22)
     for i in range(rows):
         start = make.randrange(4000)
-        some = (places[start:] + places * (count // 4000 + 1))[:count]
+        some = [places[(start + k) % 4000] for k in range(count)]
         yield "LineString (%d 1,%s)" % (i, ",".join(some))
 
 
