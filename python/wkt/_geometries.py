@@ -143,6 +143,9 @@ def geometries(arrays: ColumnArrays) -> Any:
     shapely, made = _shapely(), arrays.geoarrow()
     kind = [name.lower() for name in KINDS].index(made.extension.partition(".")[2])
     known = shapely.GeometryType({v: k for k, v in _KINDS.items()}[kind])
-    answer = shapely.from_ragged_array(known, made.coordinates, made.offsets[::-1] or None)
+    if len(made.coordinates):
+        answer = shapely.from_ragged_array(known, made.coordinates, made.offsets[::-1] or None)
+    else:  # Shapely 2.1 takes no arrays of EMPTY ones alone
+        answer = numpy.full(len(made.valid), shapely.from_wkt(KINDS[kind].upper() + " EMPTY"), object)
     answer[~made.valid] = None
     return answer
