@@ -1,5 +1,6 @@
 """Files with a column of texts: python -m wkt.table."""
 import contextlib
+import functools
 import io
 import os
 import random
@@ -260,7 +261,9 @@ class Processes(Folder):
 
     def begun(self, *words):
         pipe = subprocess.PIPE
-        return subprocess.Popen([*COMMAND, *words], stdin=pipe, stdout=pipe, stderr=pipe)
+        # What a script starts in the background ignores SIGINT, and so would this run.
+        heed = functools.partial(signal.signal, signal.SIGINT, signal.SIG_DFL)
+        return subprocess.Popen([*COMMAND, *words], stdin=pipe, stdout=pipe, stderr=pipe, preexec_fn=heed)
 
     def test_pipes(self):
         with self.begun("-", "--column", "geom") as run:
