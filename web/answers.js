@@ -19,6 +19,7 @@ let ids = 0;
 const byId = new Map();
 const numbers = new Map(); // of canonical texts
 let settle = () => {};
+const waiting = []; // who waits until all is answered
 let others = {};
 
 /** Starts the worker. `settled` is called when all is answered, and `on` has functions for what else it says, by names. */
@@ -55,7 +56,15 @@ function finish() {
   }
   state.settled = true;
   settle();
+  goOn();
 }
+
+function goOn() {
+  for (const go of waiting.splice(0)) go();
+}
+
+/** Waits until all is answered. */
+export const whenSettled = () => new Promise((go) => (state.settled ? go() : waiting.push(go)));
 
 /**
  * Answers a text. Pieces at its front and at its end that stand there already keep their answers.
@@ -94,6 +103,7 @@ export function forget() {
   Object.assign(state, { rows: [], chosen: -1, settled: true });
   byId.clear();
   numbers.clear();
+  goOn();
 }
 
 /** The line of the field, from 1 on, at which a row is refused. */

@@ -19,7 +19,8 @@ export async function copied(words) {
 
 /** Copies, and says so on the button. */
 export async function copy(words, button) {
-  const before = button.textContent;
+  // A second click comes while the button still says Copied.
+  const before = button.dataset.words ??= button.textContent;
   const done = await copied(words);
   button.focus();
   button.textContent = done ? 'Copied' : 'Not copied';

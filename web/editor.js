@@ -148,7 +148,7 @@ export function goToPlace() {
 export function goToNextRefusal() {
   for (let k = 1; k <= state.rows.length; k++) {
     const i = (state.chosen + k) % state.rows.length;
-    if (!state.rows[i].accepted) {
+    if (state.rows[i].answered && !state.rows[i].accepted) {
       choose(i);
       goToPlace();
       return;

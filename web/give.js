@@ -1,5 +1,5 @@
 // What is given out of all lines: their canonical texts, GeoJSON, or a table of the refusals; copied, or saved.
-import { lineOf } from './answers.js';
+import { lineOf, whenSettled } from './answers.js';
 import { copied } from './copy.js';
 import { $, count, number } from './elements.js';
 import { state } from './state.js';
@@ -72,9 +72,10 @@ function words({ left }, from, how) {
 }
 
 async function give(how) {
-  const from = source();
   for (const id of ['give-copy', 'give-save']) $(id).disabled = true;
   try {
+    await whenSettled();
+    const from = source();
     const done = await made(from);
     $('given').textContent = words(done, from, await how(done.blob, from.name));
   } catch (error) {

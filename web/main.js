@@ -1,6 +1,6 @@
 // The page: starts the module, and joins the parts.
 import { unpacked } from '../javascript/src/load.js';
-import { answer, askedSplit, places, setSplit, startDesk, takeTurned } from './answers.js';
+import { answer, askedSplit, places, setSplit, startDesk, takeTurned, whenSettled } from './answers.js';
 import { answerText, showCanonical, takeTotals } from './canonical.js';
 import { copy } from './copy.js';
 import { goToNextRefusal, goToPlace, rowAtCursor, showMarks, startEditor } from './editor.js';
@@ -128,7 +128,10 @@ function put(value) {
 
 // ---- Copying.
 function startCopying() {
-  $('copy').addEventListener('click', () => copy(answerText().text, $('copy')));
+  $('copy').addEventListener('click', async () => {
+    await whenSettled();
+    if (chosenRow()?.accepted) copy(answerText().text, $('copy'));
+  });
   $('copy-link').addEventListener('click', () => {
     history.replaceState(null, '', link());
     copy(location.href, $('copy-link'));

@@ -64,6 +64,7 @@ export function showRows() {
   $('rows-card').hidden = state.rows.length < 2;
   if (state.rows.length < 2) {
     $('rows').replaceChildren();
+    shown = [];
     return;
   }
   $('filters').replaceChildren(...filterButtons());
@@ -89,7 +90,7 @@ function goTo(at) {
 export function startRows(go) {
   const follow = () => {
     scrolled = { top: scroller.scrollTop, height: scroller.clientHeight || scrolled.height };
-    showSeen();
+    if (state.settled) showSeen(); // else its rows may be gone
   };
   scroller.addEventListener('scroll', follow);
   $('rows').addEventListener('click', (event) => {

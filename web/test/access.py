@@ -103,8 +103,9 @@ class Access(Page):
         self.driver.find_element(By.CSS_SELECTOR, "#rows [tabindex='0']").send_keys(Keys.ARROW_UP)
         self.assertEqual("POINT(3 4)", self.said("out"))
         self.assertEqual("3", self.driver.switch_to.active_element.text.split()[0])
+        self.hear("copy")
         alt("c")
-        self.wait(lambda: self.said("copy") == "Copied")
+        self.wait(lambda: "Copied" in self.heard())
         self.driver.find_element(By.CSS_SELECTOR, "#rows [tabindex='0']").send_keys("")
         self.press(Keys.ARROW_DOWN, Keys.ENTER)
         self.assertEqual(

@@ -182,6 +182,23 @@ class Page(unittest.TestCase):
     def undo(self):
         self.by_id("text").send_keys(Keys.CONTROL, "z")
 
+    def pasted(self):
+        """What the clipboard has, as the field takes it."""
+        self.by_id("text").send_keys(Keys.CONTROL, "av")
+        return self.value()
+
+    def hear(self, name):
+        """Keeps what an element says from now on, however shortly: `heard` has it."""
+        self.script(
+            "const e = document.getElementById(arguments[0]); window.heard = [];"
+            " new MutationObserver(() => window.heard.push(e.textContent))"
+            ".observe(e, { childList: true, subtree: true, characterData: true })",
+            name,
+        )
+
+    def heard(self):
+        return self.script("return window.heard")
+
     def value(self):
         return self.by_id("text").get_attribute("value")
 

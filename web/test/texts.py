@@ -84,11 +84,19 @@ class Texts(Page):
             ("copy-link", self.script("return location.href.split('#')[0]") + "#wkt=point+%281.0+2%29"),
         ):
             with self.subTest(button):
-                self.type("point (1.0 2)")
+                words = self.said(button)
+                self.hear(button)
+                # The click comes before the answer, and a second one while the button still says that it has copied.
+                self.script(
+                    "const t = document.getElementById('text'), b = document.getElementById(arguments[0]);"
+                    "document.addEventListener('click', () => { setTimeout(() => b.click(), 300); t.value = 'point (1.0 2)';"
+                    " t.dispatchEvent(new Event('input')); }, { capture: true, once: true })",
+                    button,
+                )
                 self.by_id(button).click()
-                self.wait(lambda button=button: self.said(button) == "Copied")
-                self.by_id("text").send_keys(Keys.CONTROL, "av")
-                self.assertEqual(copied, self.by_id("text").get_attribute("value"))
+                self.wait(lambda: len(self.heard()) == 4)
+                self.assertEqual(("Copied", words), (self.heard()[0], self.heard()[-1]))
+                self.wait(lambda copied=copied: self.pasted() == copied, 30)
 
     def test_notes(self):
         self.open()
