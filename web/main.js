@@ -4,7 +4,7 @@ import { answer, askedSplit, places, setSplit, startDesk, takeTurned, whenSettle
 import { answerText, showCanonical, takeTotals } from './canonical.js';
 import { copy } from './copy.js';
 import { goToNextRefusal, goToPlace, rowAtCursor, showMarks, startEditor } from './editor.js';
-import { $, button, element } from './elements.js';
+import { $, button, count, element } from './elements.js';
 import { EXAMPLES } from './examples.js';
 import { begin, closeFile, readFile, rereadFile, startFiles } from './file.js';
 import { showGive, startGiving } from './give.js';
@@ -37,7 +37,7 @@ function analyse(here = false) {
   atCursor = here;
   $('verdict').setAttribute('aria-busy', 'true');
   clearTimeout(slow);
-  slow = setTimeout(() => state.settled || say('idle', 'Checking', `${state.rows.length.toLocaleString('en')} texts`), SLOW);
+  slow = setTimeout(() => state.settled || say('idle', 'Checking', count(state.rows.length, 'text')), SLOW);
   answer(text.value);
   if (!state.settled) marksSoon();
   showOffer(text.value, put);

@@ -87,7 +87,7 @@ class Whole(Page):
                 with self.subTest(attempt):
                     self.script("window.refused.length = 0")
                     self.script(f"let x, s; {attempt}")
-                    self.wait(lambda directive=directive: directive in self.script("return window.refused"), 5)
+                    self.wait(lambda directive=directive: directive in self.script("return window.refused"))
         self.assertEqual(1, len(Quiet.asked), Quiet.asked)
         self.driver.get("about:blank")
         self.console()
@@ -110,9 +110,13 @@ class Shots(Page):
 
     folder_of_shots = None
 
+    @classmethod
+    def setUpClass(cls):
+        if not cls.folder_of_shots:
+            raise unittest.SkipTest("not asked for")
+        super().setUpClass()
+
     def test_shots(self):
-        if not self.folder_of_shots:
-            self.skipTest("not asked for")
         self.open()
         self.script("localStorage.clear()")
         for theme in ("light", "dark"):

@@ -27,10 +27,10 @@ const ratio = (one, other) => {
 class Access(Page):
     def test_names(self):
         for state in self.states():
-            for control in self.driver.find_elements(By.CSS_SELECTOR, CONTROLS):
-                if self.script("return arguments[0].checkVisibility()", control):
-                    with self.subTest(state + control.get_attribute("outerHTML")[:80]):
-                        self.assertTrue(control.accessible_name.strip())
+            seen = "return [...document.querySelectorAll(arguments[0])].filter((e) => e.checkVisibility())"
+            for control in self.script(seen, CONTROLS):
+                if not control.accessible_name.strip():
+                    self.fail(f"{state}: {control.get_attribute('outerHTML')[:80]}")
 
     def test_contrast(self):
         self.open()
@@ -39,7 +39,7 @@ class Access(Page):
             for state in self.states():
                 if self.script("return document.documentElement.dataset.theme") != theme:
                     self.by_id("theme").click()
-                self.settled()
+                self.said()
                 with self.subTest(theme + state):
                     self.assertEqual([], self.script(CONTRAST))
         self.script("localStorage.clear()")
@@ -49,9 +49,10 @@ class Access(Page):
         self.open()
         for theme in ("light", "dark"):
             self.script("document.documentElement.dataset.theme = arguments[0]", theme)
-            for name, least in (*((f"c{i}", 3) for i in range(8)), ("bad", 3), ("ink", 3), ("faint", 4.5)):
-                found = self.script(RATIO + "return ratio(arguments[0], 'card')", name)
-                self.assertGreaterEqual(found, least, f"{theme} {name}")
+            wanted = {**{f"c{i}": 3 for i in range(8)}, "bad": 3, "ink": 3, "faint": 4.5}
+            found = self.script(RATIO + "return arguments[0].map((name) => ratio(name, 'card'))", list(wanted))
+            for (name, least), ratio in zip(wanted.items(), found):
+                self.assertGreaterEqual(ratio, least, f"{theme} {name}")
 
     def test_focus_is_seen(self):
         """Tab comes to every control in its order, and each shows that it has the focus."""
@@ -66,15 +67,13 @@ class Access(Page):
             self.script("document.getElementById('skip').focus()")
             for _ in range(wanted - 1):
                 self.press(Keys.TAB)
-                self.assertTrue(
-                    self.script(
-                        "const e = document.activeElement; const shown = e.type === 'radio' ? e.nextElementSibling : e;"
-                        " const s = getComputedStyle(shown);"
-                        " return s.outlineStyle !== 'none' && parseFloat(s.outlineWidth) >= 2"
-                    ),
-                    f"{state}: {self.driver.switch_to.active_element.get_attribute('outerHTML')[:80]}",
+                outlined, element, text = self.script(
+                    "const e = document.activeElement; const shown = e.type === 'radio' ? e.nextElementSibling : e;"
+                    " const s = getComputedStyle(shown);"
+                    " return [s.outlineStyle !== 'none' && parseFloat(s.outlineWidth) >= 2, e, e.outerHTML.slice(0, 80)]"
                 )
-                seen.append(self.driver.switch_to.active_element.id)
+                self.assertTrue(outlined, f"{state}: {text}")
+                seen.append(element.id)
             self.assertEqual(wanted - 1, len(set(seen)), state)
 
     def test_keys_alone(self):

@@ -45,6 +45,33 @@ while (texts.nextNode()) {
 return poor;
 """
 
+# Whether the page is busy, and what an element says.
+SAID = """
+const [verdict, it] = ['verdict', arguments[0]].map((id) => document.getElementById(id));
+return [verdict.getAttribute('aria-busy') === 'true', it.innerText];
+"""
+# The picture as bytes: red, green, blue, alpha.
+PIXELS = """
+const c = document.getElementById('canvas');
+const to = new OffscreenCanvas(c.width, c.height).getContext('2d', { willReadFrequently: true });
+to.drawImage(c, 0, 0);
+const { data, width, height } = to.getImageData(0, 0, c.width, c.height);
+"""
+# The box around the pixels of a colour.
+BOX = """
+const color = document.createElement('canvas').getContext('2d');
+color.fillStyle = getComputedStyle(document.documentElement).getPropertyValue(arguments[0]).trim();
+const wanted = parseInt(color.fillStyle.slice(1), 16);
+let box = null;
+for (let y = 0, i = 0; y < height; y++) {
+  for (let x = 0; x < width; x++, i += 4) {
+    if (data[i + 3] < 32 || data[i] * 65536 + data[i + 1] * 256 + data[i + 2] !== wanted) continue;
+    box = box ? [Math.min(box[0], x), box[1], Math.max(box[2], x), y] : [x, y, x, y];
+  }
+}
+return box;
+"""
+
 
 def browser(downloads):
     options = webdriver.ChromeOptions()
@@ -112,16 +139,12 @@ class Page(unittest.TestCase):
     def by_id(self, name):
         return self.driver.find_element(By.ID, name)
 
-    def settled(self, seconds=60):
-        """Waits until what stands in the field is answered."""
-        busy = "return document.getElementById('verdict').getAttribute('aria-busy') === 'true'"
+    def said(self, name="verdict", seconds=60):
+        """What an element says, as soon as what stands in the field is answered."""
         end = time.time() + seconds
-        while self.script(busy) and time.time() < end:
+        while (it := self.script(SAID, name))[0] and time.time() < end:
             time.sleep(0.02)
-
-    def said(self, name):
-        self.settled()
-        return self.script("return document.getElementById(arguments[0]).innerText", name).replace("\u200b", "")
+        return it[1].replace("\u200b", "")
 
     def type(self, text):
         """Types a text, key by key, in place of what stands in the field."""
@@ -136,7 +159,7 @@ class Page(unittest.TestCase):
             "const t = document.getElementById('text'); t.value = arguments[0]; t.dispatchEvent(new Event('input'))",
             text,
         )
-        self.settled()
+        self.said()
         self.wait(lambda: self.painted() > before)
         self.still()
 
@@ -148,33 +171,21 @@ class Page(unittest.TestCase):
         """Waits until nothing more is drawn."""
         last = -1
         while last != (last := self.painted()):
-            time.sleep(0.15)
-
-    def pixels(self):
-        """The picture as rows of colours, each as a number, and -1 where hardly anything is drawn."""
-        return self.script(
-            "const c = document.getElementById('canvas'), copy = new OffscreenCanvas(c.width, c.height);"
-            " const to = copy.getContext('2d', { willReadFrequently: true }); to.drawImage(c, 0, 0);"
-            " const { data, width } = to.getImageData(0, 0, c.width, c.height); const rows = [];"
-            " for (let i = 0; i < data.length; i += 4 * width) { const row = [];"
-            " for (let k = i; k < i + 4 * width; k += 4)"
-            " row.push(data[k + 3] < 32 ? -1 : data[k] * 65536 + data[k + 1] * 256 + data[k + 2]); rows.push(row); }"
-            " return rows"
-        )
+            time.sleep(0.3)
 
     def box(self, name):
         """Where a colour of the page is in the picture: left, top, right, bottom; None where it isn't."""
-        color = self.script(
-            "const d = document.createElement('canvas').getContext('2d'); d.fillStyle ="
-            " getComputedStyle(document.documentElement).getPropertyValue(arguments[0]).trim(); return d.fillStyle",
-            name,
-        )
-        wanted = int(color[1:], 16)
-        found = [(x, y) for y, row in enumerate(self.pixels()) for x, it in enumerate(row) if it == wanted]
-        if not found:
-            return None
-        xs, ys = [x for x, _ in found], [y for _, y in found]
-        return min(xs), min(ys), max(xs), max(ys)
+        return self.script(PIXELS + BOX, name)
+
+    def is_drawn(self, x, y):
+        """Whether more than a faint line is drawn at a place of the picture."""
+        return self.script(PIXELS + "return data[4 * (width * arguments[1] + arguments[0]) + 3] >= 32", x, y)
+
+    def main_thread(self):
+        """The processor time of the page's main thread so far, in milliseconds; nothing that its workers take."""
+        self.driver.execute_cdp_cmd("Performance.enable", {"timeDomain": "threadTicks"})
+        found = self.driver.execute_cdp_cmd("Performance.getMetrics", {})["metrics"]
+        return 1000 * next(it["value"] for it in found if it["name"] == "TaskDuration")
 
     def press(self, *keys):
         webdriver.ActionChains(self.driver).send_keys(*keys).perform()

@@ -1,7 +1,7 @@
 """Files that are dropped on the page."""
 import os
 import random
-import sys
+import re
 import time
 
 from chromium import Page
@@ -146,7 +146,7 @@ class Files(Page):
         self.wait(lambda: self.said("say") == "All 3 lines accepted")
 
     def test_large_file(self):
-        """The page stays free while a large file is read, and stops when asked."""
+        """The page stays free while a large file is read."""
         self.open()
         path = os.path.join(self.folder.name, "large.wkt")
         place = random.Random(1)
@@ -154,22 +154,32 @@ class Files(Page):
         with open(path, "w", encoding="utf-8") as file:
             while file.tell() < self.size * 1e6:
                 file.write(made)
-        # The longest time in which the page doesn't come to a timer.
-        self.script(
-            "window.longest = 0; let last = performance.now(); setInterval(() => { const now = performance.now();"
-            " window.longest = Math.max(window.longest, now - last); last = now }, 10)"
-        )
-        begun = time.time()
+        begun, busy = time.time(), self.main_thread()
         self.drop(path)
         self.wait(lambda: "accepted" in self.said("say"), 120 + 10 * self.size)
-        seconds, longest = time.time() - begun, self.script("return window.longest")
-        print(
-            f"{self.size} MB: {seconds:.1f} s; the page was busy for {longest:.0f} ms at most; {self.said('told')}",
-            file=sys.stderr,
-        )
-        # Far above what it is (0.1 to 0.8 s): other work on the machine counts, too.
-        self.assertLess(longest, 15000)
-        self.drop(path)
-        self.by_id("stop").click()
-        self.wait(lambda: self.said("say").startswith(("Stopped", "All")))
+        seconds, busy = time.time() - begun, (self.main_thread() - busy) / 1000
+        self.note(f"{self.size} MB: {seconds:.1f} s, {busy:.2f} s of the main thread; {self.said('told')}")
+        self.assertLess(busy, seconds / 2)
         os.remove(path)
+
+    def test_stop(self):
+        """What was read before one stopped is shown."""
+        stop = """
+            new MutationObserver((_, observer) => {
+              if (!document.getElementById('told')?.textContent) return;
+              observer.disconnect();
+              document.getElementById('stop').click();
+            }).observe(document.getElementById('file-out'), { childList: true, subtree: true });
+            const event = new Event('drop', { cancelable: true });
+            event.dataTransfer = { files: [new File(['POINT(1 2)\\n'.repeat(4e6)], 'long.wkt')], types: ['Files'] };
+            dispatchEvent(event);
+        """
+
+        def stopped():
+            self.open()
+            self.script(stop)
+            said = self.wait(lambda: re.match("(Stopped: )?All (.*) lines accepted", self.said("say")))
+            return said[1] and 0 < int(said[2].replace(",", "")) < 4000000
+
+        # On a busy machine the worker may be done before the page hears of its first part.
+        self.assertTrue(any(stopped() for _ in range(5)))

@@ -17,8 +17,8 @@ TAKEN = [
     ('id,geom\n1,"LINESTRING(0 0,1 1)"\n2,POINT(1 2)', "Take column “geom”", "LINESTRING(0 0,1 1)\nPOINT(1 2)"),
     ("'POINT(1 2)',\n'POINT(3 4)'", "Take them off", "POINT(1 2)\nPOINT(3 4)"),
 ]
-# How many times the processor time of a bare field a key may take in the page, and how many keys are tried.
-TIMES, KEYS = 3, 25
+# How many times the processor time of a bare field a key may take in the page, how many keys are tried, and how often.
+TIMES, KEYS, ROUNDS = 3, 10, 3
 
 
 class Give(Page):
@@ -29,7 +29,7 @@ class Give(Page):
     def saved(self, name):
         path = os.path.join(self.folder.name, name)
         self.by_id("give-save").click()
-        self.wait(lambda: os.path.exists(path) and self.said("given").startswith("Saved"))
+        self.wait(lambda: os.path.exists(path) and os.path.getsize(path) > 0 and self.said("given").startswith("Saved"))
         with open(path, encoding="utf-8", newline="") as file:
             text = file.read()
         os.remove(path)
@@ -126,9 +126,11 @@ class Give(Page):
             "const t = document.getElementById('text'); for (const c of 'OINT(1 2)') { t.value += c;"
             " t.dispatchEvent(new Event('input')); }"
         )
-        self.wait(self.heard)
+        self.wait(lambda: "Accepted" in "".join(self.heard()))
         time.sleep(1)
-        self.assertEqual(["Accepted: Point. It has 1 point."], self.heard())
+        # On a busy machine it may say before that it is at work.
+        said = [words for words in self.heard() if not words.startswith("Checking")]
+        self.assertEqual(["Accepted: Point. It has 1 point."], said)
         live = self.script("return [...document.querySelectorAll('[role=status], [aria-live]')].map((e) => e.id)")
         self.assertEqual(["spoken", "vertex", "given"], sorted(live, key=["spoken", "vertex", "given"].index))
 
@@ -146,25 +148,19 @@ class Give(Page):
                 for other, at, wide in labels[:i]:
                     self.assertFalse(abs(y - at) < 11 and x < other + wide and other < x + width, text)
 
-    def key(self):
-        """Milliseconds of processor of the main thread that a key takes."""
-
-        def busy():
-            found = self.driver.execute_cdp_cmd("Performance.getMetrics", {})["metrics"]
-            return 1000 * next(it["value"] for it in found if it["name"] == "TaskDuration")
-
-        before = busy()
+    def key(self, done):
+        """Milliseconds of processor of the main thread that a key takes; `done` waits for what comes of it."""
+        before = self.main_thread()
         for kind in ("keyDown", "keyUp"):
             key = {"type": kind, "key": "5", **({"text": "5"} if kind == "keyDown" else {})}
             self.driver.execute_cdp_cmd("Input.dispatchKeyEvent", key)
         time.sleep(0.4)
-        self.settled()
-        return busy() - before
+        done()
+        return self.main_thread() - before
 
     def test_typing(self):
         """One key in ten thousand lines, beside one in a bare field; few of the lines stand in the document."""
         text = "\n".join(f"POLYGON(({n} 0,4.25 0,2.125 4,{n} 0))" for n in range(10000))
-        self.driver.execute_cdp_cmd("Performance.enable", {"timeDomain": "threadTicks"})
         self.open()
         self.paste(text)
         self.assertLess(len(self.driver.find_elements(By.CSS_SELECTOR, "#rows tr, #mirror > div")), 120)
@@ -178,17 +174,15 @@ class Give(Page):
         took = {"page": [], "bare": []}
         self.script(put, 3000)
         for _ in range(KEYS):
-            took["page"].append(self.key())
+            took["page"].append(self.key(self.said))
         answered = self.script("return window.answered")
         self.assertGreaterEqual(len(answered), KEYS)
         field = "<textarea id=text spellcheck=false style='width:600px;height:300px;white-space:pre'>"
         self.driver.get("data:text/html," + field)
         self.script("document.getElementById('text').value = arguments[0]", text)
         self.script(put, 3000)
-        self.settled = lambda: None
         for _ in range(KEYS):
-            took["bare"].append(self.key())
-        del self.settled
+            took["bare"].append(self.key(lambda: None))
         page, bare = min(took["page"]), min(took["bare"])
         self.note(
             f"a key in 10,000 lines: {page:.0f} ms of the main thread, {bare:.0f} in a bare field;"
