@@ -70,7 +70,8 @@ class Access(Page):
                 outlined, element, text = self.script(
                     "const e = document.activeElement; const shown = e.type === 'radio' ? e.nextElementSibling : e;"
                     " const s = getComputedStyle(shown);"
-                    " return [s.outlineStyle !== 'none' && parseFloat(s.outlineWidth) >= 2, e, e.outerHTML.slice(0, 80)]"
+                    " const seen = s.outlineStyle !== 'none' && parseFloat(s.outlineWidth) >= 2;"
+                    " return [seen, e, e.outerHTML.slice(0, 80)]"
                 )
                 self.assertTrue(outlined, f"{state}: {text}")
                 seen.append(element.id)

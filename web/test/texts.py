@@ -89,8 +89,9 @@ class Texts(Page):
                 # The click comes before the answer, and a second one while the button still says that it has copied.
                 self.script(
                     "const t = document.getElementById('text'), b = document.getElementById(arguments[0]);"
-                    "document.addEventListener('click', () => { setTimeout(() => b.click(), 300); t.value = 'point (1.0 2)';"
-                    " t.dispatchEvent(new Event('input')); }, { capture: true, once: true })",
+                    "document.addEventListener('click', () => { setTimeout(() => b.click(), 300);"
+                    " t.value = 'point (1.0 2)'; t.dispatchEvent(new Event('input')); },"
+                    " { capture: true, once: true })",
                     button,
                 )
                 self.by_id(button).click()
