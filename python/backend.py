@@ -123,13 +123,14 @@ def _compiled(folder):
     compiler = shlex.split(os.environ.get("CC", "cc"))
     if wanted == "0":
         return None
-    made = os.path.join(folder, _module())
     words = ["-O2", "-fPIC", "-fvisibility=hidden", "-fstack-protector-strong", *_flags("CFLAGS"), "-I", headers]
     words += ["-I", os.path.join(top, "include")]
     words += [*sorted(glob.glob(os.path.join(here, "src", "*.c"))), "-shared", "-Wl,-z,relro,-z,now"]
     lacks = _lacking(compiler, headers)
-    if not lacks and not subprocess.run([*compiler, *words, *_flags("LDFLAGS"), "-o", made], check=False).returncode:
-        return made
+    if not lacks:
+        made = os.path.join(folder, _module())
+        if not subprocess.run([*compiler, *words, *_flags("LDFLAGS"), "-o", made], check=False).returncode:
+            return made
     why = "the fast module needs " + lacks if lacks else "the fast module doesn't compile"
     if wanted:
         raise SystemExit(why)
