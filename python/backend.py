@@ -217,9 +217,10 @@ def _when():
 def _wheel(folder, held, built, library):
     """Writes a wheel of files, by their names and bytes; those of its dist-info come behind them. Its name."""
     python = "cp%d%d-cp%d%dt-" % (2 * sys.version_info[:2])
-    if _module() not in built:
+    modules = [name for name in built if os.path.basename(name).startswith("_fast.")]
+    if not modules:
         python = "py3-none-"
-    elif "abi3" in _module():
+    elif "abi3" in modules[0]:
         python = "cp311-abi3-"
     tag = python + _platform(built)
     held = held + [
