@@ -42,7 +42,7 @@ grep -qx 'prefix=/usr' "$dir/root/usr/lib/here/pkgconfig/wkt.pc" || wrong "wkt.p
 # In folders whose names have a space: a clone, the library, what is installed. An unquoted `rm -rf` would take `my`.
 mkdir "$dir/my clone"
 touch "$dir/my"
-git ls-files -z -- capi include dist packaging/release/man 'LICENSE-*' | tar --null -T - -cf - | tar -C "$dir/my clone" -xf -
+git ls-files -z -- capi include dist packaging/release/man packaging/release/completions 'LICENSE-*' | tar --null -T - -cf - | tar -C "$dir/my clone" -xf -
 runs() { "$@" > "$dir/said" 2>&1 || { tail -n 20 "$dir/said"; wrong "$*"; }; }
 runs make -s -C "$dir/my clone/dist" install prefix="$dir/my tools"
 PKG_CONFIG_PATH=$dir/my\ tools/lib/pkgconfig pkg-config --cflags --libs wkt > "$dir/flags"

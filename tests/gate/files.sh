@@ -42,8 +42,11 @@ ran="the shell"
 skips pandas || { by_python pandas; ran="$ran, pandas"; }
 skips dask || { by_python '[Dask]'; ran="$ran, Dask"; }
 if ! skips sqlite; then
-    cp "$root"/sqlite/{Makefile,wkt_sqlite.c} .
-    make -s WKT_LIB_DIR="$wkt" > log 2>&1 || { cat log; exit 1; }
+    mkdir "$work/sqlite" "$work/postgres"
+    cp "$root"/sqlite/{Makefile,*.c,*.h} "$work/sqlite"
+    cp "$root/postgres/parts.h" "$work/postgres"
+    make -s -C "$work/sqlite" WKT_LIB_DIR="$wkt" > log 2>&1 || { cat log; exit 1; }
+    cp "$work/sqlite/mod_wkt.so" .
     block sql 'In SQLite' > job.sql
     sqlite3 -bail -cmd '.load ./mod_wkt' job.db < job.sql > explained
     [ "$(grep -c 'a second number was expected' explained)" = 2 ]
