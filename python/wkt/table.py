@@ -57,8 +57,13 @@ class Run:
 
     def __init__(self, asked: Any, opened: contextlib.ExitStack) -> None:
         self.asked, self.opened = asked, opened
-        self.rejects = opened.enter_context(Output(asked.rejects)) if asked.rejects else None
-        self.out = opened.enter_context(Output(asked.out))
+        # A signal waits until whatever it ends is known to be taken away.
+        held = signal.pthread_sigmask(signal.SIG_BLOCK, (signal.SIGINT, signal.SIGTERM, signal.SIGHUP))
+        try:
+            self.rejects = opened.enter_context(Output(asked.rejects)) if asked.rejects else None
+            self.out = opened.enter_context(Output(asked.out))
+        finally:
+            signal.pthread_sigmask(signal.SIG_SETMASK, held)
         self.places = places_of(asked.places, True)
         self.refused = 0
         self.quiet = asked.quiet or sys.stderr is None
