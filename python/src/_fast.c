@@ -1,5 +1,6 @@
 /* wkt._fast: the calls of the library for one text and for columns, without ctypes and without an object for what stands
- * in between; and columns that are lent by Arrow's C interfaces (arrow_in.c, arrow_texts.c, arrow_out.c).
+ * in between; and columns that are lent by Arrow's C interfaces (arrow_in.c, arrow_texts.c, arrow_geo.c,
+ * arrow_out.c).
  *
  * The package loads libwkt, and binds its functions here. Of Python this needs the limited API of 3.11 alone, so one wheel
  * serves that version and each later one; free-threaded Python has no limited API, and gets a module of its own. Where it
@@ -116,10 +117,13 @@ static PyMethodDef methods[] = {
     FAST(from_arrays_rows, "from_arrays_rows(rows, places or None, numbered) -> list"),
     {"unpack", unpack, METH_VARARGS, "unpack(bytes, int64 offsets, uint32 statuses) -> list of str and None"},
     {"arrow_array", arrow_array, METH_VARARGS,
-     "arrow_array(schema, array) -> ((is of UTF-8, metadata), (data, int64 offsets, bits or b'', rows))"},
-    {"arrow_stream", arrow_stream, METH_O, "arrow_stream(stream) -> (what arrow_next takes, (is of UTF-8, metadata))"},
+     "arrow_array(schema, array, is GeoArrow) -> (type, array), as of a stream"},
+    {"arrow_stream", arrow_stream, METH_VARARGS,
+     "arrow_stream(stream, is GeoArrow) -> (what arrow_next takes, (is chosen by indices, metadata)), and of GeoArrow "
+     "(lists, axes, metadata)"},
     {"arrow_next", arrow_next, METH_O,
-     "arrow_next(stream) -> (data, int64 offsets, bits or b'', rows), or None at the end"},
+     "arrow_next(stream) -> (data, int64 offsets, bits or b'', texts, int32 indices or None), and of GeoArrow (bits or "
+     "b'', rows, doubles or None, int64 offsets of each list); None at the end"},
     {"export", arrow_export, METH_O,
      "export((format, name, metadata, flags, length, nulls, buffers, columns)) -> (schema, array)"},
     {"export_schema", arrow_export_schema, METH_O, "export_schema(such a tuple) -> schema"},

@@ -61,16 +61,31 @@ static inline void raise_again(Aside it) {
 
 /* arrow_in.c: what others lend */
 PyObject *arrow_array(PyObject *self, PyObject *args);
-PyObject *arrow_stream(PyObject *self, PyObject *capsule);
+PyObject *arrow_stream(PyObject *self, PyObject *args);
 PyObject *arrow_next(PyObject *self, PyObject *stream);
 extern PyType_Spec lent_spec;
-/* arrow_texts.c: the texts of an array, once its type is known */
+/* The type of a column: of texts, of a dictionary of texts, of runs of either; or of lists of coordinates. */
 typedef struct {
+    int nested;                      /* a struct of one column */
     const struct ArrowSchema *texts; /* the type of the texts: that of the dictionary, if there is one */
-    int nested, index;               /* a struct of one column; the size of a dictionary's indices, or 0 */
-    int is_signed;                   /* those */
+    int runs;                        /* the size of the ends of runs, or 0 */
+    int index, is_signed;            /* the size of a dictionary's indices, or 0 */
+    int is_geo, lists, large;        /* GeoArrow: how many lists; bit i: the offsets of list i have 64 bits */
+    int separated;                   /* a column for each axis, and not all of a coordinate side by side */
+    char axes[8];                    /* such as "xyz"; "" where it is of something else */
 } Type;
+/* arrow_texts.c: the texts of an array, once its type is known */
 PyObject *arrow_texts(PyObject *module, const Type *type, const struct ArrowArray *array, PyObject *owner);
+PyObject *arrow_wrong(const char *what); /* raises */
+int arrow_has(const struct ArrowArray *array, int64_t least, int64_t most, int64_t columns, int64_t first,
+              int64_t rows);
+int arrow_is_null(const struct ArrowArray *array, int64_t at);
+PyObject *arrow_bits(const struct ArrowArray *array, int64_t at, int64_t rows);
+int arrow_offsets(const void *offsets, int is_64, int64_t at, int64_t rows, int64_t *to, int64_t *start);
+const struct ArrowArray *arrow_column_in(const struct ArrowArray *table, int64_t *first);
+/* arrow_geo.c: coordinates and the offsets of their lists */
+void arrow_geo_type(const struct ArrowSchema *schema, Type *type);
+PyObject *arrow_geo(const Type *type, const struct ArrowArray *array);
 /* arrow_out.c: what this module lends */
 PyObject *arrow_export(PyObject *self, PyObject *tree);
 PyObject *arrow_export_schema(PyObject *self, PyObject *tree);

@@ -37,19 +37,46 @@ static int metadata_length(const char *metadata, Py_ssize_t *length) {
     return 0;
 }
 
+static const char *format_of(const struct ArrowSchema *schema) {
+    return schema == NULL || schema->format == NULL ? "no format" : schema->format;
+}
+
 static int is_of_texts(const struct ArrowSchema *schema) {
     static const char *const formats[] = {"u", "U", "z", "Z", "vu", "vz"};
     for (size_t i = 0; i < sizeof formats / sizeof *formats; i++)
-        if (strcmp(schema->format, formats[i]) == 0) return schema->n_children == 0 && schema->dictionary == NULL;
+        if (strcmp(format_of(schema), formats[i]) == 0) return schema->n_children == 0 && schema->dictionary == NULL;
     return 0;
 }
 
-/* The type of a column: of texts, of a dictionary of texts, or of a struct that has one such column. */
-static int type_of(const struct ArrowSchema *schema, Type *type, const struct ArrowSchema **column) {
-    static const char indices[] = "cCsSiIlL";
-    const char *index;
-    *type = (Type){0};
-    if (schema->format != NULL && strcmp(schema->format, "+s") == 0) {
+/* The size of an integer type; 0 of another. */
+static int size_of(const struct ArrowSchema *schema, int *is_signed) {
+    static const char kinds[] = "cCsSiIlL";
+    const char *format = format_of(schema), *found = strlen(format) == 1 ? strchr(kinds, format[0]) : NULL;
+    *is_signed = found != NULL && (found - kinds) % 2 == 0;
+    return found == NULL ? 0 : 1 << (found - kinds) / 2;
+}
+
+/* Whether texts are what a column is of. */
+static int texts_type(const struct ArrowSchema *schema, Type *type) {
+    int is_signed;
+    if (strcmp(format_of(schema), "+r") == 0) {
+        if (schema->n_children != 2 || schema->children == NULL) return 0;
+        type->runs = size_of(schema->children[0], &is_signed);
+        if (type->runs < 2 || !is_signed) return 0;
+        schema = schema->children[1];
+    }
+    type->texts = schema;
+    if (schema != NULL && schema->dictionary != NULL) {
+        type->texts = schema->dictionary;
+        if ((type->index = size_of(schema, &type->is_signed)) == 0) return 0;
+    }
+    return is_of_texts(type->texts);
+}
+
+/* The type of a column, which may stand alone in a table; *column: that column. */
+static int type_of(const struct ArrowSchema *schema, int is_geo, Type *type, const struct ArrowSchema **column) {
+    *type = (Type){.is_geo = is_geo};
+    if (strcmp(format_of(schema), "+s") == 0 && (!is_geo || schema->n_children == 1)) {
         if (schema->n_children != 1 || schema->children == NULL || schema->children[0] == NULL) {
             PyErr_Format(PyExc_TypeError, "an Arrow table of %lld columns: take the one that has the texts",
                          (long long)schema->n_children);
@@ -57,55 +84,55 @@ static int type_of(const struct ArrowSchema *schema, Type *type, const struct Ar
         }
         type->nested = 1, schema = schema->children[0];
     }
-    *column = type->texts = schema;
-    if (schema->format != NULL && schema->dictionary != NULL) {
-        index = strlen(schema->format) == 1 ? strchr(indices, schema->format[0]) : NULL;
-        type->texts = schema->dictionary;
-        if (index != NULL) {
-            type->index = 1 << (index - indices) / 2;
-            type->is_signed = (index - indices) % 2 == 0;
-        }
-    }
-    if (type->texts->format == NULL || !is_of_texts(type->texts) || (type->texts != schema) != (type->index != 0)) {
+    *column = schema;
+    if (is_geo) {
+        arrow_geo_type(schema, type);
+    } else if (!texts_type(schema, type)) {
         PyErr_Format(PyExc_TypeError,
-                     "an Arrow column of texts is of utf8, large_utf8, string_view, binary, or a dictionary of these, "
-                     "and not of %.100s",
-                     schema->format == NULL ? "no format" : schema->format);
+                     "an Arrow column of texts is of utf8, large_utf8, string_view, binary, or a dictionary or runs of "
+                     "these, and not of %.100s; keys takes GeoArrow",
+                     format_of(schema));
         return -1;
     }
     return 0;
 }
 
-/* What Python is told of a type: whether it is of UTF-8, and its metadata. */
-static PyObject *described(const struct ArrowSchema *schema, Type *type) {
+/* What Python is told of a type: whether its texts are chosen by indices, or its lists and axes; and its metadata. */
+static PyObject *described(const struct ArrowSchema *schema, int is_geo, Type *type) {
     const struct ArrowSchema *column;
     Py_ssize_t length;
-    const char *format;
+    const char *metadata;
     if (schema->release == NULL) {
         PyErr_SetString(PyExc_ValueError, "the Arrow column is released already");
         return NULL;
     }
-    if (type_of(schema, type, &column) < 0 || metadata_length(column->metadata, &length) < 0) return NULL;
-    format = type->texts->format;
-    return Py_BuildValue("iy#", strchr(format, 'z') == NULL && strchr(format, 'Z') == NULL,
-                         column->metadata == NULL ? "" : column->metadata, length);
+    if (type_of(schema, is_geo, type, &column) < 0 || metadata_length(column->metadata, &length) < 0) return NULL;
+    metadata = column->metadata == NULL ? "" : column->metadata;
+    if (is_geo) return Py_BuildValue("isy#", type->lists, type->axes, metadata, length);
+    return Py_BuildValue("iy#", type->runs != 0 || type->index != 0, metadata, length);
+}
+
+/* What arrow_next gives of an array. */
+static PyObject *parts_of(PyObject *module, const Type *type, const struct ArrowArray *array, PyObject *owner) {
+    return type->is_geo ? arrow_geo(type, array) : arrow_texts(module, type, array, owner);
 }
 
 PyObject *arrow_array(PyObject *self, PyObject *args) {
     PyObject *one, *other, *owner, *about, *texts = NULL;
     struct ArrowSchema *schema;
     struct ArrowArray *array, *mine;
+    int is_geo = 0;
     Type type;
-    if (!PyArg_ParseTuple(args, "OO", &one, &other)) return NULL;
+    if (!PyArg_ParseTuple(args, "OO|p", &one, &other, &is_geo)) return NULL;
     if ((schema = PyCapsule_GetPointer(one, "arrow_schema")) == NULL) return NULL;
     if ((array = PyCapsule_GetPointer(other, "arrow_array")) == NULL) return NULL;
-    if ((about = described(schema, &type)) == NULL) return NULL;
+    if ((about = described(schema, is_geo, &type)) == NULL) return NULL;
     if (array->release == NULL) {
         PyErr_SetString(PyExc_ValueError, "the Arrow column is released already");
     } else if ((owner = new_array(&mine)) != NULL) {
         *mine = *array;
         array->release = NULL;
-        texts = arrow_texts(self, &type, mine, owner);
+        texts = parts_of(self, &type, mine, owner);
         Py_DECREF(owner);
     }
     if (texts == NULL) {
@@ -146,14 +173,15 @@ static void say(struct ArrowArrayStream *stream, int error) {
     Py_XDECREF(value);
 }
 
-PyObject *arrow_stream(PyObject *self, PyObject *capsule) {
-    struct ArrowArrayStream *given = PyCapsule_GetPointer(capsule, "arrow_array_stream");
-    PyObject *owner, *about = NULL;
+PyObject *arrow_stream(PyObject *self, PyObject *args) {
+    struct ArrowArrayStream *given;
+    PyObject *capsule, *owner, *about = NULL;
     Stream *mine;
     Aside raised;
-    int error;
+    int error, is_geo = 0;
     (void)self;
-    if (given == NULL) return NULL;
+    if (!PyArg_ParseTuple(args, "O|p", &capsule, &is_geo)) return NULL;
+    if ((given = PyCapsule_GetPointer(capsule, "arrow_array_stream")) == NULL) return NULL;
     if (given->release == NULL) {
         PyErr_SetString(PyExc_ValueError, "the Arrow stream is released already");
         return NULL;
@@ -174,7 +202,7 @@ PyObject *arrow_stream(PyObject *self, PyObject *capsule) {
         mine->schema.release = NULL;
         say(&mine->stream, error);
     } else {
-        about = described(&mine->schema, &mine->type);
+        about = described(&mine->schema, is_geo, &mine->type);
     }
     if (about == NULL) {
         Py_DECREF(owner);
@@ -202,7 +230,7 @@ PyObject *arrow_next(PyObject *self, PyObject *capsule) {
         texts = Py_None;
         Py_INCREF(texts);
     } else {
-        texts = arrow_texts(self, &stream->type, array, owner);
+        texts = parts_of(self, &stream->type, array, owner);
     }
     Py_DECREF(owner);
     return texts;

@@ -2,7 +2,8 @@
  * array's buffers with the lock of the interpreter. Where the interpreter has ended they stay, since nothing of Python
  * may be called there; a consumer may so keep an array for as long as it wants.
  *
- * A column is described by a tuple: (format, name, metadata, flags, length, nulls, buffers, columns in it). */
+ * A column is described by a tuple: (format, name, metadata, flags, length, nulls, buffers, columns in it), and behind
+ * these a dictionary, if it has one. */
 #include "arrow.h"
 #include <errno.h>
 #include <stdlib.h>
@@ -13,7 +14,8 @@ typedef struct {
     Py_ssize_t metadata_length;
     int flags;
     long long length, nulls;
-    PyObject *buffers, *columns;
+    PyObject *buffers, *columns, *dictionary;
+    Py_ssize_t count, all; /* of columns; and with the dictionary */
 } Tree;
 
 static int read_tree(PyObject *given, Tree *tree) {
@@ -21,14 +23,21 @@ static int read_tree(PyObject *given, Tree *tree) {
         PyErr_SetString(PyExc_TypeError, "a column is described by a tuple");
         return -1;
     }
-    if (!PyArg_ParseTuple(given, "ssy#iLLOO", &tree->format, &tree->name, &tree->metadata, &tree->metadata_length,
-                          &tree->flags, &tree->length, &tree->nulls, &tree->buffers, &tree->columns))
+    tree->dictionary = NULL;
+    if (!PyArg_ParseTuple(given, "ssy#iLLOO|O", &tree->format, &tree->name, &tree->metadata, &tree->metadata_length,
+                          &tree->flags, &tree->length, &tree->nulls, &tree->buffers, &tree->columns, &tree->dictionary))
         return -1;
     if (!PyTuple_Check(tree->buffers) || !PyTuple_Check(tree->columns)) {
         PyErr_SetString(PyExc_TypeError, "the buffers and the columns of a column are tuples");
         return -1;
     }
+    tree->count = PyTuple_Size(tree->columns), tree->all = tree->count + (tree->dictionary != NULL);
     return 0;
+}
+
+/* Column i; behind the last the dictionary. */
+static PyObject *column_of(const Tree *tree, Py_ssize_t i) {
+    return i < tree->count ? PyTuple_GetItem(tree->columns, i) : tree->dictionary;
 }
 
 /* What a schema holds: its strings in one piece, and its columns. */
@@ -39,7 +48,7 @@ typedef struct {
 
 static void release_schema(struct ArrowSchema *schema) {
     SchemaPart *part = schema->private_data;
-    for (int64_t i = 0; i < schema->n_children; i++)
+    for (int64_t i = 0; i < schema->n_children + (schema->dictionary != NULL); i++)
         if (part->children[i]->release != NULL) part->children[i]->release(part->children[i]);
     free(part->children);
     free(part->column);
@@ -76,13 +85,12 @@ static int make_schema(PyObject *given, struct ArrowSchema *schema) {
                                    .metadata = tree.metadata_length ? part->strings + format + name : NULL,
                                    .release = release_schema,
                                    .private_data = part};
-    if (room_for(PyTuple_Size(tree.columns), sizeof *part->column, (void ***)&part->children, (void **)&part->column) <
-        0)
-        goto failed;
+    if (room_for(tree.all, sizeof *part->column, (void ***)&part->children, (void **)&part->column) < 0) goto failed;
     schema->children = part->children;
-    schema->n_children = PyTuple_Size(tree.columns);
-    for (int64_t i = 0; i < schema->n_children; i++)
-        if (make_schema(PyTuple_GetItem(tree.columns, (Py_ssize_t)i), part->children[i]) < 0) goto failed;
+    schema->n_children = tree.count;
+    if (tree.all > tree.count) schema->dictionary = part->children[tree.count];
+    for (Py_ssize_t i = 0; i < tree.all; i++)
+        if (make_schema(column_of(&tree, i), part->children[i]) < 0) goto failed;
     return 0;
 failed:
     release_schema(schema);
@@ -102,7 +110,7 @@ typedef struct {
 static void release_array(struct ArrowArray *array) {
     ArrayPart *part = array->private_data;
     array->release = NULL;
-    for (int64_t i = 0; i < array->n_children; i++)
+    for (int64_t i = 0; i < array->n_children + (array->dictionary != NULL); i++)
         if (part->children[i]->release != NULL) part->children[i]->release(part->children[i]);
     if (part->held > 0) {
         PyGILState_STATE state;
@@ -144,13 +152,12 @@ static int make_array(PyObject *given, struct ArrowArray *array) {
                                  .release = release_array,
                                  .private_data = part};
     if (hold(part, tree.buffers) < 0) goto failed;
-    if (room_for(PyTuple_Size(tree.columns), sizeof *part->column, (void ***)&part->children, (void **)&part->column) <
-        0)
-        goto failed;
+    if (room_for(tree.all, sizeof *part->column, (void ***)&part->children, (void **)&part->column) < 0) goto failed;
     array->children = part->children;
-    array->n_children = PyTuple_Size(tree.columns);
-    for (int64_t i = 0; i < array->n_children; i++)
-        if (make_array(PyTuple_GetItem(tree.columns, (Py_ssize_t)i), part->children[i]) < 0) goto failed;
+    array->n_children = tree.count;
+    if (tree.all > tree.count) array->dictionary = part->children[tree.count];
+    for (Py_ssize_t i = 0; i < tree.all; i++)
+        if (make_array(column_of(&tree, i), part->children[i]) < 0) goto failed;
     return 0;
 failed:
     release_array(array);

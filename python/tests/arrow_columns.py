@@ -1,5 +1,8 @@
 """Columns over Arrow's C interfaces for the tests of them, made and taken by a peer in C (arrow_peer.c) or Python."""
 import ctypes
+import itertools
+import struct
+import typing
 import unittest
 
 import wkt
@@ -118,6 +121,126 @@ class Called:
         return type("Stream", (), {"__arrow_c_stream__": lambda it, requested_schema=None: made})()
 
 
+class Node(typing.NamedTuple):
+    """A column as its buffers, each of bytes or None. `length` rows begin at `offset`."""
+
+    format: str
+    length: int
+    buffers: tuple = ()
+    columns: tuple = ()
+    name: str = ""
+    offset: int = 0
+    nulls: int = -1
+    dictionary: typing.Any = None
+    metadata: bytes = b""
+
+
+def bits_of(rows):
+    """A bit for each row, which is 0 of None; no bits where none is None."""
+    held = [row is not None for row in rows]
+    bits = bytes(sum(bit << i for i, bit in enumerate(held[at : at + 8])) for at in range(0, len(held), 8))
+    return None if all(held) else bits
+
+
+def numbers(format, values, **more):
+    """A column of numbers, such as "i" of 32 bits and "g" of doubles."""
+    code = "d" if format == "g" else {"c": "b", "C": "B", "s": "h", "S": "H", "l": "q", "L": "Q"}.get(format, format)
+    data = struct.pack("<%d%s" % (len(values), code), *(value or 0 for value in values))
+    return Node(format, len(values), (bits_of(values), data), **more)
+
+
+def texts_of(rows, **more):
+    """A column of utf8."""
+    ends = list(itertools.accumulate((len(row or b"") for row in rows), initial=0))
+    buffers = bits_of(rows), struct.pack("<%di" % len(ends), *ends), b"".join(row or b"" for row in rows)
+    return Node("u", len(rows), buffers, **more)
+
+
+class Told:
+    """A column as it is told, by a producer in Python. Its buffers have their exact size, until they are released."""
+
+    held, types = {}, {}  # of arrays; and of schemas, which may stay
+
+    def __init__(self, node):
+        self.node = node
+
+    @classmethod
+    def fill(cls, made, node):
+        keep, texts = [], [node.format.encode(), node.name.encode(), node.metadata or None]
+        column = type(made)
+        columns = [column() for _ in node.columns]
+        pointers = (ctypes.c_void_p * len(columns))(*map(ctypes.addressof, columns))
+        for each, its in zip(columns, node.columns):
+            cls.fill(each, its)
+        keep += [columns, pointers]
+        if column is _Schema:
+            words = [None if text is None else ctypes.create_string_buffer(text) for text in texts]
+            made.format, made.name, made.metadata = (0 if it is None else ctypes.addressof(it) for it in words)
+            keep.append(words)
+        else:
+            held = [it if it is None else (ctypes.c_char * len(it)).from_buffer_copy(it) for it in node.buffers]
+            buffers = (ctypes.c_void_p * len(held))(*(it if it is None else ctypes.addressof(it) for it in held))
+            made.length, made.offset, made.null_count = node.length, node.offset, node.nulls
+            made.n_buffers, made.buffers = len(held), ctypes.addressof(buffers)
+            keep += [held, buffers]
+        made.n_children, made.children = len(columns), ctypes.addressof(pointers)
+        if node.dictionary is not None:
+            keep.append(column())
+            cls.fill(keep[-1], node.dictionary)
+            made.dictionary = ctypes.addressof(keep[-1])
+        made.private_data = id(keep)
+        (cls.types if column is _Schema else cls.held)[id(keep)] = keep
+        made.release = Called.address(_releases[column])
+
+    @classmethod
+    def release(cls, made):
+        made.release = None
+        for at in [made.dictionary, *(ctypes.c_void_p * made.n_children).from_address(made.children)]:
+            if at is not None:
+                cls.release(type(made).from_address(at))
+        del (cls.types if type(made) is _Schema else cls.held)[made.private_data]
+
+    def __arrow_c_array__(self, requested_schema=None):
+        self.lent = _Schema(), _Array()
+        for made in self.lent:
+            self.fill(made, self.node)
+        names = b"arrow_schema", b"arrow_array"
+        return tuple(_capsule(ctypes.addressof(it), name, None) for it, name in zip(self.lent, names))
+
+
+_releases = {
+    it: ctypes.CFUNCTYPE(None, ctypes.c_void_p)(lambda at, it=it: Told.release(it.from_address(at)))
+    for it in (_Schema, _Array)
+}
+
+
+class ToldStream:
+    """A stream of such columns, the first of which says the type."""
+
+    def __init__(self, *nodes):
+        self.nodes, self.left, self.held = nodes, list(nodes), _Stream()
+        two = ctypes.CFUNCTYPE(ctypes.c_int, *2 * [ctypes.c_void_p])
+        self.functions = [two(self.get_schema), two(self.get_next), ctypes.CFUNCTYPE(None, ctypes.c_void_p)(self.end)]
+        self.held.get_schema, self.held.get_next, self.held.release = map(Called.address, self.functions)
+
+    def get_schema(self, stream, at):
+        Told.fill(_Schema.from_address(at), self.nodes[0])
+        return 0
+
+    def get_next(self, stream, at):
+        if self.left:
+            Told.fill(_Array.from_address(at), self.left.pop(0))
+        else:
+            _Array.from_address(at).release = None
+        return 0
+
+    def end(self, at):
+        _Stream.from_address(at).release = None
+
+    def __arrow_c_stream__(self, requested_schema=None):
+        return _capsule(ctypes.addressof(self.held), b"arrow_array_stream", None)
+
+
 def made(texts, metadata=None):
     """Texts as ArrowTexts."""
     held = [b"" if text is None else text.encode() for text in texts]
@@ -142,4 +265,4 @@ class Arrow(unittest.TestCase):
         self.before = arrow_peer.live()
 
     def tearDown(self):
-        self.assertEqual(arrow_peer.live(), self.before, "something wasn't released")
+        self.assertEqual((arrow_peer.live(), Told.held), (self.before, {}), "something wasn't released")

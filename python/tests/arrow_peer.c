@@ -342,7 +342,7 @@ static PyObject *lend_stream(PyObject *self, PyObject *args) {
     return PyCapsule_New(stream, "arrow_array_stream", end_stream);
 }
 
-/* What was lent: (format, name, metadata's first bytes or b"", flags, length, nulls, buffers, columns). */
+/* What was lent: (format, name, number of pairs, flags, length, nulls, buffers, columns, and a dictionary as the last). */
 static PyObject *buffer_of(const struct ArrowArray *array, int i, const char *format) {
     int64_t rows = array->offset + array->length;
     Py_ssize_t size = 0;
@@ -351,8 +351,8 @@ static PyObject *buffer_of(const struct ArrowArray *array, int i, const char *fo
         size = (Py_ssize_t)(rows + 7) / 8;
     else if (i == 1 && format[0] == 'U')
         size = (Py_ssize_t)(8 * (rows + 1));
-    else if (i == 1 && format[0] == 'g')
-        size = (Py_ssize_t)(8 * rows);
+    else if (i == 1 && (format[0] == 'g' || format[0] == 'i'))
+        size = (Py_ssize_t)((format[0] == 'g' ? 8 : 4) * rows);
     else if (i == 1)
         size = (Py_ssize_t)(4 * (rows + 1));
     else
@@ -372,6 +372,11 @@ static PyObject *seen(const struct ArrowSchema *schema, const struct ArrowArray 
         PyObject *column = seen(schema->children[i], array->children[i]);
         PyList_Append(columns, column);
         Py_DECREF(column);
+    }
+    if (array->dictionary != NULL) {
+        PyObject *known = seen(schema->dictionary, array->dictionary);
+        PyList_Append(columns, known);
+        Py_DECREF(known);
     }
     if (schema->metadata != NULL) memcpy(&pairs, schema->metadata, sizeof pairs);
     return Py_BuildValue("ssiLLLNN", schema->format, schema->name, pairs, (long long)schema->flags,

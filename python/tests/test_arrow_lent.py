@@ -217,7 +217,7 @@ class Memory(Arrow):
         self.assertEqual(self.each(lambda: _fast.unpack(b"abcde", ends, statuses)), ["abc", "de"])
         for format in FORMATS:
             held = HELD + [b"POINT(%d 2)" % i for i in range(20)]
-            (_, _), (data, offsets, bits, count) = self.each(
+            (_, _), (data, offsets, bits, count, indices) = self.each(
                 _fast.arrow_array, Lent(held, format).__arrow_c_array__
             )
             self.assertEqual((bytes(data), count), (b"".join(row or b"" for row in held), len(held)))

@@ -7,7 +7,7 @@ from . import _arrow, _buffers, _library
 from ._columns import check_invalid, column_of, is_column, or_null, refused_of, rows_of
 from ._errors import WktError, check, words_of
 from ._explain import refusal
-from ._names import DIMENSIONS, KINDS, NOT_COLUMN, TOO_SMALL
+from ._names import DIMENSIONS, KINDS, NOT_COLUMN, NULL, TOO_SMALL
 from ._native import bind, calls
 from ._progress import Progress, shown
 from ._room import Room, pointer
@@ -157,11 +157,27 @@ def to_arrays_column(texts: Any, places: int = 6, progress: Progress = None, who
 
 
 def _column_arrays(texts: Any, places: int, progress: Progress) -> ColumnArrays:
-    lent = _arrow.is_texts(texts)
-    column: Any = tuple(_buffers.whole(_arrow.taken(texts))) if lent else column_of(texts)
+    lent, indices = _arrow.is_texts(texts), None
+    if lent:
+        packed, indices = _buffers.whole(_arrow.taken(texts))
+    column: Any = tuple(packed) if lent else column_of(texts)
     with shown(progress, column[3] if lent else len(column)) as report:
         made = calls.arrays_rows(column, places, report, lent)
-    return ColumnArrays._make([*map(array_of, "IIqqQqQqI", made), places % WHOLE])
+    held = ColumnArrays._make([*map(array_of, "IIqqQqQqI", made), places % WHOLE])
+    return held if indices is None else _chosen(held, indices)
+
+
+def _chosen(held: ColumnArrays, indices: Any) -> ColumnArrays:
+    """The arrays of rows that have some of the texts, and -1 where they have none."""
+    made = []
+    for values, offsets in zip(held[2:8:2], held[3:8:2]):
+        offsets = numpy.append(offsets, offsets[-1])  # of none
+        starts, counts = offsets[indices], numpy.diff(offsets)[indices]
+        ends = numpy.concatenate([[0], numpy.cumsum(counts)])
+        made += [values[numpy.arange(ends[-1]) + numpy.repeat(starts - ends[:-1], counts)], ends]
+    words = [numpy.append(values, numpy.uint32(0))[indices] for values in held[:2]]
+    statuses = numpy.append(held.statuses, numpy.uint32(NULL))[indices]
+    return ColumnArrays._make([*words, *made, statuses, held.places])
 
 
 def _index(names: Tuple[str, ...], name: Any, what: str) -> int:

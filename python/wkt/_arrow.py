@@ -8,7 +8,9 @@ import struct
 from collections.abc import Sequence
 from typing import Any, Dict, Iterator, List, Optional, Tuple
 
-from ._buffers import Buffers, Texts, answered, bounds, fixed_array, fixed_packed, is_fixed, joined, rows_in, shown_text
+from ._buffers import (
+    Buffers, Chunk, Texts, answered, bounds, fixed_array, fixed_packed, is_fixed, joined, rows_in, shown_text,
+)  # fmt: skip
 from ._errors import printable
 from ._names import NOT_UTF8
 from ._native import _fast
@@ -37,22 +39,23 @@ def is_texts(values: Any) -> bool:
     return is_fixed(values) or (_fast is not None and lends(values) and not is_series(values))
 
 
-def _packed(parts: Any) -> Packed:
-    data, offsets, bits, rows = parts
-    return Packed(
+def _chunk(parts: Any) -> Chunk:
+    data, offsets, bits, rows, indices = parts
+    packed = Packed(
         numpy.frombuffer(data, numpy.uint8),
         numpy.frombuffer(offsets, numpy.int64),
         numpy.frombuffer(bits, numpy.uint8),
         rows,
     )
+    return Chunk(packed, None if indices is None else numpy.frombuffer(indices, numpy.int32))
 
 
-def _chunks(stream: Any) -> Iterator[Packed]:
+def _rest(stream: Any) -> Iterator[Any]:
     while True:
         parts = _asked(_fast.arrow_next, stream)
         if parts is None:
             return
-        yield _packed(parts)
+        yield parts
 
 
 def _asked(call: Any, *given: Any) -> Any:
@@ -67,16 +70,23 @@ def _asked(call: Any, *given: Any) -> Any:
         raise
 
 
+def parts_of(column: Any, is_geo: bool) -> Tuple[Any, Iterator[Any], Optional[Any]]:
+    """What wkt._fast says of the type of a column, its chunks, and the only one, where it is no stream."""
+    if hasattr(column, "__arrow_c_array__"):
+        about, parts = _asked(_fast.arrow_array, *column.__arrow_c_array__(), is_geo)
+        return about, iter([parts]), parts
+    stream, about = _asked(_fast.arrow_stream, column.__arrow_c_stream__(), is_geo)
+    return about, _rest(stream), None
+
+
 def taken(column: Any) -> Buffers:
     """The buffers of a column of texts, each chunk of which keeps what lends it."""
     if is_fixed(column):
         packed = fixed_packed(column)
-        return Buffers(iter([packed]), packed.rows)
-    if hasattr(column, "__arrow_c_array__"):
-        (_, metadata), parts = _asked(_fast.arrow_array, *column.__arrow_c_array__())
-        return Buffers(iter([_packed(parts)]), parts[3], metadata)
-    stream, (_, metadata) = _asked(_fast.arrow_stream, column.__arrow_c_stream__())
-    return Buffers(_chunks(stream), None, metadata)
+        return Buffers(iter([Chunk(packed)]), packed.rows)
+    (indexed, metadata), parts, only = parts_of(column, False)
+    rows = None if only is None else _chunk(only).rows
+    return Buffers(map(_chunk, parts), rows, metadata, bool(indexed))
 
 
 def rows_of(column: Any) -> List[Any]:
@@ -84,7 +94,7 @@ def rows_of(column: Any) -> List[Any]:
     return rows_in(taken(column))
 
 
-def _pairs(metadata: bytes) -> Dict[str, str]:
+def pairs_of(metadata: bytes) -> Dict[str, str]:
     """The metadata of a type, such as `ARROW:extension:name`."""
     found, at = [], 4
     for _ in range(2 * struct.unpack_from("=i", metadata)[0] if metadata else 0):
@@ -100,29 +110,44 @@ def metadata_of(pairs: Dict[str, str]) -> bytes:
     return struct.pack("=i", len(pairs)) + b"".join(struct.pack("=i", len(word)) + word for word in words)
 
 
-def _checked(data: Any, offsets: Any, statuses: Any) -> Texts:
+def _copy(values: Any, kind: str, what: str) -> Any:
+    copy = numpy.array(values) if isinstance(values, numpy.ndarray) else None
+    if copy is None or copy.dtype != kind or copy.ndim != 1:
+        raise TypeError("%s is an array of %s in one dimension" % (what, kind))
+    return copy
+
+
+def _checked(data: Any, offsets: Any, statuses: Any, indices: Any) -> Texts:
     """Copies of buffers that somebody made, each of its type, and in order. A row that isn't UTF-8 has status 20."""
-    held = []
-    for values, kind, what in (
-        (data, "uint8", "data"),
-        (offsets, "int64", "offsets"),
-        (statuses, "uint32", "statuses"),
-    ):
-        copy = numpy.array(values) if isinstance(values, numpy.ndarray) else None
-        if copy is None or copy.dtype != kind or copy.ndim != 1:
-            raise TypeError("%s is an array of %s in one dimension" % (what, kind))
-        held.append(copy)
-    data, offsets, statuses = held
-    if len(offsets) != len(statuses) + 1:
+    data, offsets = _copy(data, "uint8", "data"), _copy(offsets, "int64", "offsets")
+    statuses = _copy(statuses, "uint32", "statuses")
+    if indices is None and len(offsets) != len(statuses) + 1:
         raise ValueError("there is one offset more than statuses, and not %d of %d" % (len(offsets), len(statuses)))
-    if offsets[0] < 0 or offsets[-1] > len(data) or (offsets[1:] < offsets[:-1]).any():
+    if not len(offsets) or offsets[0] < 0 or offsets[-1] > len(data) or (offsets[1:] < offsets[:-1]).any():
         raise ValueError("the offsets are 0 to %d, each not below the one before it" % len(data))
+    if indices is not None:
+        indices = _copy(indices, "int32", "indices")
+        if len(indices) != len(statuses):
+            raise ValueError("there is an index for each status, and not %d of %d" % (len(indices), len(statuses)))
+        if ((indices < 0) | (indices >= len(offsets) - 1))[statuses == 0].any():
+            raise ValueError("the indices of rows without a status are 0 to %d" % (len(offsets) - 2))
+        indices[statuses != 0] = 0
     if (data > 127).any():
-        text = data.tobytes()
-        for row, (status, start, end) in enumerate(bounds(Texts(data, offsets, statuses))):
-            if not status and not isinstance(shown_text(text[start:end]), str):
-                statuses[row] = NOT_UTF8
-    return Texts(data, offsets, statuses)
+        text, ends = data.tobytes(), offsets.tolist()
+        its = [shown_text(text[start:end]) for start, end in zip(ends, ends[1:])]
+        wrong = [i for i, it in enumerate(its) if not isinstance(it, str)]
+        has = numpy.arange(len(statuses)) if indices is None else indices
+        statuses[(statuses == 0) & numpy.isin(has, wrong)] = NOT_UTF8
+    return Texts(data, offsets, statuses, indices)
+
+
+def _tree(metadata: bytes, rows: int, nulls: int, buffers: Any, known: Any) -> Tuple[Any, ...]:
+    """A column as wkt._fast lends it: of large_utf8, or a dictionary of such texts that are known."""
+    if known is None:
+        return ("U", "", metadata, _NULLABLE, rows, nulls, buffers, ())
+    count = max(len(known[0]) - 1, 0) if known else 0
+    texts = ("U", "", b"", 0, count, 0, (None, *known) if known else (), ())
+    return ("i", "", metadata, _NULLABLE, rows, nulls, buffers, (), texts)
 
 
 class ArrowTexts(Sequence):  # type: ignore[type-arg]
@@ -132,12 +157,16 @@ class ArrowTexts(Sequence):  # type: ignore[type-arg]
     `data`, `offsets` and `statuses` are NumPy arrays that can't be written: the bytes of all texts, where each row's
     begin, with the end of the last, and the status of each row, which is 0 unless the row is null (28: it was null
     before; else why the text of the row is refused). `metadata` is that of its type, such as `ARROW:extension:name`.
+    `indices` is None, or an array of int32: then the column is a dictionary, each of whose texts is there once, and row
+    i has the text `indices[i]`.
     """
 
-    def __init__(self, data: Any, offsets: Any, statuses: Any, metadata: Optional[Dict[str, str]] = None) -> None:
+    def __init__(
+        self, data: Any, offsets: Any, statuses: Any, metadata: Optional[Dict[str, str]] = None, indices: Any = None
+    ) -> None:
         if _fast is None or numpy is None:
             raise ImportError(LACKING)
-        self._set(_checked(data, offsets, statuses), metadata_of(metadata) if metadata else b"")
+        self._set(_checked(data, offsets, statuses, indices), metadata_of(metadata) if metadata else b"")
 
     @classmethod
     def _of(cls, texts: Texts, metadata: bytes) -> "ArrowTexts":
@@ -152,11 +181,13 @@ class ArrowTexts(Sequence):  # type: ignore[type-arg]
                 values.flags.writeable = False
                 values = values.base
         # A view of what can't be written can't be made writable again.
-        self._texts, self._metadata = Texts(*(values[:] for values in texts)), metadata
+        self._texts = Texts(*(values if values is None else values[:] for values in texts))
+        self._metadata = metadata
 
     def __reduce__(self) -> Tuple[Any, ...]:
         """Copies, and those of pickle, are made anew: checked, and as little writable."""
-        return type(self), tuple(self._texts), {"_metadata": self._metadata}
+        data, offsets, statuses, indices = self._texts
+        return type(self), (data, offsets, statuses, None, indices), {"_metadata": self._metadata}
 
     @property
     def data(self) -> Any:
@@ -171,8 +202,12 @@ class ArrowTexts(Sequence):  # type: ignore[type-arg]
         return self._texts.statuses
 
     @property
+    def indices(self) -> Any:
+        return self._texts.indices
+
+    @property
     def metadata(self) -> Dict[str, str]:
-        return _pairs(self._metadata)
+        return pairs_of(self._metadata)
 
     def __len__(self) -> int:
         return len(self.statuses)
@@ -182,12 +217,16 @@ class ArrowTexts(Sequence):  # type: ignore[type-arg]
             start, stop, step = index.indices(len(self))
             if step != 1:
                 return self.to_pylist()[index]
-            ends = self.offsets[start : max(start, stop) + 1]
-            texts = Texts(self.data[ends[0] : ends[-1]], ends - ends[0], self.statuses[start : max(start, stop)])
+            data, offsets, statuses, indices = self._texts
+            if indices is not None:
+                texts = Texts(data, offsets, statuses[start:stop], indices[start:stop])
+                return ArrowTexts._of(texts, self._metadata)
+            ends = offsets[start : max(start, stop) + 1]
+            texts = Texts(data[ends[0] : ends[-1]], ends - ends[0], statuses[start : max(start, stop)])
             return ArrowTexts._of(texts, self._metadata)
         if self.statuses[index]:
             return None
-        index = range(len(self))[index]
+        index = range(len(self))[index] if self.indices is None else self.indices[index]
         return self.data[self.offsets[index] : self.offsets[index + 1]].tobytes().decode("utf-8")
 
     def __repr__(self) -> str:
@@ -202,17 +241,25 @@ class ArrowTexts(Sequence):  # type: ignore[type-arg]
 
     def to_pylist(self) -> List[Optional[str]]:
         """The texts as a list of str and None."""
-        text = self.data.tobytes()
-        return [None if status else text[start:end].decode("utf-8") for status, start, end in bounds(self._texts)]
+        data, offsets, statuses, indices = self._texts
+        text, codes = data.tobytes(), statuses if indices is None else offsets[1:] * 0
+        texts = [
+            None if status else text[start:end].decode("utf-8", "replace")
+            for status, start, end in bounds(Texts(data, offsets, codes))
+        ]
+        if indices is None:
+            return texts
+        return [None if status else texts[i] for status, i in zip(statuses.tolist(), indices.tolist())]
 
     def _nulls(self) -> int:
         return int(numpy.count_nonzero(self._texts.statuses))
 
     def _tree(self) -> Tuple[Any, ...]:
         """The column as wkt._fast lends it: what its buffers have, and not what a subclass says."""
-        data, offsets, statuses = self._texts
-        bits = numpy.packbits(statuses == 0, bitorder="little")
-        return ("U", "", self._metadata, _NULLABLE, len(statuses), self._nulls(), (bits, offsets, data), ())
+        data, offsets, statuses, indices = self._texts
+        bits, rows = numpy.packbits(statuses == 0, bitorder="little"), len(statuses)
+        buffers = (bits, offsets, data) if indices is None else (bits, indices)
+        return _tree(self._metadata, rows, self._nulls(), buffers, None if indices is None else (offsets, data))
 
     def __arrow_c_schema__(self) -> Any:
         return _fast.export_schema(self._tree())
@@ -233,7 +280,7 @@ class Batches:
     """
 
     def __init__(self, held: Buffers, places: int, invalid: str, progress: Progress) -> None:
-        self._metadata = held.metadata
+        self._metadata, self._indexed = held.metadata, held.indexed
         self._answers = answered(held, places, invalid, progress)
 
     def __iter__(self) -> "Batches":
@@ -243,7 +290,7 @@ class Batches:
         return ArrowTexts._of(next(self._answers), self._metadata)
 
     def _type(self) -> Tuple[Any, ...]:
-        return ("U", "", self._metadata, _NULLABLE, 0, 0, (), ())
+        return _tree(self._metadata, 0, 0, (), () if self._indexed else None)
 
     def __arrow_c_schema__(self) -> Any:
         return _fast.export_schema(self._type())
@@ -255,7 +302,7 @@ class Batches:
 def canonical(column: Any, places: int, invalid: str, progress: Progress) -> Any:
     """The canonical texts of an Arrow column as another, or of an array of bytes as another."""
     held, fixed = taken(column), is_fixed(column)
-    texts = joined(list(answered(held, places, invalid, progress, fixed)))
+    texts = joined(list(answered(held, places, invalid, progress, fixed)), held.indexed)
     return fixed_array(texts, column.shape) if fixed else ArrowTexts._of(texts, held.metadata)
 
 

@@ -1,5 +1,5 @@
 """Columns as buffers, with no object for a row: those that Arrow lends, and NumPy's arrays of bytes. It needs NumPy."""
-from typing import Any, Callable, Iterator, List, NamedTuple, Optional, Tuple
+from typing import Any, Callable, Dict, Iterator, List, NamedTuple, Optional, Tuple
 
 from ._names import NOT_UTF8, NULL
 from ._native import calls
@@ -9,19 +9,38 @@ from ._values import array_of, numpy
 
 
 class Texts(NamedTuple):
-    """Answers as buffers: the bytes, where each row begins, with the end of the last, and a status of each row."""
+    """Answers as buffers: the bytes, where each text begins, with the end of the last, and a status of each row.
+
+    indices: which text each row has, where some have the same; 0 of a row without one.
+    """
 
     data: Any
     offsets: Any
     statuses: Any
+    indices: Any = None
+
+
+class Chunk(NamedTuple):
+    """A part of a column. indices: which text each row has, and -1 of a null one; None where each has its own."""
+
+    texts: Packed
+    indices: Any = None
+
+    @property
+    def rows(self) -> int:
+        return self.texts.rows if self.indices is None else len(self.indices)
 
 
 class Buffers(NamedTuple):
-    """A column as its chunks. rows: how many they have; None: only the end tells. metadata: that of Arrow's type."""
+    """A column as its chunks. rows: how many they have; None: only the end tells. metadata: that of Arrow's type.
 
-    chunks: Iterator[Packed]
+    indexed: whether the chunks have indices.
+    """
+
+    chunks: Iterator[Chunk]
     rows: Optional[int]
     metadata: bytes = b""
+    indexed: bool = False
 
 
 def is_fixed(values: Any) -> bool:
@@ -50,23 +69,26 @@ def fixed_array(texts: Texts, shape: Any) -> Any:
     return made.view("S%d" % width).reshape(shape)
 
 
-def whole(held: Buffers) -> Packed:
+def whole(held: Buffers) -> Chunk:
     """All rows as one chunk."""
     chunks = list(held.chunks)
     if len(chunks) == 1:
         return chunks[0]
-    valid = []
-    for chunk in chunks:
+    valid, indices, before = [numpy.empty(0, numpy.uint8)], [numpy.empty(0, numpy.int32)], 0
+    for texts, chosen in chunks:
         bits = (
-            numpy.unpackbits(chunk.bits, bitorder="little")[: chunk.rows]
-            if len(chunk.bits)
-            else numpy.ones(chunk.rows, numpy.uint8)
+            numpy.unpackbits(texts.bits, bitorder="little")[: texts.rows]
+            if len(texts.bits)
+            else numpy.ones(texts.rows, numpy.uint8)
         )
         valid.append(bits)
-    data = numpy.concatenate([numpy.empty(0, numpy.uint8), *(chunk.data for chunk in chunks)])
-    all_valid = numpy.concatenate([numpy.empty(0, numpy.uint8), *valid])
-    ends = _ends([chunk.offsets for chunk in chunks])
-    return Packed(data, ends, numpy.packbits(all_valid, bitorder="little"), len(all_valid))
+        if chosen is not None:
+            indices.append(numpy.where(chosen < 0, -1, chosen.astype(numpy.int64) + before))
+        before += texts.rows
+    data = numpy.concatenate([numpy.empty(0, numpy.uint8), *(chunk.texts.data for chunk in chunks)])
+    ends, all_valid = _ends([chunk.texts.offsets for chunk in chunks]), numpy.concatenate(valid)
+    packed = Packed(data, ends, numpy.packbits(all_valid, bitorder="little"), len(all_valid))
+    return Chunk(packed, numpy.concatenate(indices) if held.indexed else None)
 
 
 def _ends(offsets: List[Any]) -> Any:
@@ -113,13 +135,15 @@ def kept(held: Packed, texts: Texts, bytes_too: bool) -> Texts:
     return Texts(numpy.concatenate([*parts, texts.data[done:]]), ends, statuses)
 
 
-def raise_first(held: Packed, texts: Texts, places: int, first: int) -> None:
+def raise_first(chunk: Chunk, texts: Texts, places: int, first: int) -> None:
     """Raises the error of the first refused row of a chunk that begins at row `first`."""
     from ._explain import refusal
 
-    for row in refused(texts)[:1].tolist():
-        text = held.data[held.offsets[row] : held.offsets[row + 1]].tobytes()
-        raise refusal(int(texts.statuses[row]), shown_text(text), places, first + row)
+    held = chunk.texts
+    for at in refused(texts)[:1].tolist():  # texts are in the order of the first row that has each
+        text = held.data[held.offsets[at] : held.offsets[at + 1]].tobytes()
+        row = at if chunk.indices is None else int(numpy.argmax(chunk.indices == at))
+        raise refusal(int(texts.statuses[at]), shown_text(text), places, first + row)
 
 
 def shown_text(text: bytes) -> Any:
@@ -135,43 +159,64 @@ def _from(report: Callable[[int], None], first: int) -> Callable[[int], None]:
 
 
 def answered(held: Buffers, places: int, invalid: str, progress: Progress, bytes_too: bool = False) -> Iterator[Texts]:
-    """The canonical texts of each chunk, once they are asked for."""
+    """The canonical texts of each chunk, once they are asked for: each text that rows share is answered once."""
     first = 0
     with shown(progress, held.rows) as report:
         for chunk in held.chunks:
-            counted = None if report is None else _from(report, first)
-            texts = canonical_chunk(chunk, places, counted)
+            counted = None if report is None or held.indexed else _from(report, first)
+            texts = canonical_chunk(chunk.texts, places, counted)
             if invalid == "raise":
                 raise_first(chunk, texts, places, first)
             elif invalid == "keep":
-                texts = kept(chunk, texts, bytes_too)
+                texts = kept(chunk.texts, texts, bytes_too)
             first += chunk.rows
-            yield texts
+            if held.indexed and report is not None:
+                report(first)
+            yield texts if chunk.indices is None else distinct(texts, chunk.indices)
 
 
-def joined(parts: List[Texts]) -> Texts:
+def distinct(texts: Texts, indices: Any) -> Texts:
+    """Rows that have some of the texts, or none where the index is -1: each text is there once, and none is refused."""
+    known: Dict[bytes, int] = {}
+    data, at = texts.data.tobytes(), numpy.full(len(texts.statuses) + 1, -1)
+    for i, (status, start, end) in enumerate(bounds(texts)):
+        if not status:
+            at[i] = known.setdefault(data[start:end], len(known))
+    statuses = numpy.append(texts.statuses, numpy.uint32(NULL))[indices]
+    ends = numpy.concatenate([[0], numpy.cumsum([len(text) for text in known])]).astype(numpy.int64)
+    return Texts(_bytes(b"".join(known)), ends, statuses, numpy.maximum(at[indices], 0).astype(numpy.int32))
+
+
+def joined(parts: List[Texts], indexed: bool = False) -> Texts:
     """The texts of chunks as one."""
     if len(parts) == 1:
         return parts[0]
     data = numpy.concatenate([numpy.empty(0, numpy.uint8), *(texts.data for texts in parts)])
     statuses = numpy.concatenate([numpy.empty(0, numpy.uint32), *(texts.statuses for texts in parts)])
-    return Texts(data, _ends([texts.offsets for texts in parts]), statuses)
+    ends = _ends([texts.offsets for texts in parts])
+    if not indexed:
+        return Texts(data, ends, statuses)
+    before = numpy.cumsum([0] + [len(texts.offsets) - 1 for texts in parts])
+    indices = numpy.concatenate([numpy.empty(0, int), *(texts.indices + at for texts, at in zip(parts, before))])
+    made = distinct(Texts(data, ends, numpy.zeros(len(ends) - 1, numpy.uint32)), numpy.where(statuses, -1, indices))
+    return made._replace(statuses=statuses)
 
 
 def rows_in(held: Buffers) -> List[Any]:
-    """The rows as str (bytes where one isn't UTF-8), and None of a null one."""
+    """The rows as str (bytes where one isn't UTF-8), and None of a null one. Rows of one text have one object."""
     rows: List[Any] = []
-    for chunk in held.chunks:
-        data, ends = chunk.data.tobytes(), chunk.offsets.tolist()
+    for packed, indices in held.chunks:
+        data, ends = packed.data.tobytes(), packed.offsets.tolist()
         texts: List[Any] = [shown_text(data[start:end]) for start, end in zip(ends, ends[1:])]
-        if len(chunk.bits):
-            nulls = numpy.flatnonzero(numpy.unpackbits(chunk.bits, bitorder="little")[: chunk.rows] == 0)
+        if len(packed.bits):
+            nulls = numpy.flatnonzero(numpy.unpackbits(packed.bits, bitorder="little")[: packed.rows] == 0)
             for row in nulls.tolist():
                 texts[row] = None
-        rows += texts
+        texts.append(None)
+        rows += texts[:-1] if indices is None else [texts[i] for i in indices.tolist()]
     return rows
 
 
 def bounds(texts: Texts) -> Iterator[Tuple[int, int, int]]:
-    """The status of each row, and where its text begins and ends."""
+    """The status of each text, and where it begins and ends."""
     return zip(texts.statuses.tolist(), texts.offsets.tolist(), texts.offsets[1:].tolist())
