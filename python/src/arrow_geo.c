@@ -92,11 +92,12 @@ static PyObject *list_offsets(const struct ArrowArray *array, int is_64, int64_t
     return made;
 }
 
-/* (bits, rows, doubles, offsets of each list), and of what has no coordinates (bits, rows, None, ()) */
+/* (bits, rows, doubles, offsets of each list); of lists of something else (bits, rows, None, ()) */
 PyObject *arrow_geo(const Type *type, const struct ArrowArray *array) {
     int lists = type->axes[0] ? type->lists : 0;
     int64_t first = 0, rows = array->length, all = rows;
     PyObject *bits, *offsets, *numbers = NULL;
+    if (!type->axes[0] && type->lists == 0) return Py_BuildValue("yLO()", "", 0LL, Py_None);
     if (type->nested && (array = arrow_column_in(array, &first)) == NULL) return NULL;
     if (!arrow_has(array, 1, 2, array->n_children, first, rows)) return NULL;
     if ((bits = arrow_bits(array, array->offset + first, rows)) == NULL) return NULL;

@@ -85,6 +85,8 @@ def taken(column: Any) -> Buffers:
         packed = fixed_packed(column)
         return Buffers(iter([Chunk(packed)]), packed.rows)
     (indexed, metadata), parts, only = parts_of(column, False)
+    if pairs_of(metadata).get("ARROW:extension:name") == "geoarrow.wkb":
+        raise TypeError("an Arrow column of geoarrow.wkb has no texts")
     rows = None if only is None else _chunk(only).rows
     return Buffers(map(_chunk, parts), rows, metadata, bool(indexed))
 

@@ -7,7 +7,7 @@ from ._native import _fast
 from ._values import numpy
 
 # The names of the lists of each kind, from the outermost on, as GeoArrow has them.
-_LISTS = {
+LISTS = {
     "point": (),
     "linestring": ("vertices",),
     "multipoint": ("points",),
@@ -38,7 +38,7 @@ class GeoArrow(NamedTuple):
     def _tree(self) -> Tuple[Any, ...]:
         """The array as wkt._fast lends it: lists of fixed lists of doubles. A ValueError unless they fit together."""
         extension, dimension, coordinates, lists, valid = self
-        names = _LISTS.get(extension.partition(".")[2])
+        names = LISTS.get(extension.partition(".")[2])
         coordinates = numpy.ascontiguousarray(coordinates, numpy.float64)
         if names is None or dimension not in DIMENSIONS or coordinates.shape[1:] != (len(dimension),):
             raise ValueError("%s of %s is no GeoArrow array" % (extension, dimension))

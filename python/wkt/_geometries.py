@@ -1,17 +1,22 @@
-"""Keys of geometries that are no texts: of Shapely 2, and so of GeoPandas; and geometries of arrays."""
+"""Keys of geometries that are no texts: of Shapely 2 (and GeoPandas) and of GeoArrow; and geometries of arrays."""
 import sys
-from typing import Any, Dict, List, Optional, Tuple
+from typing import Any, Dict, Iterator, List, Optional, Tuple
 
+from . import _arrow
 from ._arrays import ColumnArrays, from_arrays_column
+from ._buffers import Texts, joined
 from ._columns import check_invalid, is_series
 from ._doubles import decimals, scaled
-from ._errors import WktError, words_of
+from ._errors import WktError, printable, words_of
+from ._geoarrow import LISTS
 from ._names import COLLECTION, DIMENSIONS, KINDS, NULL
+from ._native import _fast
 from ._values import numpy, places_of
 
 BAD_NUMBER = 13  # WKT_BAD_NUMBER of include/wkt.h
 # Shapely's numbers of kinds. A LinearRing (2) and a GeometryCollection (7) have no arrays.
 _KINDS = {0: 0, 1: 1, 3: 2, 4: 3, 5: 4, 6: 5}
+_BLOCK = 100_000
 
 
 def _shapely() -> Any:
@@ -95,18 +100,100 @@ def texts_of(held: Dict[str, Any], places: int) -> Tuple[List[Optional[str]], Li
     return texts, statuses
 
 
-def keys(geometries: Any, places: int = 18, invalid: str = "raise") -> Any:
-    """The canonical texts of geometries of Shapely 2, from their coordinates: no text is written in between.
+def _geo_type(about: Any) -> Tuple[int, int, bytes]:
+    """The kind and the dimension of a column, as numbers, and the metadata of its texts. -1: it is of collections."""
+    lists, axes, metadata = about
+    words = _arrow.pairs_of(metadata)
+    name = words.get("ARROW:extension:name", "a column without a name of GeoArrow")
+    kind, axes = name.partition("geoarrow.")[2], axes.upper()
+    made = _arrow.metadata_of({**words, "ARROW:extension:name": "geoarrow.wkt"})
+    if kind == "geometrycollection" and lists == 1 and not axes:
+        return -1, 0, made
+    if kind not in LISTS or len(LISTS[kind]) != lists or axes not in DIMENSIONS:
+        raise TypeError(
+            "keys are of GeoArrow's points, lines and polygons (geoarrow.point and so on), and not of %s; canonical "
+            "takes texts" % printable(name)
+        )
+    return [it.lower() for it in KINDS].index(kind), DIMENSIONS.index(axes), made
 
-    geometries: a GeoSeries, an array or a list of geometries and None. What comes back is a Series with the index, the
-    name and, in `attrs`, the crs of a GeoSeries, and else a list; None where there is no geometry. A coordinate is the
-    shortest decimal that is the same double, as `repr` writes it. That is tested, and not proved.
+
+def _blocks(coordinates: Any, lists: Any, rows: int) -> Iterator[Tuple[Any, Any]]:
+    """The coordinates and the lists of some rows, and of the next ones: of about a hundred thousand coordinates."""
+    ends = numpy.arange(rows + 1)  # where the coordinates of each row begin
+    for offsets in lists:
+        ends = offsets[ends]
+    first = 0
+    while first < rows:
+        last = int(numpy.searchsorted(ends, ends[first] + _BLOCK, "right")) - 1
+        start, last = first, min(max(last, first + 1), first + _BLOCK, rows)
+        stop, cut = last, []
+        for offsets in lists:
+            cut.append(offsets[start : stop + 1] - offsets[start])
+            start, stop = offsets[start], offsets[stop]
+        yield coordinates[start:stop], tuple(cut)
+        first = last
+
+
+def _geo_texts(kind: int, dimension: int, parts: Any, places: int) -> Texts:
+    """The canonical texts of a chunk of GeoArrow."""
+    bits, rows, doubles, lists = parts
+    bits = numpy.unpackbits(numpy.frombuffer(bits, numpy.uint8), bitorder="little")[:rows]
+    valid = bits if len(bits) else numpy.ones(rows, numpy.uint8)
+    texts: List[Optional[str]] = [None] * rows if kind < 0 else []
+    statuses: List[int] = [COLLECTION] * rows if kind < 0 else []
+    if kind >= 0:
+        coordinates = numpy.frombuffer(doubles, numpy.float64).reshape(-1, len(DIMENSIONS[dimension]))
+        lists = [numpy.frombuffer(each, numpy.int64) for each in lists]
+        for block in _blocks(coordinates, lists, rows):
+            made, codes = texts_of(ragged(kind, dimension, *block), places)
+            texts += made
+            statuses += codes
+    held = [text if text and it else "" for text, it in zip(texts, valid.tolist())]
+    ends = numpy.cumsum([0, *map(len, held)])
+    codes = numpy.where(valid, numpy.array(statuses, numpy.uint32), numpy.uint32(NULL))
+    return Texts(numpy.frombuffer("".join(held).encode(), numpy.uint8), ends, codes)
+
+
+def _geo_keys(column: Any, places: int, invalid: str) -> Any:
+    """The canonical texts of a column of GeoArrow, as another of Arrow."""
+    if numpy is None or _fast is None:
+        raise TypeError(_arrow.LACKING)
+    about, chunks, _ = _arrow.parts_of(column, True)
+    kind, dimension, metadata = _geo_type(about)
+    made, first = [], 0
+    for parts in chunks:
+        texts = _geo_texts(kind, dimension, parts, places)
+        _raise_first(texts.statuses, invalid, first)
+        made.append(texts)
+        first += len(texts.statuses)
+    return _arrow.ArrowTexts._of(joined(made), metadata)
+
+
+def _raise_first(statuses: Any, invalid: str, first: int) -> None:
+    """Raises the error of the first row that is neither answered nor null, the first of which is `first`."""
+    wrong = numpy.flatnonzero((statuses != 0) & (statuses != NULL))
+    if invalid == "raise" and len(wrong):
+        status = int(statuses[wrong[0]])
+        raise WktError(status, words_of(status), first + int(wrong[0]))
+
+
+def keys(geometries: Any, places: int = 18, invalid: str = "raise") -> Any:
+    """The canonical texts of geometries, from their coordinates: no text is written in between.
+
+    geometries: a GeoSeries, an array or a list of geometries of Shapely 2 and None; or a column of GeoArrow, which has
+    `__arrow_c_array__` or `__arrow_c_stream__`: of points, lines or polygons of one kind, with coordinates side by side
+    or in a column for each axis. What comes back is a Series with the index, the name and, in `attrs`, the crs of a
+    GeoSeries; of GeoArrow `ArrowTexts`, with its metadata; and else a list; None where there is no geometry.
+    A coordinate is the shortest decimal that is the same double, as `repr` writes it. That is tested, and not proved. A
+    point whose numbers are all NaN is EMPTY.
     places: a coordinate that has more is refused. invalid: "raise" or "null".
     WktError: a coordinate has too many places, or is NaN or infinite (13), or the geometry is a collection (24): it
-    names the row. TypeError: there is no Shapely 2.
+    names the row. TypeError: there is no Shapely 2, or the column is of something else. ValueError: it is wrong.
     """
     places = places_of(places)
     check_invalid(invalid, ("raise", "null"))
+    if _arrow.lends(geometries) and not is_series(geometries):
+        return _geo_keys(geometries, places, invalid)
     shapely, series = _shapely(), geometries if is_series(geometries) else None
     held = numpy.array(geometries if series is None else list(series), object).reshape(-1)
     kinds = shapely.get_type_id(held)
@@ -123,9 +210,7 @@ def keys(geometries: Any, places: int = 18, invalid: str = "raise") -> Any:
             _, coordinates, lists = shapely.to_ragged_array(held[rows], include_z=z, **more)
             made, codes = texts_of(ragged(kind, dimension, coordinates, lists[::-1]), places)
             texts[rows], statuses[rows] = numpy.array(made, object), codes
-    wrong = numpy.flatnonzero((statuses != 0) & (statuses != NULL))
-    if invalid == "raise" and len(wrong):
-        raise WktError(int(statuses[wrong[0]]), words_of(int(statuses[wrong[0]])), int(wrong[0]))
+    _raise_first(statuses, invalid, 0)
     if series is None:
         return texts.tolist()
     answer = sys.modules["pandas"].Series(texts, index=series.index, name=series.name, dtype=object)
