@@ -15,6 +15,7 @@ typedef struct {
     __typeof__(&wkt_hint) hint;
     __typeof__(&wkt_arrays) arrays;
     __typeof__(&wkt_from_arrays) from_arrays;
+    __typeof__(&wkt_lines) lines;
     PyObject *places_of;     /* (places, whole) -> an int, or an error */
     PyObject *text_of;       /* (row, number) -> bytes, None of a null row, or a TypeError */
     PyObject *refuse;        /* (status, text, places, number): raises */
@@ -75,12 +76,15 @@ wkt_status status_of(State *state, const Cell *cell, uint32_t places);
 wkt_status compared(State *state, const Cell *one, const Cell *other, uint32_t places, uint32_t *same);
 /* From where on other threads run during a call for one text. */
 enum { LONG_TEXT = 4096, LONG_ROW = 512 };
+/* What a block has, between which signals are handled. */
+enum { MOST_ROWS = 1 << 15, MOST_BYTES = 1 << 20 };
 
 PyObject *fast_canonical(PyObject *self, PyObject *const *args, Py_ssize_t count);
 PyObject *fast_reads(PyObject *self, PyObject *const *args, Py_ssize_t count);
 PyObject *fast_same(PyObject *self, PyObject *const *args, Py_ssize_t count);
 PyObject *fast_infer(PyObject *self, PyObject *text);
 PyObject *fast_explain(PyObject *self, PyObject *const *args, Py_ssize_t count);
+PyObject *fast_lines(PyObject *self, PyObject *const *args, Py_ssize_t count);
 PyObject *fast_hint(PyObject *self, PyObject *const *args, Py_ssize_t count);
 PyObject *fast_canonical_rows(PyObject *self, PyObject *const *args, Py_ssize_t count);
 PyObject *fast_statuses(PyObject *self, PyObject *const *args, Py_ssize_t count);

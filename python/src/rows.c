@@ -2,8 +2,6 @@
  * what is neither str nor bytes. */
 #include "fast.h"
 
-enum { MOST_ROWS = 1 << 15, MOST_BYTES = 1 << 20 };
-
 int has_count(Py_ssize_t count, Py_ssize_t wanted) {
     if (count != wanted) PyErr_Format(PyExc_TypeError, "%zd arguments, and not %zd", wanted, count);
     return count == wanted;

@@ -149,6 +149,56 @@ PyObject *fast_hint(PyObject *self, PyObject *const *args, Py_ssize_t count) {
     return Py_BuildValue("II", status, hint);
 }
 
+/* The answers to some lines, behind those before them. */
+static wkt_status lines_answer(State *state, const char *text, Py_ssize_t length, uint32_t places, Room *out) {
+    size_t needed, likely = (size_t)length + (size_t)length / 8 + 64;
+    for (;;) {
+        wkt_status status;
+        if (room_holds(out, likely) < 0) return WKT_NO_MEMORY;
+        status = state->lines((const uint8_t *)text, (size_t)length, places, (uint8_t *)out->items + out->used,
+                              out->room - out->used, &needed);
+        if (status == WKT_OK) out->used += needed;
+        if (status != WKT_TOO_SMALL) return status;
+        likely = needed;
+    }
+}
+
+/* How long the next whole lines are: about a block of them. */
+static Py_ssize_t next_lines(const Cell *text, Py_ssize_t done) {
+    Py_ssize_t left = text->length - done;
+    const char *start = text->text + done, *end = NULL;
+    if (left > MOST_BYTES) end = memchr(start + MOST_BYTES, '\n', (size_t)(left - MOST_BYTES));
+    return end == NULL ? left : end + 1 - start;
+}
+
+/* (text, places) -> bytes: the answer to each line */
+PyObject *fast_lines(PyObject *self, PyObject *const *args, Py_ssize_t count) {
+    State *state = state_of(self);
+    Room out = {NULL, 1, 0, 0};
+    Cell text;
+    uint32_t places;
+    wkt_status status = WKT_OK;
+    PyObject *held, *made = NULL;
+    int stopped = 0;
+    if (!has_count(count, 2) || places_in(state, args[1], Py_False, &places) < 0) return NULL;
+    if (text_in(state, args[0], &text, &held) < 0) return NULL;
+    for (Py_ssize_t done = 0; status == WKT_OK && !stopped && done < text.length;) {
+        Py_ssize_t length = next_lines(&text, done);
+        Py_BEGIN_ALLOW_THREADS
+        status = lines_answer(state, text.text + done, length, places, &out);
+        Py_END_ALLOW_THREADS
+        done += length;
+        stopped = PyErr_CheckSignals() < 0;
+    }
+    if (status != WKT_OK)
+        refused(state, status, args[0], places, -1);
+    else if (!stopped)
+        made = PyBytes_FromStringAndSize(out.items, (Py_ssize_t)out.used);
+    free(out.items);
+    Py_XDECREF(held);
+    return made;
+}
+
 /* The statuses of a block, once another thread may run. Returns WKT_NO_MEMORY where one is that. */
 static wkt_status block_statuses(const Walk *walk, uint32_t places) {
     for (Py_ssize_t i = 0; i < walk->last - walk->first; i++) {

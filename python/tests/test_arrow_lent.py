@@ -1,12 +1,16 @@
 """Columns that are lent by Arrow's C interfaces: what a consumer takes, when that ends, and memory that runs out."""
 import copy
 import pickle
+import struct
 import subprocess
 import sys
 import unittest
 
 import wkt
-from arrow_columns import ANSWERS, FORMATS, HELD, NAMED, TEXTS, Arrow, Lent, Streamed, arrow_peer, made, refuse, rows_in
+from arrow_columns import (
+    ANSWERS, FORMATS, HELD, NAMED, TEXTS, Arrow, Lent, Node, Streamed, Told, arrow_peer, made, numbers, refuse, rows_in,
+    texts_of,
+)  # fmt: skip
 
 if arrow_peer is not None:
     import numpy
@@ -220,7 +224,16 @@ class Memory(Arrow):
             (_, _), (data, offsets, bits, count, indices) = self.each(
                 _fast.arrow_array, Lent(held, format).__arrow_c_array__
             )
+            count = count if indices is None else len(indices) // 4
             self.assertEqual((bytes(data), count), (b"".join(row or b"" for row in held), len(held)))
+        points = Node("+w:2", 1, (None,), (numbers("g", [1, 2], name="xy"),))
+        line = Node("+l", 1, (None, struct.pack("=2i", 0, 1)), (points,))
+        chosen = Node("+r", 2, (), (numbers("i", [2]), numbers("i", [0], dictionary=texts_of([b"x"]))))
+        _, made = self.each(lambda *two: _fast.arrow_array(*two, True), Told(line).__arrow_c_array__)
+        self.assertEqual(made, (b"", 1, struct.pack("=2d", 1, 2), (struct.pack("=2q", 0, 1),)))
+        _, made = self.each(_fast.arrow_array, Told(chosen).__arrow_c_array__)
+        self.assertEqual((bytes(made[0]), made[3], made[4]), (b"x", 1, bytes(8)))
+        Told.held.clear()  # of those that nobody took, since there was no memory
 
     def test_streams(self):
         def taken(capsule):
@@ -244,6 +257,7 @@ class Memory(Arrow):
             (lambda: _fast.reads(long, 18, True), True),
             (lambda: _fast.infer(long), ("MultiPoint", "XY")),
             (lambda: _fast.explain(b"POINT(1", 18)[0], 0),
+            (lambda: _fast.lines(b"point(1 2.0)\nx", 18), b"POINT(1 2)\nrefused\n"),
             (lambda: len(_fast.arrays(long, 6, True)), 5),
             (lambda: _fast.canonical_rows(rows, 18, 1, None, None), wanted[0]),
             (lambda: list(memoryview(_fast.statuses(rows, 18, None)).cast("B").cast("I")), wanted[1]),

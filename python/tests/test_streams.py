@@ -41,6 +41,12 @@ class Streams(unittest.TestCase):
                 self.assertEqual(sink.getvalue(), wkt.lines(data))
                 self.assertEqual(lines, sink.getvalue().count(b"\n"))
 
+    def test_blocks(self):
+        """More than a megabyte, in it a line that is longer than that; the last ends without a line feed."""
+        long = b"LINESTRING(%s)\n" % b",".join([b"1 2"] * 400_000)
+        data = b"point(1 2.50)\n" * 100_000 + long + b"x\n" * 600_000 + b"POINT(3 4)"
+        self.assertEqual(wkt.lines(data), b"POINT(1 2.5)\n" * 100_000 + long + b"refused\n" * 600_000 + b"POINT(3 4)\n")
+
     def test_places(self):
         sink = io.BytesIO()
         wkt.stream(io.BytesIO(b"point(1 2.5)\n"), sink, places=0)

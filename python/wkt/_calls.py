@@ -1,7 +1,7 @@
 """The functions on texts."""
 from typing import Any, List, Optional, Tuple
 
-from . import _arrow, _library
+from . import _arrow
 from ._columns import (
     INVALID, canonical_like, canonical_rows, check_invalid, column_of, is_column, is_series, like, or_null, refused_of,
     series_like, statuses_of,
@@ -11,8 +11,7 @@ from ._explain import Explanation, explained
 from ._names import HEADER_MESSAGES, MESSAGES
 from ._native import bind, calls
 from ._progress import Progress, shown
-from ._room import Room
-from ._values import encoded, is_null, numpy, places_of
+from ._values import is_null, numpy, places_of
 
 _canonical, _same, _infer, _reads = calls.canonical, calls.same, calls.infer, calls.reads
 
@@ -177,13 +176,7 @@ def lines(data: Any, places: int = 18) -> Any:
     texts holds a line feed, a list of the answers, and of a Series of pandas a Series, with None of a null row. places:
     as of `canonical`. ValueError: a text of a column holds a line feed.
     """
-    places = places_of(places)
     if not is_column(data):
-        held = encoded(data)
-
-        def call(out: Any, length: int, needed: Any) -> int:
-            status: int = _library.wkt_lines(held, len(held), places, out, length, needed)
-            return status
-
-        return Room(len(held) + len(held) // 4 + 64).bytes(call)
+        return calls.lines(data, places)
+    places = places_of(places)
     return series_like(data, calls.lines_rows(column_of(data), places))

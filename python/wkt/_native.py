@@ -14,7 +14,7 @@ except ImportError:
     pass
 calls: Any = _slow if _fast is None else _fast
 
-BOUND = ("canonical", "same", "infer", "explain", "hint", "arrays", "from_arrays")
+BOUND = ("canonical", "same", "infer", "explain", "hint", "arrays", "from_arrays", "lines")
 if _fast is not None:
     for _name in BOUND:
         _function = getattr(_library, "wkt_" + _name)

@@ -104,6 +104,16 @@ def hint(data: bytes, places: int) -> Tuple[int, int]:
     return _library.wkt_hint(data, len(data), places, ctypes.byref(found)), found.value
 
 
+def lines(text: Any, places: Any) -> bytes:
+    data, places = _encoded(text), _bound["places_of"](places, False)
+
+    def call(out: Any, length: int, needed: Any) -> int:
+        status: int = _library.wkt_lines(data, len(data), places, out, length, needed)
+        return status
+
+    return Room(len(data) + len(data) // 4 + 64).bytes(call)
+
+
 def _bits(rows: Sequence[Any]) -> bytes:
     """A bit for each row, from the lowest on, which is 0 where the row is null."""
     bits = bytearray((len(rows) + 7) // 8)

@@ -3,9 +3,8 @@ import errno
 import io
 from typing import Any, Callable, Iterator, List, Optional
 
-from . import _library
+from ._native import calls
 from ._progress import Progress, shown
-from ._room import Room
 from ._values import encoded, integer, places_of
 
 PIECE = 1 << 20
@@ -70,16 +69,9 @@ def stream(source: Any, sink: Any, places: int = 18, progress: Progress = None) 
     block takes no more.
     """
     places = places_of(places)
-    count, room = 0, Room(1)
+    count = 0
     with shown(progress, None, " bytes") as report:
         for data in _whole_lines(source, report):
-            room.holds(len(data) + len(data) // 8 + 64)
-
-            def call(out: Any, length: int, needed: Any) -> int:
-                status: int = _library.wkt_lines(data, len(data), places, out, length, needed)
-                return status
-
-            length = room.call(call)
-            _write(sink, bytes(memoryview(room.out)[:length]))
+            _write(sink, calls.lines(data, places))
             count += data.count(b"\n") + (not data.endswith(b"\n"))
     return count
