@@ -180,7 +180,7 @@ class Given(Arrow):
             ("MULTIPOLYGON(((1 2,3 4,5 6,1 2)))", "+l",
              [("polygons", [0, 1, 1]), ("rings", [0, 1]), ("vertices", [0, 4])], [1, 2, 3, 4, 5, 6, 1, 2]),
         ]  # fmt: skip
-        for text, format, lists, numbers in cases:
+        for text, format, lists, wanted in cases:
             taken = arrow_peer.take(*wkt.to_arrays_column([text, None]).geoarrow().__arrow_c_array__())
             self.assertEqual((taken[0], taken[2], taken[3], taken[4], taken[5]), (format, 1, 2, 2, 1))
             self.assertEqual(taken[6][0], b"\1")
@@ -192,7 +192,7 @@ class Given(Arrow):
             ((format, name, _, _, length, _, buffers, _),) = taken[7]
             got = numpy.frombuffer(buffers[1]).tolist()
             self.assertEqual(
-                (format, name, got[: len(numbers)], length), ("g", "xy", numbers, len(numbers) + (0 if lists else 2))
+                (format, name, got[: len(wanted)], length), ("g", "xy", wanted, len(wanted) + (0 if lists else 2))
             )
         taken = arrow_peer.take(*wkt.to_arrays_column(["POINT ZM(1 2 3 4)"]).geoarrow().__arrow_c_array__())
         self.assertEqual((taken[0], taken[7][0][1]), ("+w:4", "xyzm"))
