@@ -8,7 +8,7 @@ import unittest
 
 import wkt
 from arrow_columns import (
-    ANSWERS, FORMATS, HELD, NAMED, TEXTS, Arrow, Lent, Node, Streamed, Told, arrow_peer, made, numbers, refuse, rows_in,
+    ANSWERS, FORMATS, HELD, NAMED, TEXTS, Arrow, Lent, Node, Streamed, arrow_peer, made, numbers, refuse, rows_in,
     texts_of,
 )  # fmt: skip
 
@@ -229,11 +229,15 @@ class Memory(Arrow):
         points = Node("+w:2", 1, (None,), (numbers("g", [1, 2], name="xy"),))
         line = Node("+l", 1, (None, struct.pack("=2i", 0, 1)), (points,))
         chosen = Node("+r", 2, (), (numbers("i", [2]), numbers("i", [0], dictionary=texts_of([b"x"]))))
-        _, made = self.each(lambda *two: _fast.arrow_array(*two, True), Told(line).__arrow_c_array__)
+        _, made = self.each(lambda *two: _fast.arrow_array(*two, True), lambda: _fast.export(self.tree(line)))
         self.assertEqual(made, (b"", 1, struct.pack("=2d", 1, 2), (struct.pack("=2q", 0, 1),)))
-        _, made = self.each(_fast.arrow_array, Told(chosen).__arrow_c_array__)
+        _, made = self.each(_fast.arrow_array, lambda: _fast.export(self.tree(chosen)))
         self.assertEqual((bytes(made[0]), made[3], made[4]), (b"x", 1, bytes(8)))
-        Told.held.clear()  # of those that nobody took, since there was no memory
+
+    def tree(self, node):
+        """A column as wkt._fast lends it, which releases it without a call of Python."""
+        columns, more = tuple(map(self.tree, node.columns)), [self.tree(node.dictionary)] if node.dictionary else []
+        return (node.format, node.name, b"", 2, node.length, node.nulls, node.buffers, columns, *more)
 
     def test_streams(self):
         def taken(capsule):
@@ -293,6 +297,8 @@ class Memory(Arrow):
         tree, points = column._tree(), wkt.to_arrays_column(["POLYGON((1 2,3 4,5 6,1 2))"]).geoarrow()._tree()
         self.assertEqual(rows_in(arrow_peer.take(*self.each(lambda: _fast.export(tree)))), TEXTS)
         self.assertEqual(arrow_peer.take(*self.each(lambda: _fast.export(points)))[0], "+l")
+        shared = wkt.ArrowTexts(column.data, column.offsets, column.statuses, NAMED, numpy.arange(7, dtype=numpy.int32))
+        self.assertEqual(arrow_peer.take(*self.each(lambda: _fast.export(shared._tree())))[0], "i")
         self.assertEqual(
             self.each(lambda: arrow_peer.drain(_fast.export_stream(tree, iter([tree, points])))), len(TEXTS) + 1
         )

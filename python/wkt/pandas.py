@@ -46,9 +46,35 @@ class Accessor:
         return to_arrays_column(self._values, places, progress, whole)
 
 
+KEY = "wkt.key"  # a column of ours, while frames are joined
+
+
 def _keys(frame: Any, column: Any, places: int, whole: bool) -> Any:
     """The key of each row, None where it has none."""
     return _calls.canonical(frame[column].astype(object), places, "null", whole=whole)
+
+
+def keyed(frame: Any, column: Any, side: str, places: int, whole: bool) -> Any:
+    """The frame with the key of each row in a column of ours.
+
+    Where it has none there is what is no key of any text, for each row another: pandas would pair nulls.
+    """
+    if KEY in frame.columns:
+        raise ValueError("a frame has the column %r, which is needed here" % KEY)
+    keys = _keys(frame, column, places, whole)
+    alone = pandas.Series(["-%s%d" % (side, i) for i in range(len(frame))], index=keys.index, dtype=object)
+    return frame.assign(**{KEY: keys.where(keys.notna(), alone)})
+
+
+def has_key(frame: Any) -> Any:
+    """Whether each row of such a frame has a key."""
+    return ~frame[KEY].str.startswith("-")
+
+
+def unkeyed(frame: Any, key: Optional[str]) -> Any:
+    """The frame without that column. key: the name of one that gets the keys."""
+    made = frame.drop(columns=KEY)
+    return made if key is None else made.assign(**{key: frame[KEY].where(has_key(frame), None)})
 
 
 def drop_duplicates(frame: Any, column: Any, places: int = 18, keep: Any = "first", whole: bool = True) -> Any:
@@ -79,19 +105,11 @@ def merge(
     of the columns with the texts; right_on is left_on unless it is given. key: the name of a column that gets the keys.
     more: what merge of pandas takes, such as suffixes. `attrs` are those of left.
     """
-    name = "wkt.key"  # a column of ours, while they are joined
-    sides = []
-    for side, frame, column in (("l", left, left_on), ("r", right, left_on if right_on is None else right_on)):
-        if name in frame.columns:
-            raise ValueError("a frame has the column %r, which is needed here" % name)
-        keys = _keys(frame, column, places, whole)
-        # What is no key of any text, for each row another: pandas would pair nulls with each other.
-        alone = pandas.Series(["-%s%d" % (side, i) for i in range(len(frame))], index=keys.index, dtype=object)
-        sides.append(frame.assign(**{name: keys.where(keys.notna(), alone)}))
-    made = sides[0].merge(sides[1], how=how, on=name, **more)
-    keys = made.pop(name)
-    if key is not None:
-        made[key] = keys.mask(keys.str.startswith("-"), None)
+    sides = [
+        keyed(frame, column, side, places, whole)
+        for side, frame, column in (("l", left, left_on), ("r", right, left_on if right_on is None else right_on))
+    ]
+    made = unkeyed(sides[0].merge(sides[1], how=how, on=KEY, **more), key)
     made.attrs.update(left.attrs)
     return made
 
