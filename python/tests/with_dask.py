@@ -3,7 +3,8 @@
 It starts a scheduler and three workers, as hosts of their own where network namespaces can be made (root, Linux,
 iproute2),
 and compares with one run: the bytes of all keys (a bag of a text file), the counts of a group-by (a dataframe), the
-rows that are refused, by their number; then a worker is killed in the middle, and the counts have to be the same.
+rows that are refused, by their number, and each row joined to the first one of its geometry (wkt.dask); then a worker
+is killed in the middle of that join, and the rows have to be the same.
 Status 0: all of it holds. The package has to be there for the workers as it is here: PYTHONPATH and WKT_LIB are handed
 on.
 """
@@ -24,6 +25,7 @@ import dask.bag
 import dask.dataframe
 import pandas
 import wkt
+import wkt.dask
 from dask.distributed import Client
 
 WORKERS, PARTITIONS = 3, 30
@@ -230,13 +232,25 @@ def compared(client, path, refused, folder):
         assert error.row in refused, error
         print("refused in a worker: %s" % error)
 
+    # Each row beside the first of its geometry, whose spelling may be another.
+    firsts = wkt.dask.drop_duplicates(frame, "geometry", split_out=WORKERS)
+    joined = wkt.dask.merge(frame, firsts, "geometry", key="key", suffixes=("", "_first"))
+    sums = joined.groupby("key").agg({"id": "count", "id_first": ["min", "max"]})
     start = time.monotonic()
-    answer, left = killed_in_the_middle(client, grouped)
-    answer = answer.sort_index()
-    took("the same, with a worker killed; %d are left" % left, start)
+    answer = sums.compute().sort_index()
+    took("deduplicated and joined, %d partitions" % joined.npartitions, start)
+    left = WORKERS
+    for what in ("the join", "the join with a worker killed"):
+        assert answer.index.tolist() == counts.index.tolist(), "%s: other keys" % what
+        assert answer["id", "count"].tolist() == counts.tolist(), "%s: other rows" % what
+        assert answer["id_first", "min"].tolist() == answer["id_first", "max"].tolist(), "%s: two firsts" % what
+        print("%s: the rows of one run" % what)
+        if left == WORKERS:
+            start = time.monotonic()
+            answer, left = killed_in_the_middle(client, sums)
+            answer = answer.sort_index()
+            took("the same, with a worker killed; %d are left" % left, start)
     assert left == WORKERS - 1, left
-    assert answer.index.tolist() == counts.index.tolist() and answer.tolist() == counts.tolist(), "rows were lost"
-    print("nothing was lost")
 
 
 def main():
