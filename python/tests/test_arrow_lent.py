@@ -297,8 +297,9 @@ class Memory(Arrow):
         tree, points = column._tree(), wkt.to_arrays_column(["POLYGON((1 2,3 4,5 6,1 2))"]).geoarrow()._tree()
         self.assertEqual(rows_in(arrow_peer.take(*self.each(lambda: _fast.export(tree)))), TEXTS)
         self.assertEqual(arrow_peer.take(*self.each(lambda: _fast.export(points)))[0], "+l")
-        shared = wkt.ArrowTexts(column.data, column.offsets, column.statuses, NAMED, numpy.arange(7, dtype=numpy.int32))
-        self.assertEqual(arrow_peer.take(*self.each(lambda: _fast.export(shared._tree())))[0], "i")
+        indices = numpy.arange(7, dtype=numpy.int32)
+        shared = wkt.ArrowTexts(column.data, column.offsets, column.statuses, NAMED, indices)._tree()
+        self.assertEqual(arrow_peer.take(*self.each(lambda: _fast.export(shared)))[0], "i")
         self.assertEqual(
             self.each(lambda: arrow_peer.drain(_fast.export_stream(tree, iter([tree, points])))), len(TEXTS) + 1
         )

@@ -1,10 +1,12 @@
 """Calls as a typed program makes them: mypy --strict takes this file, and finds the types that are asserted."""
 import io
-from typing import List, Optional, Tuple
+from typing import Any, List, Optional, Tuple
 
 from typing_extensions import assert_type
 
 import wkt
+import wkt.dask
+import wkt.pandas
 
 text: str = wkt.canonical("point ( 1 2 )", places=6)
 assert_type(wkt.canonical(b"point ( 1 2 )"), str)
@@ -29,6 +31,8 @@ arrays = wkt.to_arrays(text)
 assert_type(arrays, wkt.Arrays)
 assert_type(wkt.from_arrays(arrays), str)
 assert_type(wkt.from_arrays([arrays, None]), List[Optional[str]])
+assert_type(wkt.from_arrays(("Point", "XY", [1, 2], [0, 1], [0, 1])), str)
+assert_type(wkt.from_arrays([("Point", "XY", [1, 2], [0, 1], [0, 1])]), List[Optional[str]])
 column = wkt.to_arrays_column([text, None])
 assert_type(column, wkt.ColumnArrays)
 assert_type(column.row(-2), wkt.Arrays)
@@ -41,6 +45,14 @@ def of_arrow(texts: wkt.ArrowTexts) -> None:
     assert_type(next(batches)[0], Optional[str])
     assert_type(wkt.canonical(batches), wkt.ArrowTexts)
     assert_type(wkt.infer(texts), List[Optional[Tuple[str, str]]])
+    assert_type(texts.to_pylist(), List[Optional[str]])
+    assert_type(wkt.keys(column.geoarrow()), wkt.ArrowTexts)
+    assert_type(wkt.keys([None]), List[Optional[str]])
+
+
+def of_frames(frame: Any) -> None:
+    wkt.pandas.merge(frame, wkt.pandas.drop_duplicates(frame, "geometry"), "geometry", key="key", suffixes=("", "_2"))
+    wkt.dask.merge(frame, wkt.dask.drop_duplicates(frame, "geometry", split_out=2), "geometry", how="left")
 
 
 try:
