@@ -46,7 +46,7 @@ def of_arrow(texts: wkt.ArrowTexts) -> None:
     assert_type(wkt.canonical(batches), wkt.ArrowTexts)
     assert_type(wkt.infer(texts), List[Optional[Tuple[str, str]]])
     assert_type(texts.to_pylist(), List[Optional[str]])
-    assert_type(wkt.keys(column.geoarrow()), wkt.ArrowTexts)
+    assert_type(wkt.keys(texts), wkt.ArrowTexts)  # of whatever lends GeoArrow
     assert_type(wkt.keys([None]), List[Optional[str]])
 
 
