@@ -1,5 +1,6 @@
 """Whole texts and fronts, explanations, and what errors say."""
 import ctypes
+import importlib
 import io
 import os
 import pickle
@@ -210,6 +211,19 @@ class Words(unittest.TestCase):
         for name in wkt.__all__:
             if not name.startswith("__") and name.islower():
                 self.assertGreater(len(getattr(wkt, name).__doc__), 80, name)
+
+    def test_help(self):
+        """`help` says something of each public name, and of each method of each class."""
+        public = {name: getattr(wkt, name) for name in wkt.__all__}
+        for name, needs in (("pandas", "pandas"), ("dask", "dask.dataframe")):
+            if installed(needs) is not None:
+                public.update(vars(importlib.import_module("wkt." + name)))
+        for name, value in public.items():
+            if name.startswith("_") or not callable(value) or not value.__module__.startswith("wkt"):
+                continue
+            self.assertTrue(value.__doc__, name)
+            for part, its in vars(value).items() if isinstance(value, type) else ():
+                self.assertTrue(part.startswith("_") or its.__doc__, (name, part))
 
 
 class Later(unittest.TestCase):

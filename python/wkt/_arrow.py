@@ -193,22 +193,27 @@ class ArrowTexts(Sequence):  # type: ignore[type-arg]
 
     @property
     def data(self) -> Any:
+        """The bytes of all texts, as an array of uint8."""
         return self._texts.data
 
     @property
     def offsets(self) -> Any:
+        """Where each text begins in `data`, and the end of the last: int64."""
         return self._texts.offsets
 
     @property
     def statuses(self) -> Any:
+        """The status of each row, 0 unless it is null: uint32."""
         return self._texts.statuses
 
     @property
     def indices(self) -> Any:
+        """Which text each row of a dictionary has: int32; else None."""
         return self._texts.indices
 
     @property
     def metadata(self) -> Dict[str, str]:
+        """What the type of the column says, such as `ARROW:extension:name`."""
         return pairs_of(self._metadata)
 
     def __len__(self) -> int:

@@ -26,23 +26,29 @@ class Accessor:
         self._values = values
 
     def canonical(self, places: int = 18, invalid: str = "raise", progress: Any = None, whole: bool = True) -> Any:
+        """The canonical texts, as a Series or an Index: `wkt.canonical`."""
         return _calls.canonical(self._values, places, invalid, progress, whole)
 
     def same(
         self, other: Any, places: int = 18, invalid: str = "raise", progress: Any = None, whole: bool = True
     ) -> Any:
+        """Whether each row names the same geometry as a text, or as the row of another column: `wkt.same`."""
         return _calls.same(self._values, other, places, invalid, progress, whole)
 
     def reads(self, places: int = 18, progress: Any = None, whole: bool = True) -> Any:
+        """Whether each text is read: `wkt.reads`."""
         return _calls.reads(self._values, places, progress, whole)
 
     def explain(self, places: int = 18, progress: Any = None, whole: bool = True) -> Any:
+        """Where and why each text is refused: `wkt.explain`."""
         return _calls.explain(self._values, places, progress, whole)
 
     def infer(self, invalid: str = "raise") -> Any:
+        """The kind and the dimension of each header: `wkt.infer`."""
         return _calls.infer(self._values, invalid)
 
     def to_arrays_column(self, places: int = 6, progress: Any = None, whole: bool = True) -> Any:
+        """The flat arrays of all rows: `wkt.to_arrays_column`."""
         return to_arrays_column(self._values, places, progress, whole)
 
 
