@@ -33,6 +33,16 @@ def arrow_of(texts):
     return wkt.ArrowTexts(numpy.frombuffer(data, numpy.uint8), offsets, numpy.zeros(len(texts), numpy.uint32))
 
 
+def shared_by(rows):
+    """An Arrow column of so many rows, which are a dictionary of ten texts of 50 KB."""
+    import numpy
+    import wkt
+
+    few = arrow_of(["LINESTRING(%s)" % ",".join(["%d.0 1" % i] * 8000) for i in range(10)])
+    indices = numpy.arange(rows, dtype=numpy.int32) % 10
+    return wkt.ArrowTexts(few.data, few.offsets, numpy.zeros(rows, numpy.uint32), None, indices)
+
+
 def tasks():
     """Of each task its name, what is made before, and what is measured."""
     import wkt
@@ -65,6 +75,8 @@ def tasks():
         "canonical, array of objects": (objects_of, wkt.canonical),
         "canonical, Series": (series_of, wkt.canonical),
         "canonical, Arrow's buffers": (arrow_of, wkt.canonical),
+        "canonical, Arrow's dictionary": (lambda texts: shared_by(len(texts)), wkt.canonical),
+        "keys of GeoArrow": (lambda texts: arrays_of(texts).geoarrow(6), wkt.keys),
         "same, two lists": (lambda texts: (texts, spelled_otherwise(texts)), lambda two: wkt.same(*two)),
         "to arrays, list": (list, arrays_of),
         "to arrays, Arrow's buffers": (arrow_of, arrays_of),

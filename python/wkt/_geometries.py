@@ -177,6 +177,25 @@ def _raise_first(statuses: Any, invalid: str, first: int) -> None:
         raise WktError(status, words_of(status), first + int(wrong[0]))
 
 
+def _shapely_texts(shapely: Any, held: Any, places: int) -> Tuple[Any, Any]:
+    """The canonical texts of an array of geometries, and the status of each."""
+    kinds = shapely.get_type_id(held)
+    flags = [shapely.has_z(held), shapely.has_m(held) if hasattr(shapely, "has_m") else numpy.zeros(len(held), bool)]
+    texts = numpy.full(len(held), None, object)
+    statuses = numpy.where(kinds == -1, NULL, COLLECTION).astype(int)
+    for theirs, kind in _KINDS.items():
+        for dimension in range(4):
+            z, m = dimension in (1, 3), dimension in (2, 3)
+            rows = numpy.flatnonzero((kinds == theirs) & (flags[0] == z) & (flags[1] == m))
+            if not len(rows):
+                continue
+            more = dict(include_m=m) if hasattr(shapely, "has_m") else {}
+            _, coordinates, lists = shapely.to_ragged_array(held[rows], include_z=z, **more)
+            made, codes = texts_of(ragged(kind, dimension, coordinates, lists[::-1]), places)
+            texts[rows], statuses[rows] = numpy.array(made, object), codes
+    return texts, statuses
+
+
 def keys(geometries: Any, places: int = 18, invalid: str = "raise") -> Any:
     """The canonical texts of geometries, from their coordinates: no text is written in between.
 
@@ -196,20 +215,7 @@ def keys(geometries: Any, places: int = 18, invalid: str = "raise") -> Any:
         return _geo_keys(geometries, places, invalid)
     shapely, series = _shapely(), geometries if is_series(geometries) else None
     held = numpy.array(geometries if series is None else list(series), object).reshape(-1)
-    kinds = shapely.get_type_id(held)
-    flags = [shapely.has_z(held), shapely.has_m(held) if hasattr(shapely, "has_m") else numpy.zeros(len(held), bool)]
-    texts = numpy.full(len(held), None, object)
-    statuses = numpy.where(kinds == -1, NULL, COLLECTION).astype(int)
-    for theirs, kind in _KINDS.items():
-        for dimension in range(4):
-            z, m = dimension in (1, 3), dimension in (2, 3)
-            rows = numpy.flatnonzero((kinds == theirs) & (flags[0] == z) & (flags[1] == m))
-            if not len(rows):
-                continue
-            more = dict(include_m=m) if hasattr(shapely, "has_m") else {}
-            _, coordinates, lists = shapely.to_ragged_array(held[rows], include_z=z, **more)
-            made, codes = texts_of(ragged(kind, dimension, coordinates, lists[::-1]), places)
-            texts[rows], statuses[rows] = numpy.array(made, object), codes
+    texts, statuses = _shapely_texts(shapely, held, places)
     _raise_first(statuses, invalid, 0)
     if series is None:
         return texts.tolist()
