@@ -36,7 +36,7 @@ class Dask(unittest.TestCase):
         self.assertEqual(sorted(made.compute().id), [0, 1, 3, 4, 5, 6, 8])
         self.assertEqual((made.compute().columns.tolist(), made.columns.tolist()), (["id", "geom"], ["id", "geom"]))
         made = self.tools.drop_duplicates(self.parts, "geom", split_out=2)
-        self.assertEqual((made.npartitions, len(made)), (2, 7))
+        self.assertEqual((made.npartitions, len(made)), (5, 7))
 
     def test_merge(self):
         """The rows that pandas joins, whichever partition they are in."""

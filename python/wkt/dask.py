@@ -26,9 +26,8 @@ def keys(texts: Any, places: int = 18, whole: bool = True) -> Any:
     return texts.map_partitions(_calls.canonical, places, "null", None, whole, meta=texts._meta.astype(object))
 
 
-def _keyed(frame: Any, column: Any, side: str, places: int, whole: bool, drop: bool, partition_info: Any = None) -> Any:
-    """A partition with its keys; rows without one have what no row of another partition or side has, or are dropped."""
-    side = "%s%d." % (side, partition_info["number"] if partition_info else 0)
+def _keyed(frame: Any, column: Any, side: str, places: int, whole: bool, drop: bool) -> Any:
+    """A partition with its keys; rows without one have what no row of another side has, or are dropped."""
     made = _pandas.keyed(frame, column, side, places, whole)
     return made[_pandas.has_key(made)] if drop else made
 
@@ -39,13 +38,15 @@ def _with_keys(frame: Any, column: Any, side: str, places: int, whole: bool, dro
 
 
 def drop_duplicates(frame: Any, column: Any, places: int = 18, whole: bool = True, **more: Any) -> Any:
-    """The rows of a frame without those whose geometry another row has; each row without a key stays.
+    """The rows of a frame without those whose geometry another row has; each row without a key stays, behind these.
 
     column: the name of the one with the texts. The first row of a geometry stays. more: what drop_duplicates of Dask
-    takes, such as `split_out`, the number of partitions that come back.
+    takes, such as `split_out`, the number of partitions that the rows with keys come back in.
     """
-    made = _with_keys(frame, column, "", places, whole).drop_duplicates(subset=[_pandas.KEY], **more)
-    return made.map_partitions(_pandas.unkeyed, None, meta=frame._meta)
+    made = _with_keys(frame, column, "", places, whole)
+    has = made.map_partitions(_pandas.has_key, meta=(_pandas.KEY, bool))
+    both = dataframe.concat([made[has].drop_duplicates(subset=[_pandas.KEY], **more), made[~has]])
+    return both.map_partitions(_pandas.unkeyed, None, meta=frame._meta)
 
 
 def merge(
