@@ -111,6 +111,21 @@ class Kinds(Arrow):
             made = keys_of("linestring", lists([0, 2], coordinates([(1, 2), (NAN, NAN)])), invalid="null")
             self.assertEqual(made.statuses.tolist(), [13])
 
+    def test_empty_parts(self):
+        """As in texts: a polygon whose first ring is EMPTY is EMPTY itself (docs/KEYS.md)."""
+        cases = [
+            ("polygon", [[0, 2], [0, 0, 4]], "POLYGON(EMPTY,(1.5 2,3 4,5 0.1,1.5 2))", "POLYGON EMPTY"),
+            ("polygon", [[0, 2], [0, 4, 4]], "POLYGON((1.5 2,3 4,5 0.1,1.5 2),EMPTY)", None),
+            ("multilinestring", [[0, 2], [0, 0, 2]], "MULTILINESTRING(EMPTY,(1.5 2,3 4))", None),
+            ("multipolygon", [[0, 2], [0, 0, 1], [0, 4]], "MULTIPOLYGON(EMPTY,((1.5 2,3 4,5 0.1,1.5 2)))", None),
+        ]
+        for name, offsets, text, key in cases:
+            node = separated(SIX)
+            for each in reversed(offsets):
+                node = lists(each, node)
+            self.assertEqual(keys_of(name, node).to_pylist(), [key or text])
+            self.assertEqual(wkt.canonical(text), key or text)
+
     def test_doubles(self):
         """Each number is what `repr` writes, without an exponent; what has more than the places is refused."""
         values = [0.1, -0.0, 1e-7, 13.404953999999998, 1 / 3, 0.1 + 0.2, 2.675, 1e15, 9007199254740993.0, 123456.789]

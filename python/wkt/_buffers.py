@@ -1,5 +1,6 @@
 """Columns as buffers, with no object for a row: those that Arrow lends, and NumPy's arrays of bytes. It needs NumPy."""
-from typing import Any, Callable, Dict, Iterator, List, NamedTuple, Optional, Tuple
+import itertools
+from typing import Any, Callable, Iterator, List, NamedTuple, Optional, Tuple
 
 from ._names import NOT_UTF8, NULL
 from ._native import calls
@@ -177,14 +178,18 @@ def answered(held: Buffers, places: int, invalid: str, progress: Progress, bytes
 
 def distinct(texts: Texts, indices: Any) -> Texts:
     """Rows that have some of the texts, or none where the index is -1: each text is there once, and none is refused."""
-    known: Dict[bytes, int] = {}
-    data, at = texts.data.tobytes(), numpy.full(len(texts.statuses) + 1, -1)
-    for i, (status, start, end) in enumerate(bounds(texts)):
-        if not status:
-            at[i] = known.setdefault(data[start:end], len(known))
+    data, ends, good = texts.data.tobytes(), texts.offsets.tolist(), texts.statuses == 0
+    parts = [data[start:end] for start, end in itertools.compress(zip(ends, ends[1:]), good.tolist())]
+    known = dict.fromkeys(parts)
+    at = numpy.full(len(good) + 1, -1)
+    if len(known) == len(parts):
+        at[:-1][good] = numpy.arange(len(parts))
+    else:
+        numbers = dict(zip(known, range(len(known))))
+        at[:-1][good] = [numbers[text] for text in parts]
     statuses = numpy.append(texts.statuses, numpy.uint32(NULL))[indices]
-    ends = numpy.concatenate([[0], numpy.cumsum([len(text) for text in known])]).astype(numpy.int64)
-    return Texts(_bytes(b"".join(known)), ends, statuses, numpy.maximum(at[indices], 0).astype(numpy.int32))
+    its = numpy.cumsum([0, *map(len, known)])
+    return Texts(_bytes(b"".join(known)), its, statuses, numpy.maximum(at[indices], 0).astype(numpy.int32))
 
 
 def joined(parts: List[Texts], indexed: bool = False) -> Texts:
