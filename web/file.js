@@ -10,10 +10,12 @@ import { show, state } from './state.js';
 import { repeatsInWords, say } from './verdict.js';
 import { started } from './workers.js';
 
-/** So much of a file is looked at to see whether it is one geometry. */
-const FRONT = 64 << 10;
+/** So much of a file is looked at to see whether it is one geometry, and so much to see whether its lines are long. */
+const FRONT = 64 << 10, LONG = 1 << 20;
 /** For each part of a file of that size there is one worker more, up to so many. */
 const PER_WORKER = 16 << 20, MOST_WORKERS = 4;
+/** A worker that was asked to stop, and hasn't in so many milliseconds, is ended. */
+const PATIENCE = 1500;
 
 const WITHOUT_FILE = $('text').placeholder;
 
@@ -21,10 +23,11 @@ const WITHOUT_FILE = $('text').placeholder;
 let job = 0;
 let worker = null;
 let helpers = [];
-let saved = null; // the address of the canonical lines
+let saved = null; // the canonical lines, and the address of them once it is asked for
 let name = '';
 let opened = null; // the file, how many others were dropped with it, and the form that it is turned from
 let drawn = false; // whether points of the file are drawn
+let told = null; // what the worker said last
 
 function stopWorker() {
   for (const it of [worker, ...helpers]) it?.terminate();
@@ -32,10 +35,10 @@ function stopWorker() {
   helpers = [];
 }
 
-/** Starts a worker, and those that help it where the file is large. */
-function start(file, asked) {
+/** Starts a worker, and those that help it where the file is large and has many lines. */
+function start(file, many, asked) {
   const most = Math.min(MOST_WORKERS, Math.max(1, (navigator.hardwareConcurrency || 2) - 1));
-  const n = asked.split === 'one' || asked.form ? 1 : Math.min(most, 1 + Math.floor(file.size / PER_WORKER));
+  const n = many ? Math.min(most, 1 + Math.floor(file.size / PER_WORKER)) : 1;
   const channels = n > 1 ? Array.from({ length: n }, () => new MessageChannel()) : [];
   helpers = channels.map(({ port1 }) => started('helper', { port: port1, places: places() }, [port1]));
   const ports = channels.map(({ port2 }) => port2);
@@ -53,8 +56,8 @@ export function begin() {
 export function closeFile() {
   const current = begin();
   if (!state.file) return current;
-  if (saved) URL.revokeObjectURL(saved);
-  saved = null;
+  if (saved?.address) URL.revokeObjectURL(saved.address);
+  saved = told = null;
   opened = null;
   state.file = false;
   showPoints(null, 0);
@@ -101,7 +104,9 @@ export async function readFile(file, more = 0, form = null) {
     if (!current()) return;
     const others = more > 0 ? ` ${count(more, 'other file')} that came with it ${more === 1 ? 'is' : 'are'} not read.` : '';
     say('idle', `Reading ${short(name, 60)}`, HOW[split] + others);
-    worker = start(file, { split, form: form ?? (split === 'pieces' ? { form: 'pieces' } : null) });
+    const many = !form && split === 'lines' && new Uint8Array(await file.slice(0, LONG).arrayBuffer()).includes(10);
+    if (!current()) return;
+    worker = start(file, many, { split, form: form ?? (split === 'pieces' ? { form: 'pieces' } : null) });
     worker.onmessage = ({ data }) => current() && (data.failed ? fail(data.failed) : take(data));
     for (const it of [worker, ...helpers]) it.onerror = (event) => current() && fail(event.message || 'The worker stopped.');
   } catch (error) {
@@ -125,13 +130,17 @@ function fail(words) {
 const megabytes = (bytes) => (bytes / 1e6).toLocaleString('en', { minimumFractionDigits: 1, maximumFractionDigits: 1 });
 
 function cell(words, n, kind = null) {
-  return element('div', {}, element('b', { class: n > 0 ? kind : null }, number(n)), element('span', {}, words));
+  return element('div', {}, element('b', { class: n > 0 ? kind : null }, n === null ? '…' : number(n)), element('span', {}, words));
 }
 
 function take(data) {
-  $('bar').value = data.size > 0 ? data.done / data.size : 1;
-  const rate = data.done / 1e6 / Math.max(data.seconds, 1e-3);
-  $('told').textContent = `${megabytes(data.done)} of ${megabytes(data.size)} MB in ${data.seconds.toFixed(1)} s, ${rate < 10 ? rate.toFixed(1) : number(Math.round(rate))} MB/s`;
+  told = data;
+  const { done, read, size } = data;
+  // A line is read, and then answered: each is half of the work.
+  $('bar').value = size > 0 ? (read + done) / size / 2 : 1;
+  const rate = done / 1e6 / Math.max(data.seconds, 1e-3);
+  $('told').textContent = done === 0 && read > 0 ? `${megabytes(read)} of ${megabytes(size)} MB read`
+    : `${megabytes(done)} of ${megabytes(size)} MB in ${data.seconds.toFixed(1)} s, ${rate < 10 ? rate.toFixed(1) : number(Math.round(rate))} MB/s`;
   $('meter').replaceChildren(cell('lines', data.lines), cell('accepted', data.accepted), cell('refused', data.refused, 'bad-text'),
     cell('repeats', data.repeats, 'note-text'), cell('points', data.lists?.points ?? 0), ...(data.blank > 0 ? [cell('blank', data.blank)] : []));
   if (data.lists) takeLists(data, data.lists);
@@ -195,27 +204,50 @@ function finish(data) {
   offer(data);
 }
 
+/** The canonical lines as one. They are put together when they are wanted. */
+const linesOf = () => (saved.blob ??= new Blob(saved.parts.splice(0), { type: 'text/plain' }));
+
 /** Says what else the file is, and what had no text. */
-function others({ forms, left, numbers, saved: lines, whys, refused }) {
+function others({ forms, left, numbers, saved: parts, whys, refused }) {
   const { file, more } = opened;
+  saved = parts && { parts };
   if (forms.length > 0) $('lists').prepend(element('div', { class: 'offer' }, ...offerOf(forms, (form) => readFile(file, more, form))));
   if (left.length > 0) $('lists').append(element('p', {}, leftWords(left)));
-  giveOf({ name: file.name.replace(/\.[^.]*$/, ''), lines, numbers, whys, refused });
+  giveOf({ name: file.name.replace(/\.[^.]*$/, ''), lines: saved && linesOf, numbers, whys, refused });
 }
 
 /** Offers the canonical lines to be saved. */
 function offer(data) {
   if (data.saved === null) {
     $('lists').append(element('p', {}, 'The canonical lines are more than 1 GB, so they are not kept here. The program wktstream writes them.'));
-    return;
   }
-  saved = URL.createObjectURL(data.saved);
-  $('save').href = saved;
+  if (!saved) return;
+  $('save').href = '#';
   $('save').download = `${opened.file.name.replace(/\.[^.]*$/, '')}.canonical.wkt`;
   $('save').title = data.refused > 0 ? 'For each line its canonical text, or the word refused' : 'For each line its canonical text';
   $('save').hidden = data.lines === 0;
 }
 
+/** Stops, also where the worker is in the middle of a long line. */
+function stop() {
+  const stopped = worker;
+  stopped?.postMessage({ stop: true });
+  setTimeout(() => {
+    if (!stopped || stopped !== worker) return;
+    if (told?.lines > 0) {
+      finish({ ...told, stopped: true, forms: [], left: [], whys: [] });
+      return;
+    }
+    stopWorker();
+    $('stop').hidden = true;
+    say('idle', 'Stopped before anything was answered');
+  }, PATIENCE);
+}
+
 export function startFiles() {
-  $('stop').addEventListener('click', () => worker?.postMessage({ stop: true }));
+  $('stop').addEventListener('click', stop);
+  $('save').addEventListener('click', () => {
+    saved.address ??= URL.createObjectURL(linesOf());
+    $('save').href = saved.address;
+  });
 }

@@ -22,7 +22,7 @@ export function giveOf(read) {
 
 /** The lines that are there, as `give` of the worker takes them. */
 function source() {
-  if (file) return file;
+  if (file) return { ...file, lines: file.lines() };
   const { rows } = state;
   const whys = rows.filter((row) => !row.accepted).map((row) => {
     if (!row.place) return { line: row.line, column: 1, expected: row.words, found: '', hint: '', caret: row.text };

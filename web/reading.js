@@ -1,9 +1,10 @@
 // Reads a file in a worker, and joins what some workers count in its blocks. The file is read in pieces; nothing of it is
 // kept but what is counted, listed, and saved.
-import { Blocks, SIZE } from './block.js';
+import { joined } from '../javascript/src/lines.js';
+import { Blocks } from './block.js';
 import { Range } from './range.js';
 import { ASKED, LISTED } from './refusals.js';
-import { Repeats, lineEnd } from './repeats.js';
+import { Repeats, WORDS, lineEnd } from './repeats.js';
 import { piecesOf } from './split.js';
 import { LOOKED, formsOf, turned } from './takein.js';
 import { SAMPLE, Tally } from './tally.js';
@@ -13,8 +14,8 @@ const PIECE = 4 << 20;
 const LONGEST = 256 << 20;
 /** The longest file that is turned: it stands in memory as a whole. */
 const TURNED = 128 << 20;
-/** How much canonical text is kept to be saved. */
-const KEPT = 2 ** 30;
+/** How much canonical text is kept to be saved, and how much of it in memory. */
+const KEPT = 2 ** 30, IN_MEMORY = 2 ** 28;
 const FEED = 10;
 /** How often, in milliseconds, it says how far it is, and what is listed and drawn. */
 const TOLD = 80, LISTS = 600;
@@ -43,16 +44,15 @@ export class FarBlocks {
   ask(asked) {
     return new Promise((resolve, reject) => {
       this.#done = { resolve, reject };
-      this.#port.postMessage(asked);
+      this.#port.postMessage(asked, asked.bytes ? [asked.bytes.buffer] : []);
     });
   }
 }
 
-/** Answers one block: what another worker, or this one, is asked for. */
-export async function answerBlock(blocks, { file, from, to, whole, ask, lists }) {
-  const bytes = new Uint8Array(await file.slice(from, to).arrayBuffer());
-  const found = whole ? blocks.one(bytes, ask) : blocks.lines(bytes, ask);
-  return { ...found, counted: lists ? blocks.counted() : null };
+/** What a worker is asked for: the answers to a block, and what it has counted so far. */
+export function answered(blocks, { bytes, whole, ask, counted }) {
+  const found = bytes ? (whole ? blocks.one(bytes, ask) : blocks.lines(bytes, ask)) : {};
+  return { ...found, counted: counted ? blocks.counted() : null };
 }
 
 /** How the lines of a text are numbered that was turned. */
@@ -62,18 +62,19 @@ export class Reading {
   #wkt;
   #asked;
   #file;
-  #helpers;
+  #workers;
   #post;
   #numbers = null;
   #left = []; // what of the file had no geometry that could be turned
   #local;
-  #read = new FileReaderSync();
+  #reader = new FileReaderSync();
   #repeats;
   #counted = new Map();
   #whys = [];
   #count = { lines: 0, accepted: 0, blank: 0, refused: 0 };
+  #read = 0; // how many bytes of the file were read, and to how many there are answers
   #done = 0;
-  // The canonical lines, as the browser keeps them; null where they became too many.
+  // The canonical lines, in pieces; null where they became too many.
   #parts = [];
   #kept = 0;
   #started = performance.now();
@@ -91,8 +92,9 @@ export class Reading {
     this.#file = asked.file;
     this.#post = post;
     this.#local = new Blocks(wkt, { places: asked.places, seeds });
-    this.#helpers = asked.ports.map((port) => new FarBlocks(port));
+    this.#workers = asked.ports.map((port) => new FarBlocks(port));
     for (const port of asked.ports) port.postMessage({ seeds });
+    if (this.#workers.length === 0) this.#workers = [{ ask: async (it) => answered(this.#local, it) }];
     this.#repeats = new Repeats((place, length) => this.#lineAt(place, length));
   }
 
@@ -104,6 +106,7 @@ export class Reading {
     if (this.#asked.form) await this.#turn();
     if (this.#asked.split === 'one' && this.#file.size > LONGEST) throw new Unreadable(`One text may have ${LONGEST >> 20} MB here. The command wkt reads longer ones.`);
     await this.#blocks();
+    this.#repeats.find();
     this.#tell(true);
   }
 
@@ -135,17 +138,21 @@ export class Reading {
     this.#file = new Blob([texts.join('\n')]);
   }
 
-  /** Where the line ends that goes on at a place: behind its line feed, or at the end of the file. */
-  async #cut(from, at) {
-    let length = 64 << 10;
-    for (let place = at; place < this.#file.size; length = Math.min(2 * length, PIECE)) {
-      const bytes = new Uint8Array(await this.#file.slice(place, place + length).arrayBuffer());
-      const feed = bytes.indexOf(FEED);
-      if (feed >= 0) return place + feed + 1;
-      place += bytes.length;
-      if (place - from > LONGEST + PIECE) throw new Unreadable(`A line behind line ${this.#count.lines} is longer than ${LONGEST >> 20} MB. The command wkt reads it.`);
+  /** Reads whole lines from where the last were read to, about a piece of them; or all of the file. */
+  async #lines(whole) {
+    const { size } = this.#file;
+    const parts = [];
+    const begin = this.#read;
+    for (let length = PIECE, ends = false; !ends && !this.stopping; length = 4 * PIECE) {
+      const part = new Uint8Array(await this.#file.slice(this.#read, this.#read + length).arrayBuffer());
+      const to = this.#read + part.length === size ? part.length : whole ? 0 : part.lastIndexOf(FEED) + 1;
+      ends = to > 0;
+      parts.push(ends ? part.subarray(0, to) : part);
+      this.#read += parts.at(-1).length;
+      if (this.#read - begin > LONGEST + PIECE) throw new Unreadable(`A line behind line ${this.#count.lines} is longer than ${LONGEST >> 20} MB. The command wkt reads it.`);
+      this.#tell(false);
     }
-    return this.#file.size;
+    return parts.length === 1 ? parts[0] : joined(parts);
   }
 
   /** Gives a block to each worker as soon as it is free, and takes the answers in the order of the file. */
@@ -153,53 +160,47 @@ export class Reading {
     const { size } = this.#file;
     const whole = this.#asked.split === 'one';
     const waiting = [];
-    const free = [...this.#helpers];
-    let from = 0;
-    while (waiting.length > 0 || (from < size && !this.stopping)) {
-      while (from < size && !this.stopping && waiting.length < Math.max(1, this.#helpers.length)) {
-        const to = whole || from + PIECE >= size ? size : await this.#cut(from, from + PIECE - 1);
-        const asked = { file: this.#file, from, to, whole, ask: Math.max(0, ASKED - this.#count.refused), lists: this.#isTime(LISTS) || to === size };
-        const helper = free.pop() ?? null;
-        waiting.push({ from, to, helper, answer: helper ? helper.ask(asked) : answerBlock(this.#local, asked) });
-        from = to;
+    const free = [...this.#workers];
+    for (;;) {
+      while (free.length > 0 && this.#read < size && !this.stopping) {
+        const place = this.#read;
+        const bytes = await this.#lines(whole);
+        if (this.stopping) break;
+        const worker = free.pop();
+        waiting.push({ place, to: this.#read, worker, answer: worker.ask({ bytes, whole, ask: Math.max(0, ASKED - this.#count.refused), counted: this.#isTime(LISTS) }) });
       }
-      const { from: place, to, helper, answer } = waiting.shift();
-      const found = await answer;
-      if (helper) free.push(helper);
-      this.#take(found, place, to, helper);
+      if (waiting.length === 0) break;
+      const { place, to, worker, answer } = waiting.shift();
+      this.#take(await answer, place, to, worker);
+      free.push(worker);
       this.#tell(false);
     }
-    for (const helper of this.#helpers) this.#counted.set(helper, (await helper.ask({ counted: true })).counted);
-    this.#counted.set(null, this.#local.counted());
+    for (const worker of this.#workers) this.#counted.set(worker, (await worker.ask({ counted: true })).counted);
   }
 
   #isTime(ms) {
     return performance.now() - this.#listed > ms;
   }
 
-  #take({ answers, texts, lines, blank, refusals, kept, counted }, place, to, helper) {
+  #take({ answers, words, lines, blank, refusals, kept, counted }, place, to, worker) {
     const count = this.#count;
-    this.#repeats.begin(answers);
-    for (let i = 0; i < texts.length; i += SIZE) {
-      this.#repeats.add(texts[i + 1], texts[i + 2], answers, texts[i + 3], texts[i + 4], count.lines + texts[i], place + texts[i + 5]);
-    }
-    this.#repeats.settle();
-    if (place === 0) this.#repeats.expect(this.#repeats.entered * this.#file.size / Math.max(1, to));
+    this.#repeats.add(words, answers, count.lines, place);
     for (const why of refusals.whys.slice(0, ASKED - this.#whys.length)) this.#whys.push({ ...why, line: numberOf(this.#numbers, count.lines + why.line) });
     count.lines += lines;
-    count.accepted += texts.length / SIZE;
+    count.accepted += words.length / WORDS;
     count.blank += blank;
     count.refused += refusals.count;
     this.#done = to;
-    if (counted) this.#counted.set(helper, counted);
-    this.#keep(kept);
+    if (counted) this.#counted.set(worker, counted);
+    this.#keep(kept ?? answers);
   }
 
+  /** Keeps canonical lines: in memory as long as the repeats are told by them too, else as the browser likes. */
   #keep(part) {
     if (this.#parts === null) return;
-    this.#kept += part.size;
+    this.#kept += part.size ?? part.length;
     if (this.#kept > KEPT) this.#parts = null;
-    else this.#parts.push(part);
+    else this.#parts.push(this.#kept > IN_MEMORY ? new Blob([part]) : part);
   }
 
   // The part of the file that was read last, since the next line is often in it.
@@ -221,7 +222,7 @@ export class Reading {
     const { place: start, bytes } = this.#near;
     const from = place - start;
     if (from >= 0 && from < bytes.length && lineEnd(bytes, from) < bytes.length) return bytes.subarray(from);
-    const read = new Uint8Array(this.#read.readAsArrayBuffer(this.#file.slice(place, place + length)));
+    const read = new Uint8Array(this.#reader.readAsArrayBuffer(this.#file.slice(place, place + length)));
     this.#near = { place, bytes: read };
     return read;
   }
@@ -232,16 +233,16 @@ export class Reading {
     if (!last && now - this.#told < TOLD) return;
     this.#told = now;
     const { size } = this.#file;
-    const said = { done: last && !this.stopping ? size : this.#done, size, seconds: (now - this.#started) / 1000, ...this.#count,
-      repeats: this.#repeats.count, ...(this.#counted.size > 0 && (last || this.#isTime(LISTS)) ? { lists: this.#lists(now) } : {}) };
-    if (last) Object.assign(said, { last, stopped: this.stopping, saved: this.#parts && new Blob(this.#parts, { type: 'text/plain' }), whys: this.#whys,
+    const said = { done: last && !this.stopping ? size : this.#done, read: this.#read, size, seconds: (now - this.#started) / 1000, ...this.#count,
+      repeats: last ? this.#repeats.count : null, ...(this.#counted.size > 0 && (last || this.#isTime(LISTS)) ? { lists: this.#lists(now) } : {}) };
+    if (last) Object.assign(said, { last, stopped: this.stopping, saved: this.#parts, whys: this.#whys,
       forms: this.#forms, left: this.#left, numbers: this.#numbers });
-    this.#post(said);
+    this.#post(said, last && this.#parts ? this.#parts.filter((part) => part.buffer).map((part) => part.buffer) : []);
   }
 
   #lists(now) {
     this.#listed = now;
-    const all = joined([...this.#counted.values()]);
+    const all = summed([...this.#counted.values()]);
     const reasons = new Map();
     for (const { hint, expected } of this.#whys) {
       const reason = hint || `${expected} was expected`;
@@ -253,7 +254,7 @@ export class Reading {
 }
 
 /** What was counted by some workers, as one. */
-function joined(counted) {
+function summed(counted) {
   const kinds = {};
   const ranges = [0, 1, 2, 3].map(() => new Range());
   let points = 0;

@@ -1,22 +1,15 @@
-// Which lines of a file name a geometry that an earlier line names. A hash finds the line that may be the same, and then
-// the whole canonical texts are compared: the earlier one is kept in memory, as a part of the answers that it came in, or
-// its line is read from the file once more.
-//
-// Memory: at most 256 MB of answers, and a table of at most 2^25 places of 20 bytes, three quarters of which are
-// used. A geometry that comes when the table is full is still compared with those in it, and isn't entered.
+// Which lines of a file name a geometry that an earlier line names. Hashes find the lines that may be the same, once all are
+// there, and then their whole canonical texts are compared. The answers are kept in memory, up to 256 MB of them; lines whose
+// answers aren't are read from the file once more.
 
+/** Words of a line: its hash (two), where its answer begins, where it begins in its block, and its number in there. */
+export const WORDS = 5;
+const LOW = 0, HIGH = 1, AT = 2, FROM = 3, LINE = 4;
 /** How far apart two lines may be that are read from the file at once. */
 const NEAR = 64 << 10;
-/** A line's number has 31 bits in the table. */
-const LINES = 2 ** 31 - 1;
+/** So many lines, read from the file, are compared at once. */
+const DOUBTS = 2 ** 19;
 const FEED = 10;
-
-// An entry of the table: two numbers of the hash, the line (0: the entry is free), and where the text is, in two numbers of 30
-// bits: the place in some answers and which of them, or, where -1 less the second stands, the place in the file. Numbers of 30
-// bits are faster than others.
-const SIZE = 5;
-const LOW = 0, HIGH = 1, LINE = 2, WHERE = 3, WHERE_HIGH = 4;
-const PART = 2 ** 30;
 
 export class Repeats {
   /** How many lines name a geometry of an earlier line. */
@@ -25,153 +18,174 @@ export class Repeats {
   first = [];
   /** How many geometries were entered. */
   entered = 0;
-  /** Whether the table was full, so that later geometries weren't entered. */
+  /** Whether there were more than fit, so that later ones weren't entered. */
   full = false;
 
-  #bits = 12;
-  #mask = 2 ** 12 - 1;
-  #table = new Int32Array(SIZE * 2 ** 12);
-  #room = 3 * 2 ** 10; // entries, before the table grows
-  #mostBits;
+  #blocks = [];
+  #left; // how many bytes more of answers are kept
+  #most;
   #shown;
-  #answers = []; // those that are kept
-  #left; // how many bytes more may be kept
-  #kept = -1; // the number of the answers that texts are added from, or -1
   #lineAt;
+  // Of each line that may be a repeat, or be repeated: its block, where its words are there, and 1 and the number of the
+  // earlier one, or 0.
+  #block = new Int32Array(0);
+  #at = new Int32Array(0);
+  #earlier = new Int32Array(0);
+  #table = new Int32Array(1); // by their hashes, 1 and their numbers
   #doubts = [];
-  #found = []; // since the last `settle`
 
   /**
    * @param {(place: number, length: number) => Uint8Array} lineAt the canonical text and line feed of the line that begins at
    *   a place of the file; of the file, `length` bytes may be read at once
    */
-  constructor(lineAt, { memory = 256 << 20, bits = 25, shown = 100 } = {}) {
+  constructor(lineAt, { memory = 256 << 20, most = 2 ** 25, shown = 100 } = {}) {
     this.#lineAt = lineAt;
     this.#left = memory;
-    this.#mostBits = bits;
+    this.#most = most;
     this.#shown = shown;
   }
 
-  /** Makes room for about so many geometries at once, which is faster than as they come. */
-  expect(geometries) {
-    let bits = this.#bits;
-    while (bits < this.#mostBits && 3 * 2 ** bits < 4 * geometries) bits++;
-    if (bits > this.#bits) this.#grow(bits);
+  /** Takes the words of a block's lines and their answers. It begins behind so many lines, and at a place of the file. */
+  add(words, answers, lines, place) {
+    this.full ||= this.entered + words.length / WORDS > this.#most;
+    if (this.full) return;
+    const kept = answers.length <= this.#left;
+    if (kept) this.#left -= answers.length;
+    this.#blocks.push({ words, answers: kept ? answers : null, lines, place });
+    this.entered += words.length / WORDS;
   }
 
-  /** Begins to take texts from some answers, which are its own from then on. */
-  begin(bytes) {
-    this.#kept = bytes.length <= this.#left && bytes.length < PART ? this.#answers.push(bytes) - 1 : -1;
-    if (this.#kept >= 0) this.#left -= bytes.length;
+  /** Finds the repeats among all that was taken. */
+  find() {
+    const n = this.#choose();
+    let bits = 1;
+    while (2 ** bits < 2 * n) bits++;
+    this.#table = new Int32Array(2 ** bits);
+    this.#earlier = new Int32Array(n);
+    for (let i = 0; i < n; i++) {
+      this.#seek(i, this.#word(i, LOW));
+      if (this.#doubts.length === DOUBTS) this.#settle();
+    }
+    this.#settle();
+    for (let i = 0; i < n && this.first.length < this.#shown; i++) {
+      if (this.#earlier[i] > 0) this.first.push([this.#lineOf(i), this.#lineOf(this.#earlier[i] - 1)]);
+    }
   }
 
-  /**
-   * Takes the canonical text from `at` to its line feed at `end`, of a line that begins at `place` in the file, and two numbers
-   * of 30 bits as its hash.
-   */
-  add(low, high, bytes, at, end, line, place) {
-    if (this.entered >= this.#room && !this.full) this.#grow(this.#bits + 1);
-    if (line > LINES) this.full = true;
-    this.#seek(low, low, high, bytes, at, end, line, place);
+  /** Chooses the lines whose hash another may have, and returns how many they are. */
+  #choose() {
+    // A bit for each hash that was met, of 16 times as many; and another, of two times as many, for each met again.
+    let bits = 12;
+    while (bits < 29 && 2 ** bits < 16 * this.entered) bits++;
+    const [met, again] = [new Int32Array(2 ** (bits - 5)), new Int32Array(2 ** (bits - 8))];
+    const mask = met.length - 1, fewer = again.length - 1;
+    for (const { words } of this.#blocks) {
+      for (let i = 0; i < words.length; i += WORDS) {
+        const hash = words[i], high = words[i + HIGH];
+        const at = (hash >>> 5) & mask, bit = 1 << hash;
+        if ((met[at] & bit) !== 0) again[(high >>> 5) & fewer] |= 1 << high;
+        met[at] |= bit;
+      }
+    }
+    const [blocks, places] = [[], []];
+    this.#blocks.forEach(({ words }, block) => {
+      const at = new Int32Array(words.length / WORDS);
+      let n = 0;
+      for (let i = 0; i < words.length; i += WORDS) {
+        const high = words[i + HIGH];
+        if ((again[(high >>> 5) & fewer] & (1 << high)) !== 0) at[n++] = i;
+      }
+      places.push(at.slice(0, n));
+      blocks.push(new Int32Array(n).fill(block));
+    });
+    [this.#block, this.#at] = [joined(blocks), joined(places)];
+    return this.#at.length;
   }
 
-  /** Compares those that are left with their lines in the file. To be called before others begin. */
-  settle() {
+  #word(i, word) {
+    return this.#blocks[this.#block[i]].words[this.#at[i] + word];
+  }
+
+  #lineOf(i) {
+    return this.#blocks[this.#block[i]].lines + this.#word(i, LINE);
+  }
+
+  /** Looks for a line's text from a place of the table on: it is found, entered, or left for `settle`. */
+  #seek(i, first) {
+    const table = this.#table, mask = table.length - 1;
+    const block = this.#blocks[this.#block[i]], at = this.#at[i];
+    for (let slot = first & mask; ; slot = (slot + 1) & mask) {
+      const other = table[slot] - 1;
+      if (other < 0) {
+        table[slot] = i + 1;
+        return;
+      }
+      const { words, answers } = this.#blocks[this.#block[other]], k = this.#at[other];
+      if (words[k + LOW] !== block.words[at + LOW] || words[k + HIGH] !== block.words[at + HIGH]) continue;
+      if (!answers || !block.answers) {
+        this.#doubts.push({ slot, i, other, text: null });
+        return;
+      }
+      if (same(answers, words[k + AT], block.answers, block.words[at + AT])) {
+        this.#meet(i, other);
+        return;
+      }
+    }
+  }
+
+  #meet(i, other) {
+    this.#earlier[i] = other + 1;
+    this.count++;
+  }
+
+  /** Compares those that are left with their lines in the file. */
+  #settle() {
     // A text that isn't the same goes on through the table, and may meet another that is left.
     while (this.#doubts.length > 0) {
-      const doubts = this.#doubts.sort((a, b) => a.from - b.from || a.line - b.line);
+      const doubts = this.#doubts.sort((a, b) => a.i - b.i);
       this.#doubts = [];
-      doubts.forEach((doubt, i) => {
-        const { slot, from, low, high, bytes, at, end, line, place } = doubt;
-        const next = i + 1 < doubts.length ? doubts[i + 1].from - from : NEAR;
-        if (sameText(this.#lineAt(from, next < NEAR ? NEAR : 4096), doubt)) this.#meet(slot, line);
-        else this.#seek(slot + 1, low, high, bytes, at, end, line, place);
+      this.#read(doubts, ({ i }) => i, (doubt, text) => { doubt.text = text; });
+      doubts.sort((a, b) => a.other - b.other || a.i - b.i);
+      this.#read(doubts, ({ other }) => other, ({ slot, i, other, text }, otherText) => {
+        if (same(text, 0, otherText, 0)) this.#meet(i, other);
+        else this.#seek(i, slot + 1);
       });
     }
-    this.first.push(...this.#found.sort((a, b) => a[0] - b[0]).slice(0, this.#shown - this.first.length));
-    this.#found = [];
   }
 
-  /** Looks for a text from a place of the table on: it is found, entered, or left for `settle`. */
-  #seek(first, low, high, bytes, at, end, line, place) {
-    const mask = this.#mask;
-    const table = this.#table;
-    for (let slot = first & mask; ; slot = (slot + 1) & mask) {
-      const i = SIZE * slot;
-      if (table[i + LINE] === 0) {
-        if (!this.full) this.#enter(i, low, high, bytes, at, end, line, place);
+  /** Calls `take` with the text of a line of each doubt. They are in the order of these lines. */
+  #read(doubts, lineOf, take) {
+    const placeOf = (i) => this.#blocks[this.#block[i]].place + this.#word(i, FROM);
+    doubts.forEach((doubt, k) => {
+      const i = lineOf(doubt);
+      const { answers } = this.#blocks[this.#block[i]];
+      if (answers) {
+        take(doubt, answers.subarray(this.#word(i, AT)));
         return;
       }
-      if (table[i + LOW] !== low || table[i + HIGH] !== high) continue;
-      const part = table[i + WHERE_HIGH];
-      if (part < 0) {
-        this.#doubts.push({ slot, from: table[i + WHERE] + (-1 - part) * PART, low, high, bytes, at, end, line, place });
-        return;
-      }
-      if (same(this.#answers[part], table[i + WHERE], bytes, at, end)) {
-        this.#meet(slot, line);
-        return;
-      }
-    }
-  }
-
-  #enter(i, low, high, bytes, at, end, line, place) {
-    const table = this.#table;
-    table[i + LOW] = low;
-    table[i + HIGH] = high;
-    table[i + LINE] = line;
-    if (this.#kept >= 0) {
-      table[i + WHERE] = at;
-      table[i + WHERE_HIGH] = this.#kept;
-    } else {
-      table[i + WHERE] = place % PART;
-      table[i + WHERE_HIGH] = -1 - Math.floor(place / PART);
-    }
-    this.entered++;
-  }
-
-  /** A line names the geometry of an earlier one. */
-  #meet(slot, line) {
-    this.count++;
-    // Those that are left for `settle` are found in another order than that of the lines.
-    if (this.first.length < this.#shown) this.#found.push([line, this.#table[SIZE * slot + LINE]]);
-  }
-
-  /** A larger table, or no more entries. */
-  #grow(bits) {
-    // What is left has its place in the table as it is.
-    this.settle();
-    const old = this.#table;
-    try {
-      if (bits > this.#mostBits) throw new RangeError();
-      this.#table = new Int32Array(SIZE * 2 ** bits);
-    } catch {
-      this.full = true;
-      return;
-    }
-    this.#bits = bits;
-    this.#mask = 2 ** bits - 1;
-    this.#room = 3 * 2 ** (bits - 2);
-    const mask = this.#mask;
-    const table = this.#table;
-    for (let from = 0; from < old.length; from += SIZE) {
-      if (old[from + LINE] === 0) continue;
-      let slot = old[from + LOW] & mask;
-      while (table[SIZE * slot + LINE] !== 0) slot = (slot + 1) & mask;
-      for (let k = 0; k < SIZE; k++) table[SIZE * slot + k] = old[from + k];
-    }
+      const place = placeOf(i);
+      const near = k + 1 < doubts.length && placeOf(lineOf(doubts[k + 1])) - place < NEAR;
+      take(doubt, this.#lineAt(place, near ? NEAR : 4096));
+    });
   }
 }
 
-/** Whether the text that begins at `place` of some answers is the one from `at` to its line feed at `end`. */
-function same(answers, place, bytes, at, end) {
-  for (let i = at; i <= end; i++) {
-    if (answers[place + i - at] !== bytes[i]) return false;
-  }
-  return true;
+/** Whether two texts that end with a line feed are the same. */
+function same(one, from, other, at) {
+  for (let n = 0; one[from + n] === other[at + n]; n++) if (one[from + n] === FEED) return true;
+  return false;
 }
 
-const sameText = (text, { bytes, at, end }) => text.length === end + 1 - at && same(text, 0, bytes, at, end);
+/** Some arrays as one. */
+function joined(parts) {
+  const all = new Int32Array(parts.reduce((n, part) => n + part.length, 0));
+  let at = 0;
+  for (const part of parts) {
+    all.set(part, at);
+    at += part.length;
+  }
+  return all;
+}
 
 /** The end of the line that begins at `from`, which is its line feed or the end of the bytes. */
 export function lineEnd(bytes, from) {

@@ -1,13 +1,17 @@
-// What is counted of the canonical texts of a file.
+// What is counted of the canonical texts of a file, in one walk over each.
 import { Range } from './range.js';
 
 /** How many points of a file are drawn. */
 export const SAMPLE = 15000;
-/** So many digits fit in a whole number that a double holds, and so many in one of 32 bits; more are converted from their text. */
-const DIGITS = 15, PART = 9;
-const POWERS = Array.from({ length: DIGITS + 1 }, (_, n) => 10 ** n);
-const BITS = 2 ** 30 - 1;
+/** So many digits fit in a whole number of 32 bits. */
+const DIGITS = 9;
+const POWERS = Float64Array.from({ length: DIGITS + 1 }, (_, n) => 10 ** n);
+/** Doubles of numbers are this near to them, as a part of the greatest. */
+const NEAR = 1e-13;
 const NAMES = ['Point', 'LineString', 'Polygon', 'MultiPoint', 'MultiLineString', 'MultiPolygon', 'GeometryCollection'];
+const ONE = 0x85ebca6b, OTHER = 0xc2b2ae35;
+/** Where the ends of each axis stand. */
+const X = 0, Y = 2, Z = 4, M = 6;
 
 const latin1 = new TextDecoder('latin1');
 
@@ -23,26 +27,31 @@ function kindAt(bytes, at) {
   }
 }
 
+function isText(bytes, from, to, text) {
+  if (to - from !== text.length) return false;
+  for (let i = from; i < to; i++) if (bytes[i] !== text.charCodeAt(i - from)) return false;
+  return true;
+}
+
 /** Kinds, points, bounds and a sample of the points of many canonical texts; and a hash of the last of them. */
 export class Tally {
   points = 0;
-  x = new Range();
-  y = new Range();
-  z = new Range();
-  m = new Range();
+  /** The bounds of x, y, z and m. */
+  ranges = [new Range(), new Range(), new Range(), new Range()];
   /** Points of all the texts, as x, y, x, y ..: each had the same chance. */
   sample = [];
-  /** The hash of the text that was added last: two numbers of 30 bits. */
+  /** The hash of the text that was added last: two numbers of 32 bits. */
   low = 0;
   high = 0;
 
-  #view = new DataView(new ArrayBuffer(0)); // over the bytes of the last text
-  #from = 0;
   #counts = new Array(NAMES.length).fill(0);
   #seeds;
+  /** A double between these two is surely neither the least nor the greatest of its axis. */
+  #inner = new Float64Array(8).fill(Infinity);
+  #long = 0; // the double of the last long number
 
   // The next point that comes into the sample, and what is left of the chance of those after it.
-  #next = SAMPLE + 1;
+  #next = 1;
   #chance = 1;
 
   /** `seeds` are two numbers that nobody knows, so that no file can be made beforehand whose hashes agree. */
@@ -64,83 +73,93 @@ export class Tally {
    */
   add(bytes, at) {
     this.#counts[kindAt(bytes, at)]++;
-    let third = this.z;
-    let axis = 0;
+    const inner = this.#inner;
+    let low = this.#seeds[0], high = this.#seeds[1];
+    let axis = X, third = Z;
     let x = 0;
     let i = at;
-    for (let c = bytes[i]; c !== 10; c = bytes[++i]) {
-      if (c === 44 || c === 41) { // , or )
-        axis = 0;
-      } else if (c > 44 && c < 58) { // a number begins
-        const from = i;
-        let [whole, fraction, point] = [0, 0, 0];
-        if (c === 45) c = bytes[++i]; // -
-        for (; c > 47; c = bytes[++i]) whole = (Math.imul(whole, 10) + c - 48) | 0;
-        if (c === 46) { // .
-          point = i;
-          for (c = bytes[++i]; c > 47; c = bytes[++i]) fraction = (Math.imul(fraction, 10) + c - 48) | 0;
-        }
-        const value = valueOf(bytes, from, i, whole, fraction, point);
-        const range = axis === 0 ? this.x : axis === 1 ? this.y : axis === 2 ? third : this.m;
-        if (!(value > range.low && value < range.high)) range.add(value, latin1.decode(bytes.subarray(from, i)));
-        if (axis === 0) x = value;
-        else if (axis === 1) this.#point(x, value);
-        axis++;
-        i--; // what follows is looked at next
-      } else if (c === 90) { // Z
-        third = this.z;
-      } else if (c === 77 && bytes[i - 1] === 32) { // The third number is m where the header says M and not ZM.
-        third = this.m;
+    for (let c = bytes[i]; c !== 10; c = bytes[i]) {
+      if (c > 57 || (c < 48 && c !== 45)) { // no number begins
+        if (c < 45 && c !== 32) axis = X; // ( ) ,
+        else if (c === 90) third = Z;
+        else if (c === 77 && bytes[i - 1] === 32) third = M; // the third number is m where the header says M and not ZM
+        low = Math.imul(low ^ c, ONE);
+        i++;
+        continue;
       }
+      const from = i;
+      const begin = c === 45 ? i + 1 : i; // -
+      // A one before the digits of the fraction tells 5 from 05.
+      let whole = 0, fraction = 0;
+      for (i = begin; (c = bytes[i]) > 47; i++) whole = (Math.imul(whole, 10) + c - 48) | 0;
+      const point = i;
+      if (c === 46) { // .
+        fraction = 1;
+        for (i++; (c = bytes[i]) > 47; i++) fraction = (Math.imul(fraction, 10) + c - 48) | 0;
+      }
+      const places = i - point - 1;
+      let value;
+      if (point - begin > DIGITS || places > DIGITS) {
+        low = this.#hashLong(bytes, from, i, low);
+        value = this.#long;
+      } else {
+        value = places > 0 ? whole + (fraction - POWERS[places]) / POWERS[places] : whole;
+        low = Math.imul(low ^ (begin > from ? ~whole : whole), ONE);
+        low = Math.imul(low ^ (low >>> 15) ^ fraction, ONE);
+      }
+      if (begin > from) value = -value;
+      low ^= low >>> 15;
+      high = Math.imul(high ^ low, OTHER) ^ (high >>> 13);
+      if (!(value > inner[axis] && value < inner[axis + 1])) this.#widen(axis, bytes, from, i);
+      if (axis === X) x = value;
+      else if (axis === Y && ++this.points === this.#next) this.#draw(x, value);
+      axis = axis === Y ? third : axis === Z ? M : axis + 2;
     }
-    this.#hash(bytes, at, i);
+    this.low = low;
+    this.high = high ^ (i - at);
     return i;
   }
 
-  #hash(bytes, at, end) {
-    if (this.#view.buffer !== bytes.buffer || this.#from !== bytes.byteOffset) {
-      this.#from = bytes.byteOffset;
-      this.#view = new DataView(bytes.buffer, bytes.byteOffset, bytes.length);
+  /** The hash of a number that has more digits; its double, without the sign, is in #long. */
+  #hashLong(bytes, from, to, hash) {
+    let [low, value, scale] = [hash, 0, 0];
+    for (let i = from; i < to; i++) {
+      const c = bytes[i];
+      low = Math.imul(low ^ (low >>> 15) ^ c, ONE);
+      if (c === 46) scale = 1;
+      if (c < 48) continue;
+      value = value * 10 + c - 48;
+      scale *= 10;
     }
-    const view = this.#view;
-    let [low, high] = this.#seeds;
-    let i = at;
-    for (; i + 4 <= end; i += 4) {
-      low = Math.imul(low ^ view.getInt32(i), 0x85ebca6b);
-      low ^= low >>> 15;
-      high = Math.imul(high ^ low, 0xc2b2ae35) ^ (high >>> 13);
-    }
-    for (; i < end; i++) {
-      low = Math.imul(low ^ bytes[i], 0x85ebca6b);
-      low ^= low >>> 15;
-      high = Math.imul(high ^ low, 0xc2b2ae35) ^ (high >>> 13);
-    }
-    this.low = low & BITS;
-    this.high = high & BITS;
+    this.#long = scale > 0 ? value / scale : value;
+    return low;
   }
 
-  #point(x, y) {
-    this.points++;
-    if (this.points <= SAMPLE) this.sample.push(x, y);
-    if (this.points < this.#next) return;
-    if (this.points > SAMPLE) {
+  /** A number that may be the least or the greatest: that is told by its digits. */
+  #widen(axis, bytes, from, to) {
+    const range = this.ranges[axis / 2];
+    if (isText(bytes, from, to, range.lowText) || isText(bytes, from, to, range.highText)) return;
+    const text = latin1.decode(bytes.subarray(from, to));
+    range.add(Number(text), text);
+    const near = NEAR * Math.max(Math.abs(range.low), Math.abs(range.high));
+    this.#inner[axis] = range.low + near;
+    this.#inner[axis + 1] = range.high - near;
+  }
+
+  /** Takes a point into the sample. */
+  #draw(x, y) {
+    const n = this.points;
+    if (n <= SAMPLE) {
+      this.sample.push(x, y);
+    } else {
       const k = 2 * Math.floor(Math.random() * SAMPLE);
       this.sample[k] = x;
       this.sample[k + 1] = y;
     }
+    this.#next = n + 1;
+    if (n < SAMPLE) return;
     // How many points are passed over, so that each has the same chance (Li, 1994).
     this.#chance *= Math.random() ** (1 / SAMPLE);
-    this.#next += Math.floor(Math.log(Math.random()) / Math.log(1 - this.#chance)) + 1;
+    this.#next += Math.floor(Math.log(Math.random()) / Math.log(1 - this.#chance));
   }
-}
-
-/** The double that is nearest to the number from `from` to `to`: a whole number and a power of ten that doubles hold give it. */
-function valueOf(bytes, from, to, whole, fraction, point) {
-  const negative = bytes[from] === 45; // -
-  const begin = negative ? from + 1 : from;
-  const places = point > 0 ? to - point - 1 : 0;
-  const digits = point > 0 ? point - begin : to - begin;
-  if (digits > PART || places > PART || digits + places > DIGITS) return Number(latin1.decode(bytes.subarray(from, to)));
-  const value = places > 0 ? (whole * POWERS[places] + fraction) / POWERS[places] : whole;
-  return negative ? -value : value;
 }

@@ -5,13 +5,13 @@ import { Blocks } from './block.js';
 import { Desk } from './desk.js';
 import { formed } from './features.js';
 import { Painter } from './painter.js';
-import { Reading, Unreadable, answerBlock } from './reading.js';
+import { Reading, Unreadable, answered } from './reading.js';
 import { turned } from './takein.js';
 
 /** How much text is made before it becomes a part of what is saved. */
 const PART = 1 << 20;
 
-const post = (message) => postMessage(message);
+const post = (message, moved = []) => postMessage(message, moved);
 
 function wordsOf(error) {
   if (error instanceof Unreadable) return error.message;
@@ -50,18 +50,14 @@ async function file(asked) {
 async function helper({ module, port, places }) {
   const wkt = await load(module);
   let blocks = null;
-  port.onmessage = async ({ data }) => {
+  port.onmessage = ({ data }) => {
     try {
       if (data.seeds) {
         blocks = new Blocks(wkt, { places, seeds: data.seeds });
         return;
       }
-      if (data.counted) {
-        port.postMessage({ counted: blocks.counted() });
-        return;
-      }
-      const found = await answerBlock(blocks, data);
-      port.postMessage(found, [found.answers.buffer, found.texts.buffer]);
+      const found = answered(blocks, data);
+      port.postMessage(found, data.bytes ? [found.answers.buffer, found.words.buffer] : []);
     } catch (error) {
       port.postMessage({ failed: wordsOf(error) });
     }

@@ -86,44 +86,42 @@ function tallied(lines) {
   return tally;
 }
 
+const texts = ({ lowText, highText }) => [lowText, highText];
+
 test('counts of many texts', () => {
   const tally = tallied(['POINT(1 2)', 'LINESTRING Z(0.5 -0.25 100,1 1 -7)', 'POLYGON M((0 0 5,1 0 6,1 1 7,0 0 5))', 'MULTIPOINT((1 2))',
     'MULTILINESTRING((1 2,3 4))', 'MULTIPOLYGON(((0 0,1 0,1 1,0 0)))', 'GEOMETRYCOLLECTION ZM(POINT ZM(1 2 3 -4))', 'POINT EMPTY',
     'GEOMETRYCOLLECTION(POINT M(1 2 6),POINT Z(1 2 101))']);
   assert.deepEqual(tally.kinds, { Point: 2, LineString: 1, Polygon: 1, MultiPoint: 1, MultiLineString: 1, MultiPolygon: 1, GeometryCollection: 2 });
   assert.equal(tally.points, 17);
-  const texts = ({ lowText, highText }) => [lowText, highText];
-  assert.deepEqual([tally.x, tally.y, tally.z, tally.m].map(texts), [['0', '3'], ['-0.25', '4'], ['-7', '101'], ['-4', '7']]);
+  assert.deepEqual(tally.ranges.map(texts), [['0', '3'], ['-0.25', '4'], ['-7', '101'], ['-4', '7']]);
   assert.deepEqual(tally.sample.slice(0, 6), [1, 2, 0.5, -0.25, 1, 1]);
 });
 
 test('bounds of many texts have all digits', () => {
   const tally = tallied(['POINT(0.100000000000000001 123456789012345678.5)', 'POINT(0.1 123456789012345678.25)', 'POINT(0.100000000000000002 123456789012345678)']);
-  assert.deepEqual([tally.x.lowText, tally.x.highText], ['0.1', '0.100000000000000002']);
-  assert.deepEqual([tally.y.lowText, tally.y.highText], ['123456789012345678', '123456789012345678.5']);
+  assert.deepEqual(tally.ranges.slice(0, 2).map(texts), [['0.1', '0.100000000000000002'], ['123456789012345678', '123456789012345678.5']]);
 });
 
 /** Repeats of lines, whose hashes and settings are given, beside what comparing all of them says. */
 function check(lines, hash, settings, every = 7) {
-  const places = [];
-  let place = 0;
-  for (const line of lines) {
-    places.push(place);
-    place += line.length + 1;
-  }
   const all = bytesOf(lines.map((line) => `${line}\n`).join(''));
   let reads = 0;
   const repeats = new Repeats((at) => {
     reads++;
     return all.subarray(at, all.indexOf(10, at) + 1);
   }, { shown: 1e9, ...settings });
-  repeats.begin(all);
-  lines.forEach((line, i) => {
-    const [low, high] = hash(line);
-    repeats.add(low, high, all, places[i], places[i] + line.length, i + 1, places[i]);
-    if (i % every === every - 1) repeats.settle();
-  });
-  repeats.settle();
+  for (let i = 0, place = 0; i < lines.length; i += every) {
+    const some = lines.slice(i, i + every);
+    let at = 0;
+    const words = some.flatMap((line, k) => {
+      at += line.length + 1;
+      return [...hash(line), at - line.length - 1, at - line.length - 1, k + 1];
+    });
+    repeats.add(Int32Array.from(words), all.slice(place, place + at), i, place);
+    place += at;
+  }
+  repeats.find();
   const earlier = new Map();
   const wanted = [];
   lines.forEach((line, i) => {
@@ -149,7 +147,7 @@ for (const [name, settings] of [['in memory', {}], ['in the file', { memory: 0 }
     const { repeats, reads, wanted } = check(lines, good, settings);
     assert.deepEqual(repeats.first, wanted);
     assert.equal(repeats.count, wanted.length);
-    assert.equal(reads, settings.memory === 0 ? wanted.length : 0);
+    assert.equal(reads, settings.memory === 0 ? 2 * wanted.length : 0);
     assert.equal(repeats.full, false);
   });
   test(`texts with one hash are told apart, by texts ${name}`, () => {
@@ -158,19 +156,18 @@ for (const [name, settings] of [['in memory', {}], ['in the file', { memory: 0 }
       assert.deepEqual(repeats.first, wanted);
     }
   });
-  test(`texts with one hash are told apart in a table that grows, by texts ${name}`, () => {
+  test(`many texts with few hashes are told apart, by texts ${name}`, () => {
     const { repeats, wanted } = check(random(10000, 6000), (line) => [(parseInt(line.slice(6), 10) % 40) * 100, 1], settings);
-    assert.ok(repeats.entered > 3072);
     assert.deepEqual(repeats.first, wanted);
   });
 }
 
-test('a full table says so, and finds the repeats of what it has', () => {
-  const lines = [...Array.from({ length: 5000 }, (_, i) => `POINT(${i} 1)`), 'POINT(0 1)', 'POINT(4999 1)', 'POINT(3071 1)', 'POINT(3072 1)'];
-  const { repeats } = check(lines, good, { bits: 12 });
+test('where more lines come than fit, it says so, and finds the repeats of those before', () => {
+  const lines = [...Array.from({ length: 500 }, (_, i) => `POINT(${i % 450} 1)`), 'POINT(0 1)', 'POINT(1 1)'];
+  const { repeats, wanted } = check(lines, good, { most: 497 });
   assert.equal(repeats.full, true);
-  assert.equal(repeats.entered, 3072); // three quarters of 2^12
-  assert.deepEqual(repeats.first, [[5001, 1], [5003, 3072]]);
+  assert.equal(repeats.entered, 497); // 71 blocks of seven
+  assert.deepEqual(repeats.first, wanted.filter(([line]) => line <= 497));
 });
 
 test('the first repeats are listed, by their lines', () => {
