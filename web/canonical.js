@@ -1,6 +1,6 @@
 // The canonical text of the chosen row, as WKT and as GeoJSON, and what it holds.
 import { geoJSONOf } from '../javascript/src/geojson.js';
-import { $, count, element, number } from './elements.js';
+import { $, count, element, fill, number } from './elements.js';
 import { chosenRow, state } from './state.js';
 
 /** More characters than this aren't shown; they are copied. */
@@ -56,7 +56,7 @@ function facts(row) {
 /** Shows what all lines hold together. */
 export function takeTotals({ geometries, points, bounds }) {
   $('totals').hidden = geometries < 2;
-  $('totals').textContent = [count(geometries, 'geometry', 'geometries'), count(points, 'point'), boundsInWords(bounds)].filter(Boolean).join(' · ');
+  fill($('totals'), [count(geometries, 'geometry', 'geometries'), count(points, 'point'), boundsInWords(bounds)].filter(Boolean).join(' · '));
 }
 
 export function showCanonical() {
@@ -65,12 +65,12 @@ export function showCanonical() {
   if (!row || !row.accepted) return;
   const { text, error } = answerText();
   const name = format() === 'wkt' ? 'Canonical text' : 'GeoJSON';
-  $('h-canonical').textContent = state.rows.length > 1 ? `${name} of line ${row.line}` : name;
+  fill($('h-canonical'), state.rows.length > 1 ? `${name} of line ${row.line}` : name);
   $('out').setAttribute('aria-label', name);
-  $('out').textContent = error ?? (text.length > SHOWN ? `${text.slice(0, SHOWN)} … and ${count(text.length - SHOWN, 'character')} more` : text);
+  fill($('out'), error ?? (text.length > SHOWN ? `${text.slice(0, SHOWN)} … and ${count(text.length - SHOWN, 'character')} more` : text));
   $('copy').disabled = Boolean(error);
-  $('facts').replaceChildren(...facts(row));
+  fill($('facts'), ...facts(row));
   const said = notes(row.facts);
   $('notes').hidden = said.length === 0;
-  $('notes').replaceChildren('Other programs may object:', element('ul', {}, ...said.map((words) => element('li', {}, words))));
+  fill($('notes'), 'Other programs may object:', element('ul', {}, ...said.map((words) => element('li', {}, words))));
 }

@@ -72,11 +72,10 @@ export class Desk {
       }
       const left = this.#left.length - next;
       if (left === 0) this.#left = [];
-      this.#post({ answers: said, left });
+      this.#post({ answers: said, left, ...(left === 0 ? { totals: this.#totals() } : {}) });
       if (left > 0) await pause();
     } while (next < this.#left.length);
     this.#working = false;
-    this.#post({ totals: this.#totals() });
     this.#answered();
   }
 

@@ -1,5 +1,5 @@
 // The field: the numbers of its lines and the marks under what is refused. They stand in a mirror that lies below the field.
-import { $, element } from './elements.js';
+import { $, element, fill } from './elements.js';
 import { lineOf } from './answers.js';
 import { choose, chosenRow, state } from './state.js';
 
@@ -18,7 +18,6 @@ const mirror = $('mirror');
 const editor = $('editor');
 let starts = [0]; // where the lines begin
 let value = '';
-let keys = []; // what each line of the mirror shows
 let many = false;
 /** Where the field is scrolled to, and how high it is: to ask for it would lay out the page at each key. */
 let scrolled = { top: 0, left: 0, height: 0 };
@@ -65,23 +64,6 @@ function lineNode(i) {
   return element('div', { class: name || null, 'data-n': i + 1 }, ...(many ? [element('span', {}, ...inside)] : inside));
 }
 
-/** All lines stand in the mirror; those that changed are put anew. */
-function showWrapped() {
-  if (mirror.childNodes.length !== keys.length) keys = [];
-  if (keys.length === 0) mirror.replaceChildren();
-  const wanted = starts.map((_, i) => {
-    const { name, place } = marksOf(i);
-    return `${name} ${place} ${lineText(i)}`;
-  });
-  while (mirror.childNodes.length > wanted.length) mirror.lastChild.remove();
-  wanted.forEach((key, i) => {
-    if (key === keys[i]) return;
-    if (i < mirror.childNodes.length) mirror.childNodes[i].replaceWith(lineNode(i));
-    else mirror.append(lineNode(i));
-  });
-  keys = wanted;
-}
-
 /** The lines that are seen stand in the mirror, each at its height. */
 function showSeen() {
   const { top, left, height } = scrolled;
@@ -93,9 +75,8 @@ function showSeen() {
     node.style.setProperty('top', `${ABOVE + i * HEIGHT - top}px`);
     nodes.push(node);
   }
-  keys = [];
   mirror.style.setProperty('--left', `${-left}px`);
-  mirror.replaceChildren(...nodes);
+  fill(mirror, ...nodes);
 }
 
 function follow() {
@@ -104,27 +85,22 @@ function follow() {
   else mirror.scrollTop = text.scrollTop;
 }
 
-export function showMarks() {
+/** Shows the numbers of the lines and the marks. `soon`: the answers come soon, and the numbers are shown where they changed. */
+export function showMarks(soon = false) {
+  const lines = starts.length;
   if (text.value !== value) {
     value = text.value;
     starts = startsOf(value);
   }
   const wasMany = many;
   many = starts.length > WRAPPED || (value.length > WRAPPED_LENGTH && starts.length > 1);
-  if (many !== wasMany) {
-    editor.classList.toggle('many', many);
-    keys = [];
-  }
+  if (many !== wasMany) editor.classList.toggle('many', many);
+  if (many && soon && wasMany && starts.length === lines) return;
   if (many) {
     showSeen();
     return;
   }
-  if (value === '' || value.length > MARKED) {
-    keys = [];
-    mirror.replaceChildren();
-    return;
-  }
-  showWrapped();
+  fill(mirror, ...(value === '' || value.length > MARKED ? [] : starts.map((_, i) => lineNode(i))));
   mirror.scrollTop = scrolled.top;
 }
 

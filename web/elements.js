@@ -15,6 +15,23 @@ export function element(tag, attributes = {}, ...children) {
   return node;
 }
 
+/** Makes some nodes and words all that a node has. What is there already stays, so that the page isn't laid out anew. */
+export function fill(node, ...children) {
+  const made = document.createDocumentFragment();
+  made.append(...children.filter((child) => child !== ''));
+  let old = node.firstChild;
+  for (const it of [...made.childNodes]) {
+    const next = old?.nextSibling;
+    if (!old) node.append(it);
+    else if (!old.isEqualNode(it)) old.replaceWith(it);
+    old = next;
+  }
+  for (let next = old; next; next = old) {
+    old = next.nextSibling;
+    next.remove();
+  }
+}
+
 /** A button with words on it. */
 export function button(words, attributes, click) {
   const node = element('button', { class: 'button', type: 'button', ...attributes }, words);

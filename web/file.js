@@ -197,7 +197,7 @@ function finish(data) {
   const lines = data.lines - data.blank;
   others(data);
   const stopped = data.stopped ? 'Stopped: ' : '';
-  if (lines === 0) say('idle', `${short(name, 60)} has no text`);
+  if (lines === 0) say('idle', data.stopped ? 'Stopped before anything was answered' : `${short(name, 60)} has no text`);
   else if (lines === 1 && data.refused === 1) say('bad', 'The text is refused');
   else if (data.refused > 0) say('bad', `${stopped}${number(data.refused)} of ${count(lines, 'line')} refused`, repeatsInWords(data.repeats));
   else say('good', `${stopped}${lines === 1 ? 'The text is' : `All ${count(lines, 'line')}`} accepted`, lines === 1 ? '' : repeatsInWords(data.repeats));
@@ -213,7 +213,7 @@ function others({ forms, left, numbers, saved: parts, whys, refused }) {
   saved = parts && { parts };
   if (forms.length > 0) $('lists').prepend(element('div', { class: 'offer' }, ...offerOf(forms, (form) => readFile(file, more, form))));
   if (left.length > 0) $('lists').append(element('p', {}, leftWords(left)));
-  giveOf({ name: file.name.replace(/\.[^.]*$/, ''), lines: saved && linesOf, numbers, whys, refused });
+  giveOf({ name: file.name.replace(/\.[^.]*$/, ''), lines: saved ? linesOf : null, numbers, whys, refused });
 }
 
 /** Offers the canonical lines to be saved. */
@@ -233,14 +233,7 @@ function stop() {
   const stopped = worker;
   stopped?.postMessage({ stop: true });
   setTimeout(() => {
-    if (!stopped || stopped !== worker) return;
-    if (told?.lines > 0) {
-      finish({ ...told, stopped: true, forms: [], left: [], whys: [] });
-      return;
-    }
-    stopWorker();
-    $('stop').hidden = true;
-    say('idle', 'Stopped before anything was answered');
+    if (stopped && stopped === worker) finish({ lines: 0, blank: 0, refused: 0, ...told, repeats: 0, stopped: true, forms: [], left: [], whys: [] });
   }, PATIENCE);
 }
 

@@ -1,7 +1,7 @@
 // What is given out of all lines: their canonical texts, GeoJSON, or a table of the refusals; copied, or saved.
 import { lineOf, whenSettled } from './answers.js';
 import { copied } from './copy.js';
-import { $, count, number } from './elements.js';
+import { $, count, fill, number } from './elements.js';
 import { state } from './state.js';
 import { tableOf } from './features.js';
 import { started } from './workers.js';
@@ -39,7 +39,7 @@ export function showGive() {
   const form = chosen('form');
   $('give-refused').parentElement.hidden = form === 'csv';
   for (const name of ['rings', 'winding', 'm']) $(`give-${name}`).parentElement.hidden = form !== 'geojson';
-  $('given').textContent = '';
+  fill($('given'));
 }
 
 /** Makes it, in a worker: the blob, and what was left out of it. */

@@ -45,7 +45,7 @@ function analyse(here = false) {
 
 /** Shows the marks before the next frame, where they aren't shown with the answers. */
 function marksSoon() {
-  requestAnimationFrame(() => state.settled || showMarks());
+  requestAnimationFrame(() => state.settled || showMarks(true));
 }
 
 /** All is answered: shows it. */

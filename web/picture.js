@@ -1,6 +1,6 @@
 // The picture, as the page has it: a worker draws it and knows what is where. Here are the pointer, the keys and the words.
 import { tellDesk } from './answers.js';
-import { $, count, number } from './elements.js';
+import { $, count, fill, number } from './elements.js';
 import { choose, state } from './state.js';
 
 const canvas = $('canvas');
@@ -56,12 +56,12 @@ function drawnWords({ seen, sample, dashed, dotted }) {
 /** Takes what the worker says of what it has drawn. */
 export function takeDrawn(drawn) {
   told = drawn;
-  $('empty').textContent = told.seen ? '' : emptyWords(told);
+  fill($('empty'), told.seen ? '' : emptyWords(told));
   for (const id of ['fit', 'in', 'out-zoom']) $(id).disabled = !told.seen;
   canvas.setAttribute('aria-label', described(told));
   canvas.dataset.painted = told.painted;
   canvas.dataset.labels = JSON.stringify(told.labels ?? []);
-  $('drawn').textContent = drawnWords(told);
+  fill($('drawn'), drawnWords(told));
 }
 
 const digits = (n) => Number(n.toPrecision(6)).toLocaleString('en', { maximumSignificantDigits: 6 });
@@ -85,7 +85,7 @@ export function takeReadout(said) {
     return;
   }
   const words = said.id === undefined ? '' : readoutWords(said);
-  $('readout').textContent = words || said.place || '';
+  fill($('readout'), words || said.place || '');
   if (said.spoken) $('vertex').textContent = words;
 }
 

@@ -1,5 +1,5 @@
 // The table of lines. Only those that are seen, and some around them, stand in the document.
-import { $, button, colored, element, number, printable } from './elements.js';
+import { $, button, colored, element, fill, number, printable } from './elements.js';
 import { choose, state } from './state.js';
 import { withAxes } from './verdict.js';
 
@@ -56,18 +56,18 @@ function showSeen() {
   const nodes = shown.slice(first, last).map((i, k) => tableRow(state.rows[i], i, first + k));
   // By the keyboard one row is reached, and from it the others.
   if (nodes.length > 0 && !nodes.some((node) => node.tabIndex === 0)) nodes[0].tabIndex = 0;
-  $('rows').replaceChildren(...space(first), ...nodes, ...space(shown.length - last));
+  fill($('rows'), ...space(first), ...nodes, ...space(shown.length - last));
   if (focused) $('rows').querySelector('[tabindex="0"]')?.focus({ preventScroll: true });
 }
 
 export function showRows() {
   $('rows-card').hidden = state.rows.length < 2;
   if (state.rows.length < 2) {
-    $('rows').replaceChildren();
+    fill($('rows'));
     shown = [];
     return;
   }
-  $('filters').replaceChildren(...filterButtons());
+  fill($('filters'), ...filterButtons());
   shown = [];
   state.rows.forEach((row, i) => FILTERS[filter](row) && shown.push(i));
   $('table').setAttribute('aria-rowcount', shown.length + 1);

@@ -1,7 +1,7 @@
 // Whether the text is accepted, and why it isn't.
 import { STATUS } from '../javascript/src/index.js';
 import { lineOf } from './answers.js';
-import { $, count, element, listed, number, withCode, withoutCode, wordIn } from './elements.js';
+import { $, count, element, fill, listed, number, withCode, withoutCode, wordIn } from './elements.js';
 import { chosenRow, state } from './state.js';
 
 const line = (d, width) => `<svg viewBox="0 0 16 16"><path d="${d}" fill="none" stroke="currentColor" stroke-width="${width}" stroke-linecap="round" stroke-linejoin="round"/></svg>`;
@@ -15,7 +15,7 @@ let timer = 0;
 function speak(words) {
   clearTimeout(timer);
   timer = setTimeout(() => {
-    if ($('spoken').textContent !== words) $('spoken').textContent = words;
+    fill($('spoken'), words);
   }, QUIET);
 }
 
@@ -25,8 +25,8 @@ export function say(kind, words, ...why) {
     $('verdict').className = `verdict ${kind}`;
     $('badge').innerHTML = ICONS[kind];
   }
-  if ($('say').textContent !== words) $('say').textContent = words;
-  $('why').replaceChildren(...why);
+  fill($('say'), words);
+  fill($('why'), ...why);
   speak(`${words}. ${$('why').textContent}`);
 }
 
@@ -88,10 +88,10 @@ function showPlace(row) {
   $('caret').hidden = $('hint').hidden = $('message').hidden = !place;
   if (!place) return;
   const [text, mark] = place.caret.split('\n');
-  $('caret').replaceChildren(`${text}\n`, element('b', {}, `${mark} ${withoutCode(place.expected)} was expected`));
+  fill($('caret'), `${text}\n`, element('b', {}, `${mark} ${withoutCode(place.expected)} was expected`));
   $('hint').hidden = !place.hint;
-  $('hint').replaceChildren(element('b', {}, 'Why: '), ...withCode(place.hint || ''), '.');
-  $('message').textContent = `In the library’s words: ${row.words} (status ${row.status}).`;
+  fill($('hint'), element('b', {}, 'Why: '), ...withCode(place.hint || ''), '.');
+  fill($('message'), `In the library’s words: ${row.words} (status ${row.status}).`);
 }
 
 export function showVerdict() {
@@ -103,6 +103,6 @@ export function showVerdict() {
   showPlace(row);
   const refused = state.rows.reduce((n, it) => n + !it.accepted, 0);
   $('next').hidden = refused === 0;
-  $('next').textContent = refused > 1 ? 'Next refusal' : 'Show the place';
+  fill($('next'), refused > 1 ? 'Next refusal' : 'Show the place');
   $('text').setAttribute('aria-invalid', String(refused > 0));
 }

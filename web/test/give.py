@@ -16,8 +16,9 @@ TAKEN = [
     ('id,geom\n1,"LINESTRING(0 0,1 1)"\n2,POINT(1 2)', "Take column “geom”", "LINESTRING(0 0,1 1)\nPOINT(1 2)"),
     ("'POINT(1 2)',\n'POINT(3 4)'", "Take them off", "POINT(1 2)\nPOINT(3 4)"),
 ]
-# How many times the processor time of a bare field a key may take in the page, how many keys are tried, and how often.
-TIMES, KEYS, ROUNDS = 3, 10, 3
+# How many times the processor time of a bare field a key may take in the page, and its answer the time of a clock; how
+# many keys are tried, and how often. The least counts, so that the bounds hold on a busy machine too.
+TIMES, ANSWERED, KEYS, ROUNDS = 2, 8, 10, 3
 
 
 class Give(Page):
@@ -192,6 +193,6 @@ class Give(Page):
                 f"a key in 10,000 lines: {page:.0f} ms of the main thread, {bare:.0f} in a bare field;"
                 f" {answered:.0f} ms to the answer"
             )
-            if page < TIMES * bare:
+            if page < TIMES * bare and answered < ANSWERED * bare:
                 return
-        self.fail(f"a key took more than {TIMES} times what it takes in a bare field")
+        self.fail(f"a key took more than {TIMES} times what it takes in a bare field, or its answer {ANSWERED} times")
