@@ -1,8 +1,7 @@
 // The answers to what stands in the field: only what was changed is answered anew, in a worker.
 import { $ } from './elements.js';
 import { piecesOf } from './split.js';
-import { state } from './state.js';
-import { started } from './workers.js';
+import { started, state } from './state.js';
 
 export const places = () => Number($('places').value);
 

@@ -1,6 +1,6 @@
 // The texts of the field, in a worker: each is answered once. What the picture needs of the answers stays here.
-import { isRefusal } from './refusals.js';
-import { Range } from './range.js';
+import { isRefusal } from './block.js';
+import { Range, boundsOf } from './range.js';
 import { Summary } from './summary.js';
 
 /** For how many milliseconds it answers, before it looks what else is asked. */
@@ -19,17 +19,9 @@ export const pause = () => new Promise((go) => {
   if (waiting.push(go) === 1) channel.port2.postMessage(0);
 });
 
-const AXES = ['x', 'y', 'z', 'm'];
-
-const boundsOf = (ranges) => Object.fromEntries(AXES.map((name) => [name, ranges[name].empty ? null : [ranges[name].lowText, ranges[name].highText]]));
-
 /** What the page shows of a canonical text. */
-function factsOf(summary) {
-  const { kind, dimension, points, rings, polygons, holes, members, levels, empty, open, short, x, y, z, m } = summary;
-  const lines = summary.leaves.some((leaf) => !leaf.area && !leaf.dots);
-  return { kind, dimension, points, rings, polygons, holes, members, levels, empty, open, short, lines,
-    bounds: boundsOf({ x, y, z, m }) };
-}
+const factsOf = ({ leaves, x, y, z, m, ...counts }) =>
+  ({ ...counts, lines: leaves.some((leaf) => !leaf.area && !leaf.dots), bounds: boundsOf([x, y, z, m]) });
 
 export class Desk {
   /** The texts in their order: id, text, accepted, canonical, summary. One that isn't answered yet is not accepted. */
@@ -94,20 +86,15 @@ export class Desk {
 
   /** What all accepted texts hold together. */
   #totals() {
-    const all = { geometries: 0, points: 0 };
-    const ranges = Object.fromEntries(AXES.map((name) => [name, new Range()]));
+    const ranges = [0, 1, 2, 3].map(() => new Range());
+    let [geometries, points] = [0, 0];
     for (const { accepted, summary } of this.rows) {
       if (!accepted) continue;
-      all.geometries++;
-      all.points += summary.points;
-      for (const name of AXES) {
-        const [range, other] = [ranges[name], summary[name]];
-        if (other.empty) continue;
-        if (!range.within(other.low)) range.add(other.low, other.lowText);
-        if (!range.within(other.high)) range.add(other.high, other.highText);
-      }
+      geometries++;
+      points += summary.points;
+      [summary.x, summary.y, summary.z, summary.m].forEach((range, i) => ranges[i].join(range));
     }
-    return { ...all, bounds: boundsOf(ranges) };
+    return { geometries, points, bounds: boundsOf(ranges) };
   }
 
   /** What the picture shows of a row: its canonical text and what that holds, or those of the part before its refusal, or null. */

@@ -6,9 +6,8 @@ import { giveOf } from './give.js';
 import { leftWords, offerOf } from './offer.js';
 import { fit, showPoints } from './picture.js';
 import { splitOfFront } from './split.js';
-import { show, state } from './state.js';
+import { show, started, state } from './state.js';
 import { repeatsInWords, say } from './verdict.js';
-import { started } from './workers.js';
 
 /** So much of a file is looked at to see whether it is one geometry, and so much to see whether its lines are long. */
 const FRONT = 64 << 10, LONG = 1 << 20;

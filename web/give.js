@@ -1,10 +1,8 @@
 // What is given out of all lines: their canonical texts, GeoJSON, or a table of the refusals; copied, or saved.
 import { lineOf, whenSettled } from './answers.js';
-import { copied } from './copy.js';
-import { $, count, fill, number } from './elements.js';
-import { state } from './state.js';
+import { $, copied, count, fill, number } from './elements.js';
+import { started, state } from './state.js';
 import { tableOf } from './features.js';
-import { started } from './workers.js';
 
 /** A longer text isn't copied. */
 const COPIED = 16 << 20;

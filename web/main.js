@@ -2,9 +2,8 @@
 import { unpacked } from '../javascript/src/load.js';
 import { answer, askedSplit, places, setSplit, startDesk, takeTurned, whenSettled } from './answers.js';
 import { answerText, showCanonical, takeTotals } from './canonical.js';
-import { copy } from './copy.js';
 import { goToNextRefusal, goToPlace, rowAtCursor, showMarks, startEditor } from './editor.js';
-import { $, button, count, element } from './elements.js';
+import { $, button, copy, count, element } from './elements.js';
 import { EXAMPLES } from './examples.js';
 import { begin, closeFile, readFile, rereadFile, startFiles } from './file.js';
 import { showGive, startGiving } from './give.js';

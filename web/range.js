@@ -14,6 +14,9 @@ export function compare(a, b) {
   return less !== negative ? -1 : 1;
 }
 
+/** The ends of some ranges, of x, y, z and m, by their names; null where no number has such an axis. */
+export const boundsOf = (ranges) => Object.fromEntries(ranges.map(({ low, high, lowText, highText }, i) => ['xyzm'[i], low > high ? null : [lowText, highText]]));
+
 /** The least and the greatest of some numbers. Each is given as the double nearest to it, and as its text. */
 export class Range {
   low = Infinity;
@@ -28,6 +31,13 @@ export class Range {
   /** Whether a number with this double is surely neither the least nor the greatest. */
   within(value) {
     return value > this.low && value < this.high;
+  }
+
+  /** Takes what another has. */
+  join({ low, high, lowText, highText }) {
+    if (low > high) return;
+    this.add(low, lowText);
+    this.add(high, highText);
   }
 
   add(value, text) {

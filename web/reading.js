@@ -1,9 +1,8 @@
 // Reads a file in a worker, and joins what some workers count in its blocks. The file is read in pieces; nothing of it is
 // kept but what is counted, listed, and saved.
 import { joined } from '../javascript/src/lines.js';
-import { Blocks } from './block.js';
-import { Range } from './range.js';
-import { ASKED, LISTED } from './refusals.js';
+import { ASKED, Blocks, LISTED } from './block.js';
+import { Range, boundsOf } from './range.js';
 import { Repeats, WORDS, lineEnd } from './repeats.js';
 import { piecesOf } from './split.js';
 import { LOOKED, formsOf, turned } from './takein.js';
@@ -31,23 +30,11 @@ function noText([a, b, c, d]) {
   return '';
 }
 
-/** The blocks of another worker, as those of this one are asked. */
-export class FarBlocks {
-  #port;
-  #done = null;
-
-  constructor(port) {
-    this.#port = port;
-    port.onmessage = ({ data }) => (data.failed ? this.#done.reject(new Error(data.failed)) : this.#done.resolve(data));
-  }
-
-  ask(asked) {
-    return new Promise((resolve, reject) => {
-      this.#done = { resolve, reject };
-      this.#port.postMessage(asked, asked.bytes ? [asked.bytes.buffer] : []);
-    });
-  }
-}
+/** Asks another worker, one thing at a time. */
+const asking = (port) => (asked) => new Promise((resolve, reject) => {
+  port.onmessage = ({ data }) => (data.failed ? reject(new Error(data.failed)) : resolve(data));
+  port.postMessage(asked, asked.bytes ? [asked.bytes.buffer] : []);
+});
 
 /** What a worker is asked for: the answers to a block, and what it has counted so far. */
 export function answered(blocks, { bytes, whole, ask, counted }) {
@@ -92,9 +79,8 @@ export class Reading {
     this.#file = asked.file;
     this.#post = post;
     this.#local = new Blocks(wkt, { places: asked.places, seeds });
-    this.#workers = asked.ports.map((port) => new FarBlocks(port));
     for (const port of asked.ports) port.postMessage({ seeds });
-    if (this.#workers.length === 0) this.#workers = [{ ask: async (it) => answered(this.#local, it) }];
+    this.#workers = asked.ports.length > 0 ? asked.ports.map(asking) : [async (it) => answered(this.#local, it)];
     this.#repeats = new Repeats((place, length) => this.#lineAt(place, length));
   }
 
@@ -167,7 +153,7 @@ export class Reading {
         const bytes = await this.#lines(whole);
         if (this.stopping) break;
         const worker = free.pop();
-        waiting.push({ place, to: this.#read, worker, answer: worker.ask({ bytes, whole, ask: Math.max(0, ASKED - this.#count.refused), counted: this.#isTime(LISTS) }) });
+        waiting.push({ place, to: this.#read, worker, answer: worker({ bytes, whole, ask: Math.max(0, ASKED - this.#count.refused), counted: this.#isTime(LISTS) }) });
       }
       if (waiting.length === 0) break;
       const { place, to, worker, answer } = waiting.shift();
@@ -175,7 +161,7 @@ export class Reading {
       free.push(worker);
       this.#tell(false);
     }
-    for (const worker of this.#workers) this.#counted.set(worker, (await worker.ask({ counted: true })).counted);
+    for (const worker of this.#workers) this.#counted.set(worker, (await worker({ counted: true })).counted);
   }
 
   #isTime(ms) {
@@ -261,14 +247,9 @@ function summed(counted) {
   for (const part of counted) {
     points += part.points;
     for (const [name, n] of Object.entries(part.kinds)) kinds[name] = (kinds[name] ?? 0) + n;
-    part.ranges.forEach((ends, i) => {
-      if (!ends) return;
-      ranges[i].add(ends[0], ends[1]);
-      ranges[i].add(ends[2], ends[3]);
-    });
+    part.ranges.forEach((range, i) => ranges[i].join(range));
   }
-  const [x, y, z, m] = ranges.map((range) => (range.empty ? null : [range.lowText, range.highText]));
-  return { kinds, points, bounds: { x, y, z, m }, sample: sampleOf(counted, points) };
+  return { kinds, points, bounds: boundsOf(ranges), sample: sampleOf(counted, points) };
 }
 
 /** Points of all samples, of each as many as its part of all points is. */

@@ -28,8 +28,8 @@ export class Repeats {
   #lineAt;
   // Of each line that may be a repeat, or be repeated: its block, where its words are there, and 1 and the number of the
   // earlier one, or 0.
-  #block = new Int32Array(0);
-  #at = new Int32Array(0);
+  #block = [];
+  #at = [];
   #earlier = new Int32Array(0);
   #table = new Int32Array(1); // by their hashes, 1 and their numbers
   #doubts = [];
@@ -87,18 +87,14 @@ export class Repeats {
         met[at] |= bit;
       }
     }
-    const [blocks, places] = [[], []];
     this.#blocks.forEach(({ words }, block) => {
-      const at = new Int32Array(words.length / WORDS);
-      let n = 0;
       for (let i = 0; i < words.length; i += WORDS) {
         const high = words[i + HIGH];
-        if ((again[(high >>> 5) & fewer] & (1 << high)) !== 0) at[n++] = i;
+        if ((again[(high >>> 5) & fewer] & (1 << high)) === 0) continue;
+        this.#block.push(block);
+        this.#at.push(i);
       }
-      places.push(at.slice(0, n));
-      blocks.push(new Int32Array(n).fill(block));
     });
-    [this.#block, this.#at] = [joined(blocks), joined(places)];
     return this.#at.length;
   }
 
@@ -174,17 +170,6 @@ export class Repeats {
 function same(one, from, other, at) {
   for (let n = 0; one[from + n] === other[at + n]; n++) if (one[from + n] === FEED) return true;
   return false;
-}
-
-/** Some arrays as one. */
-function joined(parts) {
-  const all = new Int32Array(parts.reduce((n, part) => n + part.length, 0));
-  let at = 0;
-  for (const part of parts) {
-    all.set(part, at);
-    at += part.length;
-  }
-  return all;
 }
 
 /** The end of the line that begins at `from`, which is its line feed or the end of the bytes. */

@@ -1,6 +1,7 @@
 // Which lines of a text are one geometry.
+import { KIND_WORDS } from '../javascript/src/names.js';
 
-const KINDS = new Set(['POINT', 'LINESTRING', 'POLYGON', 'MULTIPOINT', 'MULTILINESTRING', 'MULTIPOLYGON', 'GEOMETRYCOLLECTION']);
+const KINDS = new Set(KIND_WORDS);
 const AFTER_HEADER = new Set(['Z', 'M', 'ZM', 'EMPTY']);
 const OPEN = 40, CLOSE = 41;
 

@@ -1,4 +1,5 @@
-// What the page shows, and who shows it.
+// What the page shows, who shows it, and the workers, whose scripts stand in the page.
+import { $ } from './elements.js';
 
 export const state = {
   /** The module, for workers. */
@@ -27,4 +28,13 @@ export const chosenRow = () => state.rows[state.chosen];
 export function choose(i) {
   state.chosen = i;
   show();
+}
+
+/** Starts a worker in a role, with what its first message has beside the module. */
+export function started(role, asked = {}, moved = []) {
+  const address = URL.createObjectURL(new Blob([$('core').textContent, '\n', $('worker').textContent], { type: 'text/javascript' }));
+  const worker = new Worker(address);
+  URL.revokeObjectURL(address);
+  worker.postMessage({ role, module: state.module, ...asked }, moved);
+  return worker;
 }

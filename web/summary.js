@@ -1,11 +1,8 @@
 // What a canonical text holds: counts, bounds, and coordinates for the picture. Ordinary JavaScript, over canonical text
 // alone, which has one form: kind words in capitals, single spaces, and numbers as JSON has them.
+import { KINDS, KIND_WORDS } from '../javascript/src/names.js';
 import { Range } from './range.js';
 
-const KINDS = {
-  POINT: 'Point', LINESTRING: 'LineString', POLYGON: 'Polygon', MULTIPOINT: 'MultiPoint', MULTILINESTRING: 'MultiLineString',
-  MULTIPOLYGON: 'MultiPolygon', GEOMETRYCOLLECTION: 'GeometryCollection',
-};
 // How deep the parentheses around a list of points are.
 const DEPTH = { POINT: 1, LINESTRING: 1, POLYGON: 2, MULTIPOINT: 2, MULTILINESTRING: 2, MULTIPOLYGON: 3 };
 const OPEN = 40, CLOSE = 41, COMMA = 44, SPACE = 32, LETTERS = 65;
@@ -43,7 +40,7 @@ export class Summary {
     while (at < text.length) {
       const header = this.#header(at);
       if (at === 0) {
-        this.kind = KINDS[header.word];
+        this.kind = KINDS[KIND_WORDS.indexOf(header.word)];
         this.dimension = header.dimension;
       }
       if (level > 0) this.members++;

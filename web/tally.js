@@ -1,4 +1,5 @@
 // What is counted of the canonical texts of a file, in one walk over each.
+import { KINDS } from '../javascript/src/names.js';
 import { Range } from './range.js';
 
 /** How many points of a file are drawn. */
@@ -8,7 +9,6 @@ const DIGITS = 9;
 const POWERS = Float64Array.from({ length: DIGITS + 1 }, (_, n) => 10 ** n);
 /** Doubles of numbers are this near to them, as a part of the greatest. */
 const NEAR = 1e-13;
-const NAMES = ['Point', 'LineString', 'Polygon', 'MultiPoint', 'MultiLineString', 'MultiPolygon', 'GeometryCollection'];
 const ONE = 0x85ebca6b, OTHER = 0xc2b2ae35;
 /** Where the ends of each axis stand. */
 const X = 0, Y = 2, Z = 4, M = 6;
@@ -44,7 +44,7 @@ export class Tally {
   low = 0;
   high = 0;
 
-  #counts = new Array(NAMES.length).fill(0);
+  #counts = new Array(KINDS.length).fill(0);
   #seeds;
   /** A double between these two is surely neither the least nor the greatest of its axis. */
   #inner = new Float64Array(8).fill(Infinity);
@@ -64,7 +64,7 @@ export class Tally {
   }
 
   get kinds() {
-    return Object.fromEntries(NAMES.map((name, i) => [name, this.#counts[i]]).filter(([, n]) => n > 0));
+    return Object.fromEntries(KINDS.map((name, i) => [name, this.#counts[i]]).filter(([, n]) => n > 0));
   }
 
   /**

@@ -2,6 +2,7 @@
 import assert from 'node:assert/strict';
 import { test } from 'node:test';
 import { load } from '../../javascript/src/node.js';
+import { Blocks } from '../block.js';
 import { asRfc7946, cell, formed, tableOf } from '../features.js';
 import { describe, found, lengthOf, stepped } from '../hit.js';
 import { Summary } from '../summary.js';
@@ -125,4 +126,14 @@ test('what lies at a place of the picture', () => {
     seen.push(describe(place).digits);
   }
   assert.deepEqual([seen[0], seen[1], seen[5], seen[10]], ['0 0', '10 0', '2 2', '0 0']);
+});
+
+// Lines of a file, and where they are refused: the column, 0 where a line is accepted, or null where it is blank.
+const FILE = [['POINT(1 2) ', 0], ['POINT EMPTY (1)', 13], ['POINT EMPTY \r', 0], ['', null], ['POINT(1 2) 3', 12], ['POINT(1 2) POINT(3 4)', 12], ['MULTIPOINT(1 2, EMPTY)\t', 0],
+  ['POINT(1', 8], ['GEOMETRYCOLLECTION(POINT EMPTY) x', 33], ['polygon z empty', 0], ['POLYGON((0 0,1 1,1 0,0 0),(0 0,1 1,1 0,0 0))', 0]];
+test('a line of a file is refused where more than white space follows its geometry', () => {
+  const bytes = new TextEncoder().encode(FILE.map(([line]) => line).join('\n'));
+  const { refusals, lines, blank } = new Blocks(wkt, { places: 18 }).lines(bytes, 100);
+  assert.deepEqual(refusals.whys.map(({ line, column }) => [line, column]), FILE.flatMap(([, column], i) => (column > 0 ? [[i + 1, column]] : [])));
+  assert.deepEqual([lines, blank], [FILE.length, 1]);
 });
