@@ -192,7 +192,9 @@ function repeats(data, { repeats: first, entered }) {
 
 function finish(data) {
   stopWorker();
+  const focused = document.activeElement === $('stop');
   $('stop').hidden = true;
+  if (focused) $('h-file').focus();
   const lines = data.lines - data.blank;
   others(data);
   const stopped = data.stopped ? 'Stopped: ' : '';

@@ -50,7 +50,7 @@ function made(from) {
     worker.onmessage = ({ data }) => {
       if (data.failed) fail(new Error(data.failed));
       else if (data.blob) done(data);
-      else $('given').textContent = `${Math.round((100 * data.done) / Math.max(1, data.size))} %`;
+      else fill($('giving'), `${Math.round((100 * data.done) / Math.max(1, data.size))} %`);
     };
     worker.onerror = (event) => fail(new Error(event.message));
   });
@@ -79,6 +79,7 @@ async function give(how) {
   } catch (error) {
     $('given').textContent = error.message;
   }
+  fill($('giving'));
   for (const id of ['give-copy', 'give-save']) $(id).disabled = false;
 }
 

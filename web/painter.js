@@ -266,7 +266,9 @@ export class Painter {
     const color = refused ? this.#colors.bad : this.#colors.shapes[i % 8];
     to.globalAlpha = this.#single && !on && this.#desk.rows.length > 1 ? 0.22 : 1;
     const dotted = all <= DOTTED || (on && summary.points <= DOTTED);
-    for (const leaf of summary.leaves) pen.leaf(leaf, { color, card: this.#colors.card, refused, dotted });
+    const ended = !refused && (dotted || (on && summary.rings <= DOTTED));
+    for (const leaf of summary.leaves) pen.leaf(leaf, { color, card: this.#colors.card, refused, dotted, ended });
+    this.#words.ended ||= ended && summary.rings > 0;
     if (refused) pen.cross(summary, color);
     to.globalAlpha = 1;
   }
@@ -282,8 +284,7 @@ export class Painter {
   /** What the page says beside the picture. */
   #told(shapes) {
     const first = shapes.slice(0, 4).map(({ row, summary }) => ({ refused: !row.accepted, kind: summary.kind, points: summary.points }));
-    const all = shapes.reduce((n, { summary }) => n + summary.points, 0);
-    return { seen: Boolean(this.#view), shapes: shapes.length, first, dotted: all > 0 && all <= DOTTED && shapes.some(({ row, summary }) => row.accepted && summary.rings > 0),
-      dashed: shapes.some(({ row }) => !row.accepted), sample: this.#points ? this.#points.xy.length / 2 : null };
+    return { seen: Boolean(this.#view), shapes: shapes.length, first, ended: false, dashed: shapes.some(({ row }) => !row.accepted),
+      sample: this.#points ? this.#points.xy.length / 2 : null };
   }
 }

@@ -119,7 +119,7 @@ export class Pen {
   }
 
   /** A geometry that is no collection, in one colour. */
-  leaf({ dots, area, rings, ends }, { color, card, refused, dotted }) {
+  leaf({ dots, area, rings, ends }, { color, card, refused, dotted, ended }) {
     const { to } = this;
     to.fillStyle = to.strokeStyle = color;
     if (dots) {
@@ -137,9 +137,8 @@ export class Pen {
     for (const ring of rings) this.path(ring, false);
     to.stroke();
     to.setLineDash([]);
-    if (!dotted) return;
-    this.#filled(() => rings.forEach((ring) => this.dots(ring, 2.3)), 1);
-    if (!refused) for (const ring of rings) this.#ends(ring, card);
+    if (dotted) this.#filled(() => rings.forEach((ring) => this.dots(ring, 2.3)), 1);
+    if (ended) for (const ring of rings) this.#ends(ring, card);
   }
 
   /** A ring around the first vertex of a line, and a square around the last. */

@@ -47,10 +47,10 @@ function emptyWords({ sample, shapes }) {
 }
 
 /** What the picture shows, in words beside its heading. */
-function drawnWords({ seen, sample, dashed, dotted }) {
+function drawnWords({ seen, sample, dashed, ended }) {
   if (!seen) return '';
   if (sample !== null) return sample < pointsOfFile ? `${number(sample)} of ${count(pointsOfFile, 'point')}, to scale` : 'points only, to scale';
-  return ['to scale, y up', dotted && '○ first, □ last vertex', dashed && 'dashed: before a refusal'].filter(Boolean).join('; ');
+  return ['to scale, y up', ended && '○ first, □ last vertex', dashed && 'dashed: before a refusal'].filter(Boolean).join('; ');
 }
 
 /** Takes what the worker says of what it has drawn. */

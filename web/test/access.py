@@ -45,11 +45,12 @@ class Access(Page):
         self.script("localStorage.clear()")
 
     def test_contrast_of_the_picture(self):
-        """Lines have three to one (WCAG 1.4.11), and the digits beside the axes 4.5."""
+        """Lines, and edges of buttons, have three to one (WCAG 1.4.11); digits at axes and beside the text have 4.5."""
         self.open()
         for theme in ("light", "dark"):
             self.script("document.documentElement.dataset.theme = arguments[0]", theme)
-            wanted = {**{f"c{i}": 3 for i in range(8)}, "bad": 3, "ink": 3, "faint": 4.5}
+            wanted = {**{f"c{i}": 3 for i in range(8)}, "ink": 3, "strong": 3}
+            wanted |= {name: 4.5 for name in ("bad", "good", "note", "faint")}  # the numbers of lines
             found = self.script(RATIO + "return arguments[0].map((name) => ratio(name, 'card'))", list(wanted))
             for (name, least), ratio in zip(wanted.items(), found):
                 self.assertGreaterEqual(ratio, least, f"{theme} {name}")

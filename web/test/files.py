@@ -163,23 +163,28 @@ class Files(Page):
         os.remove(path)
 
     def test_stop(self):
-        """What was read before one stopped is shown."""
+        """What was read before one stopped is shown; a long line is stopped too."""
         stop = """
             new MutationObserver((_, observer) => {
               if (!document.getElementById('told')?.textContent) return;
               observer.disconnect();
+              document.getElementById('stop').focus();
               document.getElementById('stop').click();
             }).observe(document.getElementById('file-out'), { childList: true, subtree: true });
             const event = new Event('drop', { cancelable: true });
-            event.dataTransfer = { files: [new File(['POINT(1 2)\\n'.repeat(4e6)], 'long.wkt')], types: ['Files'] };
+            event.dataTransfer = { files: [new File(arguments[0].map(([text, n]) => text.repeat(n)), 'long.wkt')], types: ['Files'] };
             dispatchEvent(event);
         """
 
         def stopped():
             self.open()
-            self.script(stop)
+            self.script(stop, [["POINT(1 2)\n", 4000000]])
             said = self.wait(lambda: re.match("(Stopped: )?All (.*) lines accepted", self.said("say")))
             return said[1] and 0 < int(said[2].replace(",", "")) < 4000000
 
         # On a busy machine the worker may be done before the page hears of its first part.
         self.assertTrue(any(stopped() for _ in range(5)))
+        self.open()
+        self.script(stop, [["LINESTRING(", 1], ["1 2,", 20000000], ["1 2)\n", 1]])
+        self.wait(lambda: self.said("say").startswith("Stopped"))
+        self.assertEqual("h-file", self.script("return document.activeElement.id"))

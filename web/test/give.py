@@ -61,7 +61,9 @@ class Give(Page):
         self.drop(self.file("\n".join(["POINT(1 2)", "POINT(1)"] * 30000)))
         self.wait(lambda: self.said("say") == "30,000 of 60,000 lines refused")
         self.choose(form="geojson", refused="drop")
+        self.hear("given")
         features = json.loads(self.saved("texts.geojson"))["features"]
+        self.assertEqual(["Saved. 30,000 refused lines left out."], list(filter(None, self.heard())))
         self.assertEqual((30000, 59999), (len(features), features[-1]["properties"]["line"]))
         self.choose(form="csv")
         self.assertEqual(20001, self.saved("texts.refusals.csv").count("\r\n"))
