@@ -4,7 +4,6 @@ import { joined } from '../javascript/src/lines.js';
 import { ASKED, Blocks, LISTED } from './block.js';
 import { Range, boundsOf } from './range.js';
 import { Repeats, WORDS, lineEnd } from './repeats.js';
-import { piecesOf } from './split.js';
 import { LOOKED, formsOf, turned } from './takein.js';
 import { SAMPLE, Tally } from './tally.js';
 
@@ -112,12 +111,6 @@ export class Reading {
     } catch {
       throw new Unreadable('It is not UTF-8.');
     }
-    if (form.form === 'pieces') {
-      const { texts, lines } = piecesOf(text, 'auto');
-      this.#numbers = lines;
-      this.#file = new Blob([texts.map((it) => it.replaceAll('\n', ' ')).join('\n')]);
-      return;
-    }
     const { texts, lines, left } = turned(text, form, this.#wkt, this.#asked.places);
     this.#numbers = lines;
     this.#left = left;
@@ -190,27 +183,17 @@ export class Reading {
   }
 
   // The part of the file that was read last, since the next line is often in it.
-  #near = { place: 0, bytes: new Uint8Array(0) };
+  #near = { start: 0, bytes: new Uint8Array(0) };
 
   /** The canonical text, with a line feed, of the line that begins at a place of the file. */
   #lineAt(place, length) {
-    let bytes;
-    let end;
-    do {
-      bytes = this.#slice(place, length);
-      end = lineEnd(bytes, 0);
-      length *= 2;
-    } while (end === bytes.length && place + end < this.#file.size);
-    return this.#local.lineOf(bytes.subarray(0, end));
-  }
-
-  #slice(place, length) {
-    const { place: start, bytes } = this.#near;
-    const from = place - start;
-    if (from >= 0 && from < bytes.length && lineEnd(bytes, from) < bytes.length) return bytes.subarray(from);
-    const read = new Uint8Array(this.#reader.readAsArrayBuffer(this.#file.slice(place, place + length)));
-    this.#near = { place, bytes: read };
-    return read;
+    for (let more = length; ; more *= 2) {
+      const { start, bytes } = this.#near;
+      const from = place - start;
+      const end = from >= 0 && from < bytes.length ? lineEnd(bytes, from) : bytes.length;
+      if (end < bytes.length || (start === place && bytes.length >= this.#file.size - place)) return this.#local.lineOf(bytes.subarray(from, end));
+      this.#near = { start: place, bytes: new Uint8Array(this.#reader.readAsArrayBuffer(this.#file.slice(place, place + more))) };
+    }
   }
 
   /** Says how far it is: often in numbers, and less often what is listed and drawn. */

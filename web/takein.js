@@ -1,7 +1,7 @@
 // Texts in other clothes: GeoJSON, a column of a CSV, quotes, a byte order mark. What is there is said; a button turns it.
 import { GeoJSONError } from '../javascript/src/index.js';
 import { parseExact } from '../javascript/src/json.js';
-import { firstWord, isKind } from './split.js';
+import { firstWord, isKind, piecesOf } from './split.js';
 
 /** So much of a text is looked at, and so many records of it. */
 export const LOOKED = 16384;
@@ -184,6 +184,7 @@ export function turned(text, form, wkt, places) {
     geojson: () => ofGeoJSON(whole, wkt, places),
     quotes: () => ofQuotes(whole),
     csv: () => ofCsv(whole, form),
+    pieces: () => ({ ...piecesOf(text, 'auto'), left: [] }),
   }[form.form]();
   return { texts: texts.map((it) => it.replaceAll('\n', ' ')), lines, left };
 }
