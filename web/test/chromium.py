@@ -183,9 +183,13 @@ class Page(unittest.TestCase):
 
     def main_thread(self):
         """The processor time of the page's main thread so far, in milliseconds; nothing that its workers take."""
+        return 1000 * self.metric("TaskDuration")
+
+    def metric(self, name):
+        """One of Chromium's figures; ProcessTime is the processor time of all threads of the page, in seconds."""
         self.driver.execute_cdp_cmd("Performance.enable", {"timeDomain": "threadTicks"})
         found = self.driver.execute_cdp_cmd("Performance.getMetrics", {})["metrics"]
-        return 1000 * next(it["value"] for it in found if it["name"] == "TaskDuration")
+        return next(it["value"] for it in found if it["name"] == name)
 
     def press(self, *keys):
         webdriver.ActionChains(self.driver).send_keys(*keys).perform()
