@@ -108,7 +108,7 @@ export class Painter {
     return b.x0 > b.x1 ? null : b;
   }
 
-  /** Shows all of it. */
+  /** Shows all of it, as soon as it is drawn. */
   fit() {
     const b = this.#bounds(this.#shapes());
     this.#view = null;
@@ -122,7 +122,6 @@ export class Painter {
       const s = Math.min((w - PAD.left - PAD.right) * part / (dx || dy * 1e-9), (h - PAD.top - PAD.bottom) * part / (dy || dx * 1e-9));
       this.#view = { x: (b.x0 + b.x1) / 2, y: (b.y0 + b.y1) / 2, s };
     }
-    this.draw();
   }
 
   #zoom(factor, px = this.#size.w / 2, py = this.#size.h / 2) {

@@ -22,6 +22,7 @@ function wordsOf(error) {
 async function desk({ module, canvas }) {
   const wkt = await load(module);
   let painter = null;
+  // It is drawn when the page has shown the answers, and says which is chosen.
   const ready = new Desk(wkt, post, () => painter.fit());
   painter = new Painter(ready, post, canvas);
   return (asked) => {
