@@ -14,7 +14,7 @@ const FRONT = 64 << 10, LONG = 1 << 20;
 /** For each part of a file of that size there is one worker more, up to so many. */
 const PER_WORKER = 16 << 20, MOST_WORKERS = 4;
 /** A worker that was asked to stop, and hasn't in so many milliseconds, is ended. */
-const PATIENCE = 1500;
+const PATIENCE = 2000;
 
 const WITHOUT_FILE = $('text').placeholder;
 
@@ -198,10 +198,11 @@ function finish(data) {
   const lines = data.lines - data.blank;
   others(data);
   const stopped = data.stopped ? 'Stopped: ' : '';
+  const repeated = data.repeats === null ? 'Repeats were not looked for.' : repeatsInWords(data.repeats);
   if (lines === 0) say('idle', data.stopped ? 'Stopped before anything was answered' : `${short(name, 60)} has no text`);
   else if (lines === 1 && data.refused === 1) say('bad', 'The text is refused');
-  else if (data.refused > 0) say('bad', `${stopped}${number(data.refused)} of ${count(lines, 'line')} refused`, repeatsInWords(data.repeats));
-  else say('good', `${stopped}${lines === 1 ? 'The text is' : `All ${count(lines, 'line')}`} accepted`, lines === 1 ? '' : repeatsInWords(data.repeats));
+  else if (data.refused > 0) say('bad', `${stopped}${number(data.refused)} of ${count(lines, 'line')} refused`, repeated);
+  else say('good', `${stopped}${lines === 1 ? 'The text is' : `All ${count(lines, 'line')}`} accepted`, lines === 1 ? '' : repeated);
   offer(data);
 }
 
@@ -234,7 +235,7 @@ function stop() {
   const stopped = worker;
   stopped?.postMessage({ stop: true });
   setTimeout(() => {
-    if (stopped && stopped === worker) finish({ lines: 0, blank: 0, refused: 0, ...told, repeats: 0, stopped: true, forms: [], left: [], whys: [] });
+    if (stopped && stopped === worker) finish({ lines: 0, blank: 0, refused: 0, ...told, repeats: null, stopped: true, forms: [], left: [], whys: [] });
   }, PATIENCE);
 }
 

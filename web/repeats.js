@@ -7,8 +7,6 @@ export const WORDS = 5;
 const LOW = 0, HIGH = 1, AT = 2, FROM = 3, LINE = 4;
 /** How far apart two lines may be that are read from the file at once. */
 const NEAR = 64 << 10;
-/** So many lines, read from the file, are compared at once. */
-const DOUBTS = 2 ** 19;
 const FEED = 10;
 
 export class Repeats {
@@ -25,6 +23,7 @@ export class Repeats {
   #left; // how many bytes more of answers are kept
   #most;
   #shown;
+  #far; // how many bytes of canonical text, read from the file, are compared at once
   #lineAt;
   // Of each line that may be a repeat, or be repeated: its block, where its words are there, and 1 and the number of the
   // earlier one, or 0.
@@ -33,16 +32,18 @@ export class Repeats {
   #earlier = new Int32Array(0);
   #table = new Int32Array(1); // by their hashes, 1 and their numbers
   #doubts = [];
+  #doubted = 0; // how many bytes of text they have, about
 
   /**
    * @param {(place: number, length: number) => Uint8Array} lineAt the canonical text and line feed of the line that begins at
    *   a place of the file; of the file, `length` bytes may be read at once
    */
-  constructor(lineAt, { memory = 256 << 20, most = 2 ** 25, shown = 100 } = {}) {
+  constructor(lineAt, { memory = 256 << 20, most = 2 ** 25, shown = 100, far = 32 << 20 } = {}) {
     this.#lineAt = lineAt;
     this.#left = memory;
     this.#most = most;
     this.#shown = shown;
+    this.#far = far;
   }
 
   /** Takes the words of a block's lines and their answers. It begins behind so many lines, and at a place of the file. */
@@ -51,7 +52,7 @@ export class Repeats {
     if (this.full) return;
     const kept = answers.length <= this.#left;
     if (kept) this.#left -= answers.length;
-    this.#blocks.push({ words, answers: kept ? answers : null, lines, place });
+    this.#blocks.push({ words, answers: kept ? answers : null, size: answers.length, lines, place });
     this.entered += words.length / WORDS;
   }
 
@@ -64,7 +65,7 @@ export class Repeats {
     this.#earlier = new Int32Array(n);
     for (let i = 0; i < n; i++) {
       this.#seek(i, this.#word(i, LOW));
-      if (this.#doubts.length === DOUBTS) this.#settle();
+      if (this.#doubted > this.#far) this.#settle();
     }
     this.#settle();
     for (let i = 0; i < n && this.first.length < this.#shown; i++) {
@@ -120,6 +121,7 @@ export class Repeats {
       if (words[k + LOW] !== block.words[at + LOW] || words[k + HIGH] !== block.words[at + HIGH]) continue;
       if (!answers || !block.answers) {
         this.#doubts.push({ slot, i, other, text: null });
+        this.#doubted += (block.words[at + WORDS + AT] ?? block.size) - block.words[at + AT];
         return;
       }
       if (same(answers, words[k + AT], block.answers, block.words[at + AT])) {
@@ -139,7 +141,7 @@ export class Repeats {
     // A text that isn't the same goes on through the table, and may meet another that is left.
     while (this.#doubts.length > 0) {
       const doubts = this.#doubts.sort((a, b) => a.i - b.i);
-      this.#doubts = [];
+      [this.#doubts, this.#doubted] = [[], 0];
       this.#read(doubts, ({ i }) => i, (doubt, text) => { doubt.text = text; });
       doubts.sort((a, b) => a.other - b.other || a.i - b.i);
       this.#read(doubts, ({ other }) => other, ({ slot, i, other, text }, otherText) => {

@@ -141,7 +141,7 @@ const good = (line) => {
   return [low, high];
 };
 
-for (const [name, settings] of [['in memory', {}], ['in the file', { memory: 0 }]]) {
+for (const [name, settings] of [['in memory', {}], ['in the file', { memory: 0 }], ['in the file, some at a time', { memory: 0, far: 1000 }]]) {
   test(`repeats by texts ${name}`, () => {
     const lines = random(20000, 9000);
     const { repeats, reads, wanted } = check(lines, good, settings);
