@@ -1,7 +1,7 @@
 // A file: its answers as the worker finds them.
 import { askedSplit, forget, places } from './answers.js';
 import { boundsInWords } from './canonical.js';
-import { $, count, element, number, printable, short, withoutCode, wordIn } from './elements.js';
+import { $, count, element, fill, number, printable, short, withoutCode, wordIn } from './elements.js';
 import { giveOf } from './give.js';
 import { leftWords, offerOf } from './offer.js';
 import { fit, showPoints } from './picture.js';
@@ -140,14 +140,14 @@ function take(data) {
   const rate = done / 1e6 / Math.max(data.seconds, 1e-3);
   $('told').textContent = done === 0 && read > 0 ? `${megabytes(read)} of ${megabytes(size)} MB read`
     : `${megabytes(done)} of ${megabytes(size)} MB in ${data.seconds.toFixed(1)} s, ${rate < 10 ? rate.toFixed(1) : number(Math.round(rate))} MB/s`;
-  $('meter').replaceChildren(cell('lines', data.lines), cell('accepted', data.accepted), cell('refused', data.refused, 'bad-text'),
+  fill($('meter'), cell('lines', data.lines), cell('accepted', data.accepted), cell('refused', data.refused, 'bad-text'),
     cell('repeats', data.repeats, 'note-text'), cell('points', data.lists?.points ?? 0), ...(data.blank > 0 ? [cell('blank', data.blank)] : []));
   if (data.lists) takeLists(data, data.lists);
   if (data.last) finish(data);
 }
 
 function takeLists(data, lists) {
-  $('lists').replaceChildren(...kindsAndBounds(lists), ...reasons(data, lists), ...refusals(data, lists), ...repeats(data, lists));
+  fill($('lists'), ...kindsAndBounds(lists), ...reasons(data, lists), ...refusals(data, lists), ...repeats(data, lists));
   showPoints(lists.sample, lists.points);
   if (!drawn || data.last) fit();
   drawn = lists.points > 0;
