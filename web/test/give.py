@@ -18,7 +18,7 @@ TAKEN = [
 ]
 # How many times the processor time of a bare field a key may take in the page, and its answer the time of a clock; how
 # many keys are tried, and how often. The least counts, so that the bounds hold on a busy machine too.
-TIMES, ANSWERED, KEYS, ROUNDS = 2, 20, 10, 3
+TIMES, ANSWERED, KEYS, ROUNDS = 2.5, 20, 10, 3
 
 
 class Give(Page):
