@@ -1,11 +1,14 @@
 /* Well-known text, read and written by proved code: one text for one geometry, exact decimals, exact refusals.
  *
- * Numbers are decimals with up to `places` digits after the point, 0 to 18. Nothing is rounded: a text with more digits
- * after the point is refused. A number may have up to 2^127 units of ten to the minus `places`.
+ * Numbers are decimals with up to `places` digits after the point, 0 to 36. Nothing is rounded: a text with more digits
+ * after the point is refused (WKT_HINT_PLACES). A number is -2^127 to 2^127 - 1 units of ten to the minus `places`, and a
+ * text with any other is refused (WKT_HINT_LARGE). So more places leave less room before the point: all numbers with up to
+ * 38 - `places` digits there fit. 18 places hold numbers up to some 1.7e20, 35 up to 1701.4, and so all degrees, and 36 up
+ * to 170.14. A text has the same canonical text with all places that read it. Arrays hold units of 64 bits: see wkt_arrays.
  *
- * Every function but the first three returns a status. After any status but WKT_OK the caller's buffers are as they were
- * (but for wkt_lines_some), and so are the results (*needed, *end, *same, *sizes ..), but where a comment says that one is
- * set. Texts need no 0 at the end, and may hold any bytes.
+ * Every function except wkt_version, wkt_supported and wkt_message returns a status. After any status but WKT_OK the
+ * caller's buffers are unchanged (except by wkt_lines_some), and so are the results (*needed, *end, *same, *sizes ..), unless
+ * a comment says that one is set. Texts need no 0 at the end, and may hold any bytes.
  *
  * Every call refuses, before it reads anything:
  * - with WKT_NOT_SUPPORTED, everything where wkt_supported() is 0;
@@ -13,23 +16,24 @@
  * - with WKT_TOO_LONG, a buffer or text of more than PTRDIFF_MAX bytes. A size counts items, of 1, 4 or 8 bytes each.
  * Of the last two, the first parameter that is wrong decides.
  *
- * Of the other statuses, where two hold, the first of these is returned: 27, 23, 26, 20, 1 to 14, 24, 25, 30, 21. Of two
- * texts, each decides for 20, and then the first. 22 may come in the place of each of them but 27 and 23.
+ * If two of the other statuses hold, the call returns the first of 27, 23, 26, 20, 1 to 14, 24, 25, 30, 21. Of two texts, 20
+ * of either comes first, and otherwise the first text decides. 22 may come instead of any of these but 27 and 23.
  *
  * Each function from wkt_canonical on is proved to do what its comment says, in crates/wkt_c/src/exports*.rt. Only tested,
- * and not proved, are the first three functions, those three statuses, what a call costs, and that memory suffices: a call
- * that returned WKT_NO_MEMORY wherever it may come would be proved.
+ * and not proved, are the three functions without a status, those three statuses, what a call costs, and that memory
+ * suffices: the proof would also hold of a call that returned WKT_NO_MEMORY wherever it may come.
  *
- * What a call costs: it checks its whole text for UTF-8, also behind the geometry. wkt_canonical, wkt_same and
- * wkt_same_ends take memory for twice the text, and none for texts of up to 200 bytes. So a reader that goes on from
- * *end passes a piece at a time, and not all that is left of a large buffer; or it calls wkt_lines_some.
+ * What a call costs: it checks its whole text for UTF-8, also after the geometry. wkt_canonical, wkt_same and
+ * wkt_same_ends take memory for twice the text, and none for texts of up to 200 bytes. So to read one geometry after the
+ * other, don't pass all that is left of a large buffer from *end on: pass a piece at a time, or call wkt_lines_some.
  * A canonical text has at most twice the length of its text and 65 bytes more: a buffer of that size is never too small.
  *
- * What nothing checks, and a caller has to see to:
- * - a pointer is aligned as its type asks: 8 bytes for int64_t, size_t, WktSizes and WktColumnSizes, 4 for uint32_t;
- * - no two pointers that are passed overlap, but for those that are only read; a size is that of its buffer;
- * - malloc, realloc and free come from one allocator; no call from a signal handler, nor in the forked child of a
- *   process with threads. Calls may run side by side on several threads: no call depends on another;
+ * What nothing checks, and the caller has to ensure:
+ * - each pointer is aligned as its type asks: 8 bytes for int64_t, size_t, WktSizes and WktColumnSizes, 4 for uint32_t;
+ * - no two pointers that are passed overlap, except those that are only read; each size is that of its buffer;
+ * - malloc, realloc and free come from one allocator;
+ * - no call is made from a signal handler, nor in the forked child of a process with threads. Calls may run on several
+ *   threads at once: no call depends on another;
  * - arrays that are passed to a call, offsets too, don't change while it runs.
  *
  * docs/ABI.md says what a later version keeps. */
@@ -44,7 +48,7 @@ extern "C" {
 #endif
 
 #define WKT_VERSION "1.0.0"
-/* The version of the library that is linked; that of this header is WKT_VERSION. */
+/* The version of the linked library; that of this header is WKT_VERSION. */
 const char *wkt_version(void);
 
 /* This version has wkt_explain; no call takes stack for nesting; it has wkt_hint, wkt_supported and wkt_message. */
@@ -52,8 +56,8 @@ const char *wkt_version(void);
 #define WKT_NO_STACK 1
 #define WKT_HAS_HINT 1
 
-/* Added to `places`: each text, or each row, is to be one geometry as a whole. A text with more than white space behind its
- * geometry gives WKT_NOT_WHOLE; a 0 byte is more. For the calls whose comment names it. */
+/* Added to `places`: each text, or each row, has to be one geometry as a whole. A text with more than white space after its
+ * geometry gives WKT_NOT_WHOLE; a 0 byte counts as more. For the calls whose comment names it. */
 #define WKT_WHOLE 256u
 
 typedef uint32_t wkt_status;
@@ -169,14 +173,14 @@ int wkt_supported(void);
 /* The words of a status, as WKT_MESSAGES has them; "" for WKT_OK and for a number that is no status. */
 const char *wkt_message(wkt_status status);
 
-/* Of a text that begins with no geometry the message is proved to be that of the table in docs/GRAMMAR.md; 14 never
- * comes. After WKT_TOO_SMALL *needed and the other non-buffer results are set. WKT_NULL is of a row alone. A
- * coordinate has 2, 3, 3 and 4 numbers, by its dimension. */
+/* The message for a text that begins with no geometry is proved to be that of the table in docs/GRAMMAR.md; 14 never
+ * comes. After WKT_TOO_SMALL *needed and the other non-buffer results are set. Only rows have WKT_NULL. A coordinate has 2,
+ * 3, 3 or 4 numbers, by its dimension: XY, XYZ, XYM, XYZM. */
 
 /* The canonical text of the geometry that the text begins with. *end: where the geometry ends in the text; what
  * follows may be anything that is UTF-8, or, with WKT_WHOLE, white space. WKT_OK: the text is in out, and *needed is its
  * length, at most 2 * text_len + 65. WKT_TOO_SMALL: *needed is its length, and *end is set too. WKT_NOT_WHOLE: *end is
- * set. 1..14, 20, 23; 22 only of a text of more than 200 bytes. */
+ * set. 1..14, 20, 23; 22 only for a text of more than 200 bytes. */
 wkt_status wkt_canonical(const uint8_t *text, size_t text_len, uint32_t places,
                          uint8_t *out, size_t out_len, size_t *needed, size_t *end);
 
@@ -190,17 +194,17 @@ wkt_status wkt_same(const uint8_t *one, size_t one_len, const uint8_t *other, si
 wkt_status wkt_same_ends(const uint8_t *one, size_t one_len, const uint8_t *other, size_t other_len, uint32_t places,
                          uint32_t *same, size_t *end, size_t *other_end);
 
-/* Where a text is refused. WKT_OK: the bytes from *start to before *stop are the first word, number or mark that can't
- * stand there; *start is *stop where the text ends too early. *message: the number of the message, 1 to 14; *expected: what
- * could stand there, in WKT_EXPECTED. WKT_ACCEPTED: the text begins with a geometry. With WKT_WHOLE, WKT_NOT_WHOLE: more
- * than white space follows the geometry; *start is the first byte of it that is no white space, and *stop is text_len;
- * *message and *expected are as they were. 20, 23. It takes no memory. */
+/* Where a text is refused. WKT_OK: the bytes from *start to before *stop are the first word, number, parenthesis or comma
+ * that can't stand there; *start is *stop where the text ends too early. *message: the number of the message, 1 to 14;
+ * *expected: what could stand there, in WKT_EXPECTED. WKT_ACCEPTED: the text begins with a geometry. With WKT_WHOLE,
+ * WKT_NOT_WHOLE: more than white space follows the geometry; *start is the first byte of it that is no white space, and
+ * *stop is text_len; *message and *expected are as they were. 20, 23. It takes no memory. */
 wkt_status wkt_explain(const uint8_t *text, size_t text_len, uint32_t places, uint32_t *message, size_t *start,
                        size_t *stop, uint32_t *expected);
 
-/* Why a text is refused, in a user's words: *hint is a number in WKT_HINTS, or 0 where nothing is known. It is of the bytes
- * from *start to *stop of wkt_explain. The words of WKT_HINT_PLACES have a %u for the number of places that was asked for.
- * WKT_ACCEPTED, WKT_NOT_WHOLE, 20, 23: as of wkt_explain. It takes no memory. */
+/* Why a text is refused, in a user's words: *hint is a number in WKT_HINTS, or 0 where nothing is known. It is about the
+ * bytes from *start to *stop of wkt_explain. The words of WKT_HINT_PLACES have a %u for the number of places that was
+ * asked for. WKT_ACCEPTED, WKT_NOT_WHOLE, 20, 23: as of wkt_explain. It takes no memory. */
 wkt_status wkt_hint(const uint8_t *text, size_t text_len, uint32_t places, uint32_t *hint);
 
 /* The kind and the dimension that the header of the text names; the rest is not read. 1: it begins with no kind word.
@@ -208,32 +212,32 @@ wkt_status wkt_hint(const uint8_t *text, size_t text_len, uint32_t places, uint3
 wkt_status wkt_infer(const uint8_t *text, size_t text_len, uint32_t *kind, uint32_t *dimension);
 
 /* All lines at once: for each line of the input, the canonical text of the geometry that it begins with or `refused`,
- * and a line feed. What the program wktline writes, if places is 18. WKT_TOO_SMALL: *needed is the length of all. 22,
+ * and a line feed. With 18 places this is what the program wktline writes. WKT_TOO_SMALL: *needed is the length of all. 22,
  * 23. A line of n bytes is answered in at most 2n + 8 (tested, not proved). */
 wkt_status wkt_lines(const uint8_t *input, size_t input_len, uint32_t places, uint8_t *out, size_t out_len,
                      size_t *needed);
 
 /* The same piece by piece: as many whole lines at the front of the input as fit. *taken: how many bytes of the input they
- * are; *written: how many bytes of out are their answers; what stands behind them in out means nothing. last: 1 where the
- * input ends here, so that what is left behind its last line feed is a line too; else 0, and the caller puts more behind
- * what is left. The answers of successive calls, one after the other, are those of wkt_lines to all of the input. *taken is
- * 0 only where there is no whole line. WKT_TOO_SMALL: the answer to the first line doesn't fit. 22, 23. After any but WKT_OK
- * out means nothing, and nothing is taken.
- * A call may look at all of its input. So a caller that gets a line in pieces calls once its line feed has come, or the
- * end: a call for each piece would take the square of the line's length. Both buffers grow by doubling: the input's where
- * it is full without a line feed, out after WKT_TOO_SMALL. capi/examples/stream.c does so. */
+ * are; *written: how many bytes of out are their answers; the rest of out is unspecified. last: 1 if the input ends here,
+ * so that what is left after its last line feed is a line too; else 0, and the caller adds more after what is left. The
+ * answers of successive calls, one after the other, are those of wkt_lines to all of the input. *taken is 0 only if there
+ * is no whole line. WKT_TOO_SMALL: the answer to the first line doesn't fit. 22, 23. After any status but WKT_OK all of out
+ * is unspecified, and nothing is taken.
+ * A call may look at all of its input. So if a line comes in pieces, call once its line feed or the end has come: a call for
+ * each piece would take time with the square of the line's length. Let both buffers grow by doubling: the input's when it is
+ * full without a line feed, out after WKT_TOO_SMALL. capi/examples/stream.c does so. */
 wkt_status wkt_lines_some(const uint8_t *input, size_t input_len, uint32_t places, uint32_t last,
                           uint8_t *out, size_t out_len, size_t *taken, size_t *written);
 
 /* A column at once, as Arrow's large_utf8 has it. Row i is the bytes of texts from offsets[i] to offsets[i + 1], so
- * there is one offset more than rows. valid: bit i % 8, from the lowest on, of byte i / 8 is 0 where row i is null;
- * NULL and 0 where no row is. out_offsets has room for as many offsets, statuses for a status of each row.
+ * there is one offset more than rows. valid: bit i % 8, from the lowest on, of byte i / 8 is 0 if row i is null; NULL and 0
+ * if no row is. out_offsets has room for as many offsets, statuses for a status of each row.
  * WKT_OK: the canonical texts of all rows are in out, one after the other, and *needed is their length; row i's is from
  * out_offsets[i] to out_offsets[i + 1]. statuses[i] is WKT_OK, or why row i has no text: 1..14, 20, WKT_NULL, or, with
  * WKT_WHOLE, WKT_NOT_WHOLE.
  * WKT_TOO_SMALL: *needed is their length, at most 2 * texts_len and a byte for each row. 22, 23. WKT_NOT_COLUMN: an offset
- * is less than the one before it, or past texts (as one below 0 is), or a size fits no such column. After any but WKT_OK
- * the three buffers are as they were. */
+ * is less than the one before it, or past texts (as one below 0 is), or a size fits no such column. After any status but
+ * WKT_OK the three buffers are unchanged. */
 wkt_status wkt_column_canonical(const uint8_t *texts, size_t texts_len, const int64_t *offsets, size_t offsets_len,
                                 const uint8_t *valid, size_t valid_len, uint32_t places,
                                 uint8_t *out, size_t out_len, int64_t *out_offsets, size_t out_offsets_len,
@@ -252,9 +256,13 @@ typedef struct {
  * rings of each kind but MultiPolygon as one polygon. So a Point has rings {0, 1} and polygons {0, 1}, and
  * POLYGON EMPTY has rings {0} and polygons {0, 0}. (GeoArrow: numbers are the interleaved coordinates, rings and
  * polygons its offsets.) WKT_TOO_SMALL: *sizes has all sizes. 1..14, 20, 23, 24, 25, and WKT_NOT_WHOLE, with
- * WKT_WHOLE; 22 only of a text of more than 64 bytes.
+ * WKT_WHOLE; 22 only for a text of more than 64 bytes.
+ * If a number has more units than an int64_t holds, the status is 25, with any places. Arrays hold numbers from
+ * -9223372036854775808 to 9223372036854775807 units: with 6 places up to 9.2e12, with 16 up to 922.3, and so all degrees,
+ * with 18 up to 9.22. `places` may be 0 to 36; with 19 no whole number but 0 has arrays, and with 36 only numbers up to
+ * 9.2e-18.
  * The arrays are those of the value as it is read. So POLYGON(EMPTY,(1 2)) has other arrays than POLYGON EMPTY, which is its
- * canonical text. For the same arrays of the same canonical text, pass that text. */
+ * canonical text. For one set of arrays for one canonical text, pass that text. */
 wkt_status wkt_arrays(const uint8_t *text, size_t text_len, uint32_t places, WktSizes *sizes,
                       int64_t *numbers, size_t numbers_len, size_t *rings, size_t rings_len,
                       size_t *polygons, size_t polygons_len);
@@ -272,7 +280,7 @@ typedef struct {
  * arrays: 1..14, 20, 24, 25, WKT_NULL, or, with WKT_WHOLE, WKT_NOT_WHOLE; there are no numbers and no offsets of such a
  * row, and its kind and dimension are 0. WKT_OK: *sizes says how much of numbers, rings and polygons is filled.
  * WKT_TOO_SMALL: *sizes says how much each of the three needs. 22, 23. WKT_NOT_COLUMN: as of wkt_column_canonical. After
- * any but WKT_OK the nine buffers are as they were. */
+ * any status but WKT_OK the nine buffers are unchanged. */
 wkt_status wkt_column_arrays(const uint8_t *texts, size_t texts_len, const int64_t *offsets, size_t offsets_len,
                              const uint8_t *valid, size_t valid_len, uint32_t places, WktColumnSizes *sizes,
                              uint32_t *kinds, size_t kinds_len, uint32_t *dimensions, size_t dimensions_len,
@@ -282,7 +290,8 @@ wkt_status wkt_column_arrays(const uint8_t *texts, size_t texts_len, const int64
                              int64_t *polygon_offsets, size_t polygon_offsets_len,
                              wkt_status *statuses, size_t statuses_len);
 
-/* The canonical text of the geometry of such arrays. 21, 22, 23, 26. */
+/* The canonical text of the geometry of such arrays. With any places from 0 to 36 each of their numbers has a text. 21, 22,
+ * 23, 26. */
 wkt_status wkt_from_arrays(uint32_t kind, uint32_t dimension, const int64_t *numbers, size_t numbers_len,
                            const size_t *rings, size_t rings_len, const size_t *polygons, size_t polygons_len,
                            uint32_t places, uint8_t *out, size_t out_len, size_t *needed);

@@ -24,7 +24,8 @@ int main(void) {
     canonical("POINT(1.0000005 2)", 18);
     canonical("POINT(1)", 6);
     canonical("\xff", 6);
-    canonical("POINT(1 2)", 19);
+    canonical("POINT(1.0000005 170)", 36);
+    canonical("POINT(1 2)", 37);
 
     uint32_t same, kind, dimension;
     wkt_same(TEXT("LINESTRING(1 2,3 4)"), TEXT("linestring (1.0 2, 3 +4)"), 6, &same);

@@ -48,7 +48,7 @@ static void columns(void) {
     wkt_column_canonical(BYTES(texts), many, offset_count, valid, bits, places, out, ROOM, ends, end_count, statuses, \
                          status_count, &needed)
     CHECK(WITH(ROWS + 1, 2, 18, ROWS + 1, ROWS) == WKT_OK);
-    CHECK(WITH(ROWS + 1, 2, 19, ROWS + 1, ROWS) == WKT_NO_PLACES);
+    CHECK(WITH(ROWS + 1, 2, 37, ROWS + 1, ROWS) == WKT_NO_PLACES);
     CHECK(WITH(ROWS + 1, 1, 18, ROWS + 1, ROWS) == WKT_NOT_COLUMN);
     CHECK(WITH(ROWS + 1, 2, 18, ROWS, ROWS) == WKT_NOT_COLUMN);
     CHECK(WITH(ROWS + 1, 2, 18, ROWS + 1, ROWS - 1) == WKT_NOT_COLUMN);
@@ -87,7 +87,7 @@ static void arrays(void) {
     CHECK(wkt_from_arrays(5, 0, numbers, 24, rings, 4, polygons, 4, 1, out, ROOM, &needed) == WKT_OK && holds(canon));
     CHECK(wkt_from_arrays(5, 0, numbers, 24, rings, 4, polygons, 4, 1, out, 9, &needed) == WKT_TOO_SMALL);
     CHECK(needed == strlen(canon));
-    CHECK(wkt_from_arrays(5, 0, numbers, 24, rings, 4, polygons, 4, 19, out, ROOM, &needed) == WKT_NO_PLACES);
+    CHECK(wkt_from_arrays(5, 0, numbers, 24, rings, 4, polygons, 4, 37, out, ROOM, &needed) == WKT_NO_PLACES);
     CHECK(wkt_from_arrays(2, 0, numbers, 24, rings, 4, polygons, 4, 1, out, ROOM, &needed) == WKT_NOT_ARRAYS);
     CHECK(wkt_from_arrays(5, 1, numbers, 24, rings, 4, polygons, 4, 1, out, ROOM, &needed) == WKT_NOT_ARRAYS);
     CHECK(wkt_from_arrays(6, 0, numbers, 24, rings, 4, polygons, 4, 1, out, ROOM, &needed) == WKT_NOT_ARRAYS);
@@ -102,7 +102,7 @@ static void arrays(void) {
     CHECK(wkt_arrays(BYTES("POINT(1 9223372036854.775807)"), 6, &sizes, NULL, 0, NULL, 0, NULL, 0) == WKT_TOO_SMALL);
     memset(&sizes, 0x77, sizeof sizes);
     memcpy(&kept, &sizes, sizeof sizes);
-    CHECK(wkt_arrays(BYTES("POINT(1 2)"), 19, &sizes, NULL, 0, NULL, 0, NULL, 0) == WKT_NO_PLACES);
+    CHECK(wkt_arrays(BYTES("POINT(1 2)"), 37, &sizes, NULL, 0, NULL, 0, NULL, 0) == WKT_NO_PLACES);
     CHECK(wkt_arrays(BYTES("POINT(1 2"), 6, &sizes, NULL, 0, NULL, 0, NULL, 0) == 7);
     CHECK(wkt_arrays(BYTES("\xff"), 6, &sizes, NULL, 0, NULL, 0, NULL, 0) == WKT_NOT_UTF8);
     CHECK(!memcmp(&kept, &sizes, sizeof sizes));
@@ -117,7 +117,7 @@ static void arrays(void) {
     CHECK(sizes.kind == 2 && sizes.dimension == 1 && sizes.numbers == 6 && sizes.rings == 2 && sizes.polygons == 2);
     CHECK(sizes.end == 24);
     /* Which of two statuses is returned. */
-    CHECK(wkt_arrays(BYTES("POINT(1 2"), 19 | WKT_WHOLE, &sizes, NULL, 0, NULL, 0, NULL, 0) == WKT_NO_PLACES);
+    CHECK(wkt_arrays(BYTES("POINT(1 2"), 37 | WKT_WHOLE, &sizes, NULL, 0, NULL, 0, NULL, 0) == WKT_NO_PLACES);
     CHECK(wkt_arrays(BYTES("POINT(1 2 \xff"), 6 | WKT_WHOLE, &sizes, NULL, 0, NULL, 0, NULL, 0) == WKT_NOT_UTF8);
     CHECK(wkt_arrays(BYTES("GEOMETRYCOLLECTION EMPTY \xff"), 6 | WKT_WHOLE, &sizes, NULL, 0, NULL, 0, NULL, 0) ==
           WKT_NOT_UTF8);
@@ -234,7 +234,7 @@ static void column_arrays(void) {
     CHECK(fill_of(texts, offsets, valid, 9, 1, 16, 5, 7, fit) == WKT_TOO_SMALL && arrays_untouched());
     CHECK(fill_of(texts, offsets, valid, 9, 1, 16, 6, 6, fit) == WKT_TOO_SMALL && arrays_untouched());
     CHECK(fill_of(texts, offsets, valid, 9, 1, 16, 6, 7, fit) == WKT_OK);
-    CHECK(fill_of(texts, offsets, valid, 9, 19, 32, 32, 32, fit) == WKT_NO_PLACES && sizes_untouched() &&
+    CHECK(fill_of(texts, offsets, valid, 9, 37, 32, 32, 32, fit) == WKT_NO_PLACES && sizes_untouched() &&
           arrays_untouched());
     CHECK(fill_of(texts, &zero, NULL, 0, 1, 0, 0, 0, none) == WKT_OK);
     CHECK(got.sizes.numbers == 0 && got.number_ends[0] == 0);
@@ -266,6 +266,51 @@ static wkt_status texts_of(size_t rows, const uint8_t *valid, uint32_t places, s
                                   &needed);
 }
 
+/* Which numbers have arrays: those of units of 64 bits. */
+static const struct {
+    const char *text;
+    uint32_t places;
+    int64_t first;
+    wkt_status status;
+} units[] = {{"POINT(9.223372036854775807 0)", 18, INT64_MAX, WKT_OK},
+             {"POINT(-9.223372036854775808 0)", 18, INT64_MIN, WKT_OK},
+             {"POINT(9.223372036854775808 0)", 18, 0, WKT_TOO_LARGE},
+             {"POINT(0.9223372036854775807 0)", 19, INT64_MAX, WKT_OK},
+             {"POINT(0.9223372036854775808 0)", 19, 0, WKT_TOO_LARGE},
+             {"POINT(1 0)", 19, 0, WKT_TOO_LARGE},
+             {"POINT(-0.000000000000000000000017 0)", 24, -17, WKT_OK},
+             {"POINT(-0.000009223372036854775808 0)", 24, INT64_MIN, WKT_OK},
+             {"POINT(-0.000009223372036854775809 0)", 24, 0, WKT_TOO_LARGE},
+             {"POINT(-0.000000000000000000000000000000000001 0)", 36, -1, WKT_OK},
+             {"POINT(0.000000000000000009223372036854775807 0)", 36, INT64_MAX, WKT_OK},
+             {"POINT(0.000000000000000009223372036854775808 0)", 36, 0, WKT_TOO_LARGE},
+             {"POINT(170.141183460469231731687303715884105727 0)", 36, 0, WKT_TOO_LARGE},
+             {"POINT(0 171)", 36, 0, WKT_BAD_NUMBER}};
+
+static void arrays_of_units(void) {
+    size_t i;
+    for (i = 0; i < sizeof units / sizeof *units; i++) {
+        int64_t numbers[2] = {7, 7}, offsets[2] = {0, 0};
+        size_t rings[2], polygons[2];
+        static const size_t fit[6] = {2, 2, 2, 1, 1, 1};
+        WktSizes sizes;
+        offsets[1] = (int64_t)strlen(units[i].text);
+        CHECK(wkt_arrays(BYTES(units[i].text), units[i].places, &sizes, numbers, 2, rings, 2, polygons, 2) ==
+              units[i].status);
+        CHECK(fill_of(units[i].text, offsets, NULL, 1, units[i].places, 2, 2, 2, fit) == WKT_OK);
+        CHECK(got.statuses[0] == units[i].status && got.number_ends[1] == (units[i].status ? 0 : 2));
+        if (units[i].status) {
+            CHECK(numbers[0] == 7);
+            continue;
+        }
+        CHECK(numbers[0] == units[i].first && got.numbers[0] == units[i].first && numbers[1] == 0);
+        memset(out, '#', ROOM);
+        CHECK(wkt_from_arrays(0, 0, numbers, 2, rings, 2, polygons, 2, units[i].places, out, ROOM, &needed) == WKT_OK);
+        CHECK(holds(units[i].text));
+        CHECK(texts_of(1, NULL, units[i].places, ROOM) == WKT_OK && statuses[0] == WKT_OK && holds(units[i].text));
+    }
+}
+
 static void column_texts(void) {
     const char *texts = "point(1 2.50)XLINESTRING Z(1 2 3,4 5 6)MULTIPOLYGON(((0 0,4 0,0 4,0 0)),EMPTY)POINT EMPTY";
     const char *answers = "POINT(1 2.5)LINESTRING Z(1 2 3,4 5 6)MULTIPOLYGON(((0 0,4 0,0 4,0 0)),EMPTY)POINT EMPTY";
@@ -279,7 +324,7 @@ static void column_texts(void) {
     CHECK(texts_of(5, NULL, 1, ROOM) == WKT_OK && holds(answers) && statuses[1] == WKT_NOT_ARRAYS);
     CHECK(texts_of(5, &valid, 1, 86) == WKT_TOO_SMALL && needed == 87 && column_untouched());
     CHECK(texts_of(5, &valid, 1, 87) == WKT_OK && holds(answers));
-    CHECK(texts_of(5, &valid, 19, ROOM) == WKT_NO_PLACES && column_untouched());
+    CHECK(texts_of(5, &valid, 37, ROOM) == WKT_NO_PLACES && column_untouched());
     CHECK(texts_of(0, NULL, 1, ROOM) == WKT_OK && needed == 0 && ends[0] == 0 && untouched());
     got.kinds[2] = 2;
     got.rings[2]++;
@@ -339,6 +384,7 @@ void test_columns(void) {
     arrays_of_keys();
     column_arrays();
     column_texts();
+    arrays_of_units();
     column_text_sizes();
     to_and_fro();
 }

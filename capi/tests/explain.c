@@ -98,8 +98,8 @@ static void test_no_hints(void) {
     CHECK(no_hint("POINT(1 2)", 6 | WKT_WHOLE) == WKT_ACCEPTED);
     CHECK(no_hint("POINT(1 2))", 6 | WKT_WHOLE) == WKT_NOT_WHOLE);
     CHECK(no_hint("POINT()\xff", 6) == WKT_NOT_UTF8);
-    CHECK(no_hint("POINT(1 2)", 19) == WKT_NO_PLACES);
-    CHECK(no_hint("POINT()", 19 | WKT_WHOLE) == WKT_NO_PLACES);
+    CHECK(no_hint("POINT(1 2)", 37) == WKT_NO_PLACES);
+    CHECK(no_hint("POINT()", 37 | WKT_WHOLE) == WKT_NO_PLACES);
     CHECK(no_hint("POINT()", 255) == WKT_NO_PLACES);
     CHECK(no_hint("POINT()", UINT32_MAX) == WKT_NO_PLACES);
 }
@@ -137,7 +137,7 @@ static void test_refused_wholes(void) {
     CHECK(wkt_explain(BYTES("POINT(1) x"), 6 | WKT_WHOLE, &message, &start, &stop, &expected) == WKT_OK);
     CHECK(start == 7 && stop == 8 && message == 7 && expected == WKT_EXPECTED_Y);
     CHECK(wkt_explain(BYTES("POINT(1 2)\xff"), 6 | WKT_WHOLE, &message, &start, &stop, &expected) == WKT_NOT_UTF8);
-    CHECK(wkt_explain(BYTES("POINT(1)"), 19 | WKT_WHOLE, &message, &start, &stop, &expected) == WKT_NO_PLACES);
+    CHECK(wkt_explain(BYTES("POINT(1)"), 37 | WKT_WHOLE, &message, &start, &stop, &expected) == WKT_NO_PLACES);
     CHECK(wkt_explain(BYTES("POINT(1)"), 255, &message, &start, &stop, &expected) == WKT_NO_PLACES);
     CHECK(wkt_explain(BYTES("POINT(1) x"), 18 | WKT_WHOLE, &message, &start, &stop, &expected) == WKT_OK);
     CHECK(start == 7 && stop == 8 && message == 7 && expected == WKT_EXPECTED_Y);

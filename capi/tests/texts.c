@@ -81,7 +81,8 @@ static void whole_texts(void) {
     CHECK(canonical("POINT(1 2 x", 6 | WKT_WHOLE, ROOM) == 7 && untouched() && not_set());
     CHECK(canonical("POINT(1 2)", 6 | WKT_WHOLE, 9) == WKT_TOO_SMALL && untouched() && needed == 10 && end_at == 10);
     CHECK(canonical("POINT(1 2)", 18 | WKT_WHOLE, ROOM) == WKT_OK);
-    CHECK(canonical("POINT(1 2)", 19 | WKT_WHOLE, ROOM) == WKT_NO_PLACES && untouched() && not_set());
+    CHECK(canonical("POINT(1 2)", 36 | WKT_WHOLE, ROOM) == WKT_OK);
+    CHECK(canonical("POINT(1 2)", 37 | WKT_WHOLE, ROOM) == WKT_NO_PLACES && untouched() && not_set());
     CHECK(canonical("POINT(1 2)", 255, ROOM) == WKT_NO_PLACES && canonical("POINT(1 2)", 512, ROOM) == WKT_NO_PLACES);
     CHECK(canonical("POINT(1 2)", 0xffffffffu, ROOM) == WKT_NO_PLACES);
     memset(out, '#', ROOM);
@@ -113,9 +114,9 @@ static void canonicals(void) {
     CHECK(canonical("point ( 10 -20.50 ) more", 6, ROOM) == WKT_OK && holds("POINT(10 -20.5)") && end_at == 19);
     CHECK(canonical("POINT(2 1.0000005)", 6, ROOM) == WKT_BAD_NUMBER && untouched());
     CHECK(canonical("POINT(1.0000005 2)", 7, ROOM) == WKT_OK && holds("POINT(1.0000005 2)"));
-    for (places = 0; places <= 18; places++)
+    for (places = 0; places <= 36; places++)
         CHECK(canonical("POINT(1 2)", places, ROOM) == WKT_OK && holds("POINT(1 2)") && end_at == 10);
-    CHECK(canonical("POINT(1 2)", 19, ROOM) == WKT_NO_PLACES && untouched());
+    CHECK(canonical("POINT(1 2)", 37, ROOM) == WKT_NO_PLACES && untouched() && not_set());
     CHECK(canonical("POINT(1 2)", 6, 9) == WKT_TOO_SMALL && untouched() && needed == 10 && end_at == 10);
     CHECK(canonical("POINT(1 2)", 6, 10) == WKT_OK && holds("POINT(1 2)"));
     CHECK(canonical("POINT(1 2)\xff", 6, ROOM) == WKT_NOT_UTF8 && untouched() && not_set());
@@ -127,6 +128,71 @@ static void canonicals(void) {
     CHECK(wkt_canonical(BYTES("POINT(1 2)"), 6, NULL, 0, &needed, &end_at) == WKT_TOO_SMALL && needed == 10);
 }
 
+/* A text with a number of more places than 18, and what two calls say of it: the canonical text or the status, and the hint.
+ * Python's decimal says which numbers are units of ten to the minus `places`, and which of these 127 bits hold. */
+static const struct {
+    const char *text;
+    uint32_t places;
+    const char *answer;
+    uint32_t hint;
+} fine[] = {
+    {"POINT(0.123456789012345678901234 -00.100000000000000000000002)", 24,
+     "POINT(0.123456789012345678901234 -0.100000000000000000000002)", 0},
+    {"POINT(179.999999999999999999999999 -.5)", 24, "POINT(179.999999999999999999999999 -0.5)", 0},
+    {"POINT(0.1234567890123456789012340 1.)", 24, "POINT(0.123456789012345678901234 1)", 0},
+    {"POINT(1 0.1234567890123456789012345)", 24, NULL, WKT_HINT_PLACES},
+    {"POINT(170141183460469.231731687303715884105727 -170141183460469.231731687303715884105728)", 24,
+     "POINT(170141183460469.231731687303715884105727 -170141183460469.231731687303715884105728)", 0},
+    {"POINT(0 170141183460469.231731687303715884105728)", 24, NULL, WKT_HINT_LARGE},
+    {"POINT(0 -170141183460469.231731687303715884105729)", 24, NULL, WKT_HINT_LARGE},
+    {"POINT(1000.5 2)", 35, "POINT(1000.5 2)", 0},
+    {"POINT(2 1701.41183460469231731687303715884105728)", 35, NULL, WKT_HINT_LARGE},
+    {"POINT(180 -0.00000000000000000000000000000000001)", 35, "POINT(180 -0.00000000000000000000000000000000001)", 0},
+    {"POINT(0.000000000000000000000000000000000001 -0.999999999999999999999999999999999999)", 36,
+     "POINT(0.000000000000000000000000000000000001 -0.999999999999999999999999999999999999)", 0},
+    {"POINT(0.0000000000000000000000000000000000010 2)", 36, "POINT(0.000000000000000000000000000000000001 2)", 0},
+    {"POINT(2 0.0000000000000000000000000000000000001)", 36, NULL, WKT_HINT_PLACES},
+    {"POINT(+170.141183460469231731687303715884105727 -170.141183460469231731687303715884105728)", 36,
+     "POINT(170.141183460469231731687303715884105727 -170.141183460469231731687303715884105728)", 0},
+    {"POINT(2 170.141183460469231731687303715884105728)", 36, NULL, WKT_HINT_LARGE},
+    {"POINT(2 -170.141183460469231731687303715884105729)", 36, NULL, WKT_HINT_LARGE},
+    {"POINT(170 -170)", 36, "POINT(170 -170)", 0},
+    {"POINT(2 171)", 36, NULL, WKT_HINT_LARGE},
+    {"POINT(2 180)", 36, NULL, WKT_HINT_LARGE},
+    {"POINT(-0.000000000000000000000000000000000000 00170.0)", 36, "POINT(0 170)", 0},
+};
+
+static void fine_places(void) {
+    size_t i;
+    for (i = 0; i < sizeof fine / sizeof *fine; i++) {
+        uint32_t hint = 0;
+        wkt_status status = canonical(fine[i].text, fine[i].places, ROOM);
+        if (fine[i].answer)
+            CHECK(status == WKT_OK && holds(fine[i].answer) && end_at == strlen(fine[i].text));
+        else
+            CHECK(status == WKT_BAD_NUMBER && untouched() && not_set());
+        status = wkt_hint(BYTES(fine[i].text), fine[i].places, &hint);
+        CHECK(status == (fine[i].answer ? WKT_ACCEPTED : WKT_OK) && hint == fine[i].hint);
+    }
+}
+
+/* The same through the calls over two texts, and over lines. */
+static void fine_others(void) {
+    const char *input = "POINT(0.10 -0.000000000000000000000000000000000001)\nPOINT(180 0)";
+    const char *answers = "POINT(0.1 -0.000000000000000000000000000000000001)\nrefused\n";
+    const char *one = "POINT(0.123456789012345678901234 2)", *other = "point(+0.1234567890123456789012340 2.)";
+    size_t taken = 99, written = 99;
+    uint32_t same = 9;
+    CHECK(wkt_same(BYTES(one), BYTES(other), 24, &same) == WKT_OK && same == 1);
+    CHECK(wkt_same(BYTES(one), BYTES("POINT(0.123456789012345678901235 2)"), 36, &same) == WKT_OK && same == 0);
+    CHECK(wkt_same(BYTES(one), BYTES(other), 23, &same) == 7);
+    memset(out, '#', ROOM);
+    CHECK(wkt_lines(BYTES(input), 36, out, ROOM, &needed) == WKT_OK && holds(answers));
+    memset(out, '#', ROOM);
+    CHECK(wkt_lines_some(BYTES(input), 36, 1, out, ROOM, &taken, &written) == WKT_OK && taken == strlen(input));
+    CHECK(written == strlen(answers) && !memcmp(out, answers, written));
+}
+
 static void comparisons(void) {
     uint32_t same = 9;
     size_t end = 99, other = 99;
@@ -136,7 +202,7 @@ static void comparisons(void) {
     CHECK(wkt_same(BYTES("POINT(1 2)"), BYTES("PINT(2 1)"), 6, &same) == 3 && same == 9);
     CHECK(wkt_same(BYTES("\xff"), BYTES("POINT(2 1)"), 6, &same) == WKT_NOT_UTF8 && same == 9);
     CHECK(wkt_same(BYTES("POINT(2 1)"), BYTES("POINT(2 1)\xff"), 6, &same) == WKT_NOT_UTF8 && same == 9);
-    CHECK(wkt_same(BYTES("POINT(1 2)"), BYTES("POINT(1 2)"), 19, &same) == WKT_NO_PLACES && same == 9);
+    CHECK(wkt_same(BYTES("POINT(1 2)"), BYTES("POINT(1 2)"), 37, &same) == WKT_NO_PLACES && same == 9);
     CHECK(wkt_same(BYTES("POINT(1 2)"), BYTES("POINT(1 2) x"), 6 | WKT_WHOLE, &same) == WKT_NOT_WHOLE && same == 9);
     CHECK(wkt_same(BYTES("POINT(1 2)x"), BYTES("POINT(1 2)"), 6 | WKT_WHOLE, &same) == WKT_NOT_WHOLE && same == 9);
     CHECK(wkt_same(BYTES("POINT(1 2)\n"), BYTES("POINT (1 2)"), 6 | WKT_WHOLE, &same) == WKT_OK && same == 1);
@@ -159,7 +225,7 @@ static void orders(void) {
         const char *one, *other;
         uint32_t places;
         wkt_status same;
-    } rows[] = {{"PINT(2 1)", "\xff", 19 | WKT_WHOLE, WKT_NO_PLACES},
+    } rows[] = {{"PINT(2 1)", "\xff", 37 | WKT_WHOLE, WKT_NO_PLACES},
                 {"PINT(2 1)", "\xff", 6 | WKT_WHOLE, WKT_NOT_UTF8},
                 {"\xff", "PINT(2 1)", 6, WKT_NOT_UTF8},
                 {"PINT(2 1)", "POINT(1 2 x", 6, 3},
@@ -207,7 +273,7 @@ static void explanations(void) {
     message = expected = 77, start = stop = 99;
     CHECK(wkt_explain(BYTES("POINT(1 2) x"), 6, &message, &start, &stop, &expected) == WKT_ACCEPTED);
     CHECK(wkt_explain(BYTES("POINT(1)\xff"), 6, &message, &start, &stop, &expected) == WKT_NOT_UTF8);
-    CHECK(wkt_explain(BYTES("POINT(1)"), 19, &message, &start, &stop, &expected) == WKT_NO_PLACES);
+    CHECK(wkt_explain(BYTES("POINT(1)"), 37, &message, &start, &stop, &expected) == WKT_NO_PLACES);
     CHECK(message == 77 && expected == 77 && start == 99 && stop == 99);
     CHECK(wkt_explain(NULL, 0, 6, &message, &start, &stop, &expected) == WKT_OK && start == 0 && stop == 0);
 }
@@ -235,7 +301,7 @@ static void many_lines(void) {
     CHECK(wkt_lines(BYTES(input), 18, out, strlen(answers) - 1, &needed) == WKT_TOO_SMALL && untouched());
     CHECK(needed == strlen(answers));
     needed = 99;
-    CHECK(wkt_lines(BYTES(input), 19, out, ROOM, &needed) == WKT_NO_PLACES && untouched() && needed == 99);
+    CHECK(wkt_lines(BYTES(input), 37, out, ROOM, &needed) == WKT_NO_PLACES && untouched() && needed == 99);
     CHECK(wkt_lines(NULL, 0, 18, NULL, 0, &needed) == WKT_OK && needed == 0);
     CHECK(wkt_lines(BYTES("POINT(1 2.5)"), 0, out, ROOM, &needed) == WKT_OK && holds("refused\n"));
 }
@@ -271,13 +337,15 @@ static void some_lines(void) {
           written == 99);
     CHECK(wkt_lines_some(BYTES("POINT(1 2)\n"), 18, 0, out, 11, &taken, &written) == WKT_OK && taken == 11 &&
           written == 11);
-    CHECK(wkt_lines_some(BYTES("POINT(1 2)\n"), 19, 0, out, ROOM, &taken, &written) == WKT_NO_PLACES);
+    CHECK(wkt_lines_some(BYTES("POINT(1 2)\n"), 37, 0, out, ROOM, &taken, &written) == WKT_NO_PLACES);
     CHECK(wkt_lines_some(NULL, 0, 18, 1, NULL, 0, &taken, &written) == WKT_OK && taken == 0 && written == 0);
 }
 
 void test_texts(void) {
     versions();
     canonicals();
+    fine_places();
+    fine_others();
     short_texts();
     last_bytes();
     bounds();
