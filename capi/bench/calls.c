@@ -1,5 +1,6 @@
-/* One call, so many times: calls CALL TEXT TIMES, where CALL is canonical, same, infer or explain. It prints how often one
- * call took memory; calls.sh has its instructions counted. -DGEOS has GEOS read the text and write it. */
+/* One call, so many times: calls CALL TEXT TIMES, where CALL is canonical, same, infer, explain, arrays or from (arrays, of
+ * the text's). It prints how often one call took memory; calls.sh has its instructions counted. -DGEOS has GEOS read the
+ * text and write it. */
 #include <stdio.h>
 #include <stdlib.h>
 #include <string.h>
@@ -33,7 +34,16 @@ static void call(const char *what, const char *text, size_t size) {
 #else
 #include "wkt.h"
 
+static WktSizes sizes;
+static int filled;
+static int64_t numbers[64];
+static size_t rings[8], polygons[8];
+
 static void start(void) {}
+
+static void fill(const uint8_t *text, size_t size) {
+    wkt_arrays(text, size, 6, &sizes, numbers, 64, rings, 8, polygons, 8);
+}
 
 static void call(const char *what, const char *text, size_t size) {
     static uint8_t out[4096];
@@ -44,6 +54,12 @@ static void call(const char *what, const char *text, size_t size) {
     case 'c': wkt_canonical(bytes, size, 18, out, sizeof out, &needed, &end); break;
     case 's': wkt_same(bytes, size, bytes, size, 18, &one); break;
     case 'i': wkt_infer(bytes, size, &one, &other); break;
+    case 'a': fill(bytes, size); break;
+    case 'f':
+        if (!filled) filled = 1, fill(bytes, size);
+        wkt_from_arrays(sizes.kind, sizes.dimension, numbers, sizes.numbers, rings, sizes.rings, polygons,
+                        sizes.polygons, 6, out, sizeof out, &needed);
+        break;
     default:
 #ifdef WKT_HAS_EXPLAIN
         wkt_explain(bytes, size, 18, &one, &needed, &end, &other);
