@@ -9,7 +9,7 @@ ghost use Rattle.wkt_canonical.specs.Canonical.{IsCanonical};
 use std::alloc::{AllocError, Global};
 use wkt_canonical::{NoRoom, TextWritten, canonical_or_message_outlined, write_growing};
 use wkt_explain::message;
-use wkt_num::WktNum;
+use wkt_num::{OfType, WktNum};
 use wkt_read::{Message, ReadError};
 
 // Shorter texts are written to an array first: room for twice the text would be allocated, cut and freed.
@@ -61,7 +61,7 @@ pub fn canonical_text<T: WktNum>(alloc: Global, text: &str) -> Result<String, Re
     }
     if text.len() <= SHORT_TEXT {
         let mut near = [0u8; SHORT_ROOM];
-        match canonical_or_message_outlined::<T>(text, &mut near) {
+        match canonical_or_message_outlined(OfType::<T>::new(), text, &mut near) {
             Ok(Ok(TextWritten { end: _, len })) => return Ok(string_of(alloc, &near[..len])?),
             Ok(Err(message)) => return Err(ReadError::Text(message.text())),
             Err(NoRoom) => {}

@@ -95,7 +95,7 @@ pub use wkt_canonical::{TextWritten, canonical_into};
 pub use wkt_convert::{ToWkt, ToWktError};
 pub use wkt_explain::{Expected, Explanation, Hint, Problem, Refusal, check, explain, refusal};
 pub use wkt_machine::{FromWktStr, front_end};
-pub use wkt_num::{Decimal, WktNum};
+pub use wkt_num::{Decimal, Numbers, OfType, Places, WktNum};
 pub use wkt_read::{InferError, Message, ReadError, infer_type};
 
 /// A geometry as well-known text has it: with up to four numbers a coordinate, of any of the seven kinds.

@@ -1,5 +1,5 @@
 -- What a pen writes that is told the arrays of the caller, who is answered so.
-use Rattle.std.proofs.Common.{◌+◌, ◌++◌, ◌≤◌, ◌/◌, ◌%◌, ◌^◌, ◌==◌, ℕ, zero, suc, ℤ, pos, negsuc, Bool, true, false, [], ◌∷◌, length, arith, length-append, if◌then◌else◌, ◌≡◌, ◌*◌, List, refl, sym, ap, ◌∙◌, subst, ◌⊎◌, ◌<◌, inl, inr}
+use Rattle.std.proofs.Common.{◌+◌, ◌++◌, ◌≤◌, ◌/◌, ◌%◌, ◌^◌, ◌==◌, ℕ, zero, suc, ℤ, pos, negsuc, Bool, true, false, [], ◌∷◌, length, arith, length-append, if◌then◌else◌, ◌≡◌, ◌*◌, List, refl, sym, ap, ◌∙◌, subst, ◌⊎◌, inl, inr}
 use Rattle.std.specs.Prelude.{int_lt}
 use Rattle.std.specs.Fmt.{decimal, sign_text}
 use Rattle.std.proofs.lemmas.Fmt.{length-decimal-le_wide}
@@ -7,6 +7,7 @@ use Rattle.std.proofs.Math.Nat.{div-le_self}
 use Rattle.std.specs.List.{All, AllByRecursion}
 use Rattle.std.proofs.lemmas.List.Elements.{recursion_from_All}
 use Rattle.wkt_num.specs.Decimal.{fraction_digits, fraction_text, magnitude_text, decimal_text, IsUnits, read_decimal}
+use Rattle.wkt_num.specs.DecimalLaws.{decimal_reads_back, decimal_number_text}
 use Rattle.wkt_num.specs.Whole.{IsSigned}
 use Rattle.wkt_access.specs.Values.{Value}
 use Rattle.wkt_access.specs.WellFormed.{IsWellFormed}
@@ -14,13 +15,14 @@ use Rattle.wkt_access.specs.Shapes.{shape_of, canon}
 use Rattle.wkt_access.specs.Texts.{shape_text}
 use Rattle.wkt_access.specs.declared.dimensions.Dimension.{Dimension}
 use Rattle.wkt_access.specs.declared.dimensions.Dimension.TheVariants.{XY, XYZ, XYM, XYZM}
-use Rattle.wkt_write.proofs.Writable.{writable}
+use Rattle.wkt_write.proofs.Writable.{canon_well_formed, writable}
 use Rattle.wkt_types.specs.declared.geometry_type.GeometryType.{GeometryType}
 use Rattle.wkt_read.specs.Front.{Front}
 use Rattle.wkt_read.specs.Header.{kind_of, dim_of}
-use Rattle.wkt_read.specs.Laws.{ReadsBack}
+use Rattle.wkt_read.proofs.Spelled.{front_of_text}
 use Rattle.wkt_machine.specs.Events.{Event, events}
-use Rattle.wkt_canonical.specs.PenMaker.{Fits, pen_maker, IsFresh, IsWithin}
+use Rattle.wkt_machine.specs.Makers.{Maker}
+use Rattle.wkt_canonical.specs.PenMaker.{pen_maker, IsFresh, IsWithin}
 use Rattle.wkt_canonical.specs.declared.pen.Pen.{Pen}
 use Rattle.wkt_canonical.proofs.PenOutput.{fits-fresh, within-room}
 use Rattle.wkt_fill.specs.Arrays.{IsGiven, events_cost, Tells}
@@ -132,36 +134,38 @@ module _ (D : ℕ) (g : Given) (kind dimension : ℕ) (k : kind ≡ kind_number 
   pub of-none : ((v : Value ℤ) → IsGiven D g v → ⊥) → AreOfSome D kind dimension g.numbers.now g.rings.now g.polygons.now → ⊥
   of-none none q = none q.0 (is-given q.0 q.1 q.2)
 
-  pub text-of : (v : Value ℤ) → IsGiven D g v → (text : List ℕ) → text ≡ shape_text (decimal_text D) (shape_of v) → ReadsBack (IsUnits D) (decimal_text D) (read_decimal 127 36 D) →
-      IsTextOf D kind dimension g.numbers.now g.rings.now g.polygons.now text
-  text-of v h text is back =
+  pub text-of : (v : Value ℤ) → IsGiven D g v → (text : List ℕ) → text ≡ shape_text (decimal_text D) (shape_of v) → IsTextOf D kind dimension g.numbers.now g.rings.now g.polygons.now text
+  text-of v h text is =
+      let num = decimal_text D in
+      let read = read_decimal 127 36 D in
       let sound = writable (IsUnits D) v h.fits in
+      let front = front_of_text (IsUnits D) num read (record { reads_back = decimal_reads_back D; number_text = decimal_number_text D }) (canon (shape_of v)) (canon_well_formed (IsUnits D) (shape_of v) sound.0 sound.1) in
       record {
         value = v;
         fits = h.fits;
         arrays = are-arrays v h;
         is = is;
-        reads = subst (λ bs. Front (read_decimal 127 36 D) bs (canon (shape_of v)) (length bs)) (sym is) (back (shape_of v) sound.0 sound.1);
+        reads = subst (λ bs. Front read bs (canon (shape_of v)) (length bs)) (sym is) front;
       }
 
 takes : (D : ℕ) (xs : List ℤ) → AllByRecursion (IsSigned 63) xs → AllByRecursion (λ x. length (decimal_text D x) + 1 ≤ D + 22) xs
 takes D [] h = tt
 takes D (x ∷ xs) h = let short = number-length D x h.0 in (omega (arith, short), takes D xs h.1)
 
+abbrev pub pens : Maker ℤ (Pen ℕ)
+pens = pen_maker (read_decimal 127 36) decimal_text
+
 -- there is room for the events of a value of the arrays
-pub has-room : (D : ℕ) (g : Given) → All (IsSigned 63) g.numbers.now → (room : List ℕ) (p : Pen ℤ) → IsFresh room p → (n : ℕ) →
-    length g.numbers.now * (D + 23) + 7 * length g.rings.now + 7 * length g.polygons.now + 74 ≤ n → n ≤ length room → (v : Value ℤ) → IsGiven D g v →
-    Fits (read_decimal 127 36 D) (decimal_text D) p (events_cost (pen_maker (read_decimal 127 36 D) (decimal_text D)) (events v))
-has-room D g small room p fresh n enough large v h =
-    let maker = pen_maker (read_decimal 127 36 D) (decimal_text D) in
-    let cost = given-cost maker (D + 22) D g v h (takes D g.numbers.now (recursion_from_All (IsSigned 63) g.numbers.now small)) in
-    let same : length g.numbers.now * (D + 22 + 1) ≡ length g.numbers.now * (D + 23) = ap (λ k. length g.numbers.now * k) (omega arith) in
-    fits-fresh (read_decimal 127 36 D) (decimal_text D) room p (events_cost maker (events v)) fresh (omega (arith, cost, same, enough, large))
+pub has-room : (D q : ℕ) (g : Given) → All (IsSigned 63) g.numbers.now → (room : List ℕ) (p : Pen ℕ) → IsFresh D room p → (n : ℕ) →
+    length g.numbers.now * (D + 23) + 7 * length g.rings.now + 7 * length g.polygons.now + 74 ≤ n → n ≤ length room → (v : Value ℤ) → IsGiven q g v → pens.fits p (events_cost (pens.takes p) (events v))
+has-room D q g small room p fresh n enough large v h =
+    let cost = given-cost (pens.takes p) (p.numbers + 22) q g v h (takes p.numbers g.numbers.now (recursion_from_All (IsSigned 63) g.numbers.now small)) in
+    let same : length g.numbers.now * (p.numbers + 22 + 1) ≡ length g.numbers.now * (D + 23) = ap (λ k. length g.numbers.now * k) (omega (arith, fresh.numbers)) in
+    fits-fresh (read_decimal 127 36 D) (decimal_text D) D room p (events_cost (pens.takes p) (events v)) fresh (omega (arith, cost, same, enough, large))
 
 -- what the pen has written then lies within its room
-pub is-within : (D : ℕ) (p t : Pen ℤ) (es : List (Event ℤ)) → Fits (read_decimal 127 36 D) (decimal_text D) p (events_cost (pen_maker (read_decimal 127 36 D) (decimal_text D)) es) →
-    Tells (pen_maker (read_decimal 127 36 D) (decimal_text D)) p es t → IsWithin t
-is-within D p t es fits told = within-room (read_decimal 127 36 D) (decimal_text D) t (told.leaves 0 (omega (arith, fits)))
+pub is-within : (p t : Pen ℕ) (es : List (Event ℤ)) → pens.fits p (events_cost (pens.takes p) es) → Tells pens p es t → IsWithin t
+is-within p t es fits told = within-room (read_decimal 127 36 t.numbers) (decimal_text t.numbers) t (told.leaves 0 (omega (arith, fits)))
 
 -- What a caller is answered who gave arrays.
 
@@ -179,13 +183,3 @@ module _ (places kind dimension : ℕ) (numbers : List ℤ) (rings polygons : Li
         kept = kept;
         needed_kept = λ some other. elim two [ inl z ↦ absurd (omega (arith, some, z)) | inr z ↦ absurd (other z) ];
       }
-
-  -- there are no numbers of so many places
-  pub no-places : (old : List ℕ) (needed : ℕ) → 18 < places → CopiesOutText places kind dimension numbers rings polygons old old needed needed 23
-  no-places old needed many = record {
-    written = λ z. absurd (omega (arith, z));
-    small = λ z. absurd (omega (arith, z));
-    others = λ some other. inl (refl, many);
-    kept = λ some. refl;
-    needed_kept = λ some other. refl;
-  }

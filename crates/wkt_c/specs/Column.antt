@@ -1,5 +1,5 @@
 -- A column of texts at once: all their bytes in a row, and where each text begins in them, with the end of the last.
-use Rattle.std.specs.Prelude.{◌≡◌, ◌<◌, ◌≤◌, ◌≢◌, ◌+◌, ◌-◌, ◌*◌, ◌/◌, ◌%◌, ◌^◌, ◌⊎◌, ℕ, List, [], Option, Bool, true, false, length, nat_eq, if◌then◌else◌}
+use Rattle.std.specs.Prelude.{◌≡◌, ◌<◌, ◌≤◌, ◌+◌, ◌-◌, ◌*◌, ◌/◌, ◌%◌, ◌^◌, ◌⊎◌, ℕ, List, [], Option, Bool, true, false, length, nat_eq, if◌then◌else◌}
 use Rattle.std.specs.List.{slice_index, slice_range}
 use Rattle.wkt_calls.specs.Answer.{read_at, print_at, places_in, asks_whole, EndsAsAsked, IsCanonicalOf, RefusesText, HasMore, HasNoPlaces}
 

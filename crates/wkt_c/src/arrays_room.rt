@@ -99,7 +99,7 @@ pub(crate) fn arrays_long(
     rings: &mut [usize],
     polygons: &mut [usize],
 ) -> u32
-    requires places { places_in places ≤ 18 }
+    requires places { places_in places ≤ 36 }
     requires long { 64 < length text.now }
     ensures { AnswersArrays places text.now (64 < length text.now) result sizes.old sizes.new numbers.old numbers.new
         rings.old rings.new polygons.old polygons.new }

@@ -13,7 +13,7 @@ use wkt_canonical::make_room;
 
 /// Writes the canonical text of what a text begins with to the front of a room, which grows as it has to.
 pub(crate) fn write_long(text: &str, asked: u32, room: &mut Vec<u8>) -> Result<(usize, usize), u32>
-    requires places { places_in asked ≤ 18 }
+    requires places { places_in asked ≤ 36 }
     requires utf8 { IsUtf8 text.now }
     ensures canonical { MatchResult result
         (λ r. IsCanonicalOf (read_at (places_in asked)) (print_at (places_in asked)) text.now (take r.1 room.new.items) r.0)
@@ -36,7 +36,7 @@ pub(crate) fn canonical(
     needed: &mut usize,
     end: &mut usize,
 ) -> u32
-    requires { places_in asked ≤ 18 }
+    requires { places_in asked ≤ 36 }
     ensures { AnswersCanonical asked text.now result out.old out.new needed.old needed.new end.old end.new }
 {
     if text.len() <= SHORTEST {
@@ -60,7 +60,7 @@ fn canonical_long(
     needed: &mut usize,
     end: &mut usize,
 ) -> u32
-    requires places { places_in asked ≤ 18 }
+    requires places { places_in asked ≤ 36 }
     requires long { SHORT < length text.now }
     ensures { AnswersCanonical asked text.now result out.old out.new needed.old needed.new end.old end.new }
 {
@@ -79,7 +79,7 @@ fn canonical_in_room(
     needed: &mut usize,
     end: &mut usize,
 ) -> u32
-    requires places { places_in asked ≤ 18 }
+    requires places { places_in asked ≤ 36 }
     requires long { SHORT < length text.now }
     requires utf8 { IsUtf8 text.now }
     ensures { AnswersCanonical asked text.now result out.old out.new needed.old needed.new end.old end.new }
@@ -97,7 +97,7 @@ fn canonical_in_room(
 /// Whether two texts begin with one geometry.
 #[inline(never)]
 fn same_long(alloc: Global, one: &str, other: &str, asked: u32) -> Result<Compared, u32>
-    requires places { places_in asked ≤ 18 }
+    requires places { places_in asked ≤ 36 }
     requires utf8 { IsUtf8 one.now }
     requires other_utf8 { IsUtf8 other.now }
     ensures { MatchResult result (AreCompared asked one.now other.now)
@@ -131,7 +131,7 @@ fn same_long(alloc: Global, one: &str, other: &str, asked: u32) -> Result<Compar
 
 /// Whether two texts begin with one geometry: whether their canonical texts are equal.
 pub(crate) fn same(alloc: Global, one: &[u8], other: &[u8], asked: u32) -> Result<Compared, u32>
-    requires places { places_in asked ≤ 18 }
+    requires places { places_in asked ≤ 36 }
     ensures { MatchResult result (AreCompared asked one.now other.now)
         (λ s. ((s ≡ MEMORY) × ((SHORT < length one.now) ⊎ (SHORT < length other.now)))
         ⊎ RefusesOne (read_at (places_in asked)) one.now other.now s) }
@@ -147,7 +147,7 @@ pub(crate) fn same(alloc: Global, one: &[u8], other: &[u8], asked: u32) -> Resul
 /// Apart from the short ones, for which no place of what is needed here is cleared then.
 #[inline(never)]
 fn same_of_bytes(alloc: Global, one: &[u8], other: &[u8], asked: u32) -> Result<Compared, u32>
-    requires places { places_in asked ≤ 18 }
+    requires places { places_in asked ≤ 36 }
     ensures { MatchResult result (AreCompared asked one.now other.now)
         (λ s. (s ≡ MEMORY) ⊎ RefusesOne (read_at (places_in asked)) one.now other.now s) }
 {

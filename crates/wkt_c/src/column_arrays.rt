@@ -11,7 +11,6 @@ use crate::joined::{Joined, push};
 use crate::told::GivenArrays;
 use std::alloc::Global;
 use wkt_calls::asked::{ends_as_asked, places_of};
-use wkt_calls::at_places;
 use wkt_calls::flat::{flat_asked, make_point};
 use wkt_calls::status::{DONE, MEMORY, NOT_WHOLE, NULL_ROW};
 use wkt_machine::FastPoint;
@@ -106,22 +105,21 @@ impl ArrayRows {
 
     /// Adds the arrays of a row, which are made in the room first.
     #[inline(always)]
-    fn add_row<const D: u32>(
+    fn add_row(
         &mut self,
         text: &[u8],
         null: bool,
         asked: u32,
         room: &mut ArraysRoom,
     ) -> Result<(), u32>
-        requires places { places_in asked ≤ 18 }
-        requires same { places_in asked ≡ D }
+        requires places { places_in asked ≤ 36 }
         ensures { MatchResult result
             (λ _. AddsRowArrays (places_in asked) (asks_whole asked) null text.now self.old self.new) (λ s. s ≡ MEMORY) }
     {
         if null {
             return self.add_none(NULL_ROW);
         }
-        if let Some(point) = make_point::<D>(text) {
+        if let Some(point) = make_point(places_of(asked), text) {
             return self.add_point(text, asked, point);
         }
         self.add_flat(text, asked, room)
@@ -130,7 +128,7 @@ impl ArrayRows {
     /// Adds the arrays of a row that isn't null and may be no point.
     #[inline(never)]
     fn add_flat(&mut self, text: &[u8], asked: u32, room: &mut ArraysRoom) -> Result<(), u32>
-        requires { places_in asked ≤ 18 }
+        requires { places_in asked ≤ 36 }
         ensures { MatchResult result
             (λ _. AddsRowArrays (places_in asked) (asks_whole asked) false text.now self.old self.new) (λ s. s ≡ MEMORY) }
     {
@@ -181,16 +179,15 @@ pub(crate) fn copy_heads(
     }
 }
 
-/// The arrays of all rows of a column, with decimals of so many places.
-fn arrays_of<const D: u32>(
+/// The arrays of all rows of a column.
+pub(crate) fn all_arrays(
     alloc: Global,
     given: GivenColumn<'_>,
     asked: u32,
 ) -> Result<ArrayRows, u32>
     requires offsets { AreOffsets given.texts.now given.offsets.now }
     requires bits { HasBits given.valid.now (row_count given.offsets.now) }
-    requires places { places_in asked ≤ 18 }
-    requires same { places_in asked ≡ D }
+    requires places { places_in asked ≤ 36 }
     ensures { MatchResult result
         (HoldsArrays (places_in asked) (asks_whole asked) given.entry.texts.now given.entry.offsets.now given.entry.valid.now (row_count given.entry.offsets.now))
         (λ s. s ≡ MEMORY) }
@@ -201,27 +198,7 @@ fn arrays_of<const D: u32>(
     for i in 0..count {
         let text = &given.texts[given.offsets[i]..given.offsets[i + 1]];
         let null = is_null(given.valid, i);
-        rows.add_row::<D>(text, null, asked, &mut room)?;
+        rows.add_row(text, null, asked, &mut room)?;
     }
     Ok(rows)
-}
-
-/// The arrays of all rows of a column.
-pub(crate) fn all_arrays(
-    alloc: Global,
-    given: GivenColumn<'_>,
-    asked: u32,
-) -> Result<ArrayRows, u32>
-    requires offsets { AreOffsets given.texts.now given.offsets.now }
-    requires bits { HasBits given.valid.now (row_count given.offsets.now) }
-    requires places { places_in asked ≤ 18 }
-    ensures { MatchResult result
-        (HoldsArrays (places_in asked) (asks_whole asked) given.entry.texts.now given.entry.offsets.now given.entry.valid.now (row_count given.entry.offsets.now))
-        (λ s. s ≡ MEMORY) }
-{
-    at_places!(
-        places_of(asked),
-        arrays_of(alloc, given, asked),
-        unreachable!()
-    )
 }

@@ -8,7 +8,7 @@ ghost use Rattle.wkt_c.specs.Rows.{row_of, given_arrays, AddsArraysText, HoldsTe
 use crate::column::{Rows, are_offsets, has_bits, is_null};
 use crate::told::{GivenArrays, told};
 use std::alloc::Global;
-use wkt_calls::at_places;
+use wkt_calls::asked::MOST_ASKED;
 use wkt_calls::status::{DONE, MEMORY, NO_PLACES, NULL_ROW};
 
 /// A column of arrays of the caller's, with the bits of the rows that aren't null, if any row is.
@@ -54,21 +54,22 @@ pub(crate) fn is_array_column(given: GivenRows<'_>, ends: &[usize], statuses: &[
 }
 
 /// Adds the text of a row's arrays, which is written in the room first.
-fn add_text<const D: u32>(
+fn add_text(
+    places: u32,
     rows: &mut Rows,
     room: &mut Vec<u8>,
     row: GivenArrays<'_>,
     null: bool,
 ) -> Result<(), u32>
-    requires { D ≤ 36 }
+    requires { places ≤ 36 }
     ensures { MatchResult result
-        (λ _. AddsArraysText D null (row_of row.entry.kind row.entry.dimension row.entry.numbers.now row.entry.rings.now row.entry.polygons.now) rows.old rows.new)
+        (λ _. AddsArraysText places null (row_of row.entry.kind row.entry.dimension row.entry.numbers.now row.entry.rings.now row.entry.polygons.now) rows.old rows.new)
         (λ s. s ≡ MEMORY) }
 {
     if null {
         return rows.add(&[], NULL_ROW);
     }
-    match told::<D>(row, room) {
+    match told(row, places, room) {
         Ok(pen) => rows.add(pen.written(), DONE),
         Err(status) => {
             if status == MEMORY {
@@ -80,11 +81,11 @@ fn add_text<const D: u32>(
 }
 
 /// The texts of all rows of a column of arrays.
-fn all_texts<const D: u32>(alloc: Global, given: GivenRows<'_>) -> Result<Rows, u32>
-    requires places { D ≤ 36 }
+fn all_texts(alloc: Global, given: GivenRows<'_>, places: u32) -> Result<Rows, u32>
+    requires places { places ≤ 36 }
     requires arrays { AreArrayColumn (given_arrays given) given.valid.now }
     ensures { MatchResult result
-        (HoldsTexts D (given_arrays given.entry) given.entry.valid.now (length given.entry.kinds.now))
+        (HoldsTexts places (given_arrays given.entry) given.entry.valid.now (length given.entry.kinds.now))
         (λ s. s ≡ MEMORY) }
 {
     let count = given.kinds.len();
@@ -99,7 +100,7 @@ fn all_texts<const D: u32>(alloc: Global, given: GivenRows<'_>) -> Result<Rows, 
             polygons: &given.polygons[given.polygon_offsets[i]..given.polygon_offsets[i + 1]],
         };
         let null = is_null(given.valid, i);
-        add_text::<D>(&mut rows, &mut room, row, null)?;
+        add_text(places, &mut rows, &mut room, row, null)?;
     }
     Ok(rows)
 }
@@ -111,5 +112,8 @@ pub(crate) fn texts_at(alloc: Global, given: GivenRows<'_>, places: u32) -> Resu
         (HoldsTexts places (given_arrays given.entry) given.entry.valid.now (length given.entry.kinds.now))
         (λ s. HasNoPlaces places s ⊎ (s ≡ MEMORY)) }
 {
-    at_places!(places, all_texts(alloc, given), Err(NO_PLACES))
+    if places > MOST_ASKED {
+        return Err(NO_PLACES);
+    }
+    all_texts(alloc, given, places)
 }

@@ -11,17 +11,18 @@ ghost use Rattle.wkt_calls.specs.Arrays.{IsNotFlat, HasMoreAt, AreHandedOut, Hav
 use crate::arrays_room::arrays_long;
 use crate::canonical::canonical;
 use crate::column::{GivenColumn, Rows, answers, is_column};
-use crate::lines::{answers_at, some_at};
+use crate::lines::{self, answer_some};
 use crate::told::{GivenArrays, copy_out_text_at};
 use std::alloc::Global;
 use wkt_calls::arrays_call::{arrays_short, is_short};
-use wkt_calls::asked::{ends_as_asked, has_places};
+use wkt_calls::asked::{MOST_ASKED, ends_as_asked, has_places};
 use wkt_calls::canonical::SHORT;
 use wkt_calls::fill::{copy_out, copy_whole};
 use wkt_calls::infer::infer;
 use wkt_calls::lines::is_last;
 use wkt_calls::sizes::WktSizes;
 use wkt_calls::status::{DONE, MEMORY, NO_PLACES, NOT_COLUMN, NOT_WHOLE, SMALL};
+use wkt_num::Places;
 
 /// Writes the one text of the geometry that `text` begins with to the front of `out`, its length to `needed`,
 /// and to `end` where the geometry ends in `text`. Numbers are decimals of so many places; with 256 more the whole
@@ -44,7 +45,7 @@ pub extern "C" fn wkt_canonical(
     ensures memory { result ≡ MEMORY → SHORT < length text.now }
     ensures others { 1 ≤ result → result ≢ SMALL → result ≢ MEMORY → result ≢ NOT_WHOLE →
         RefusesAt (places_in places) text.now result }
-    ensures no_places { 18 < places_in places → result ≡ NO_PLACES }
+    ensures no_places { 36 < places_in places → result ≡ NO_PLACES }
     ensures kept { 1 ≤ result → out.new ≡ out.old }
     ensures needed_kept { 1 ≤ result → result ≢ SMALL → needed.new ≡ needed.old }
     ensures end_kept { 1 ≤ result → result ≢ SMALL → result ≢ NOT_WHOLE → end.new ≡ end.old }
@@ -78,7 +79,7 @@ pub extern "C" fn wkt_same_ends(
     ensures memory { result ≡ MEMORY → (SHORT < length one.now) ⊎ (SHORT < length other.now) }
     ensures others { 1 ≤ result → result ≢ MEMORY → result ≢ NOT_WHOLE →
         RefusesOneAt (places_in places) one.now other.now result }
-    ensures no_places { 18 < places_in places → result ≡ NO_PLACES }
+    ensures no_places { 36 < places_in places → result ≡ NO_PLACES }
     ensures kept { 1 ≤ result → same.new ≡ same.old }
     ensures ends_kept { 1 ≤ result → result ≢ NOT_WHOLE → (end.new ≡ end.old) × (other_end.new ≡ other_end.old) }
 {
@@ -121,7 +122,7 @@ pub extern "C" fn wkt_same(
     ensures memory { result ≡ MEMORY → (SHORT < length one.now) ⊎ (SHORT < length other.now) }
     ensures others { 1 ≤ result → result ≢ MEMORY → result ≢ NOT_WHOLE →
         RefusesOneAt (places_in places) one.now other.now result }
-    ensures no_places { 18 < places_in places → result ≡ NO_PLACES }
+    ensures no_places { 36 < places_in places → result ≡ NO_PLACES }
     ensures kept { 1 ≤ result → same.new ≡ same.old }
 {
     let mut end = 0;
@@ -163,14 +164,14 @@ pub extern "C" fn wkt_lines(
     ensures small { result ≡ SMALL → (answers : List ℕ)
         × IsOutput (read_at places) (print_at places) input.now answers × HasNoRoom answers needed.new out.old }
     ensures others { 1 ≤ result → result ≢ SMALL → HasNoPlaces places result ⊎ (result ≡ MEMORY) }
-    ensures no_places { 18 < places → result ≡ NO_PLACES }
+    ensures no_places { 36 < places → result ≡ NO_PLACES }
     ensures kept { 1 ≤ result → out.new ≡ out.old }
     ensures needed_kept { 1 ≤ result → result ≢ SMALL → needed.new ≡ needed.old }
 {
-    if places > 18 {
+    if places > MOST_ASKED {
         return NO_PLACES;
     }
-    match answers_at(alloc, input, places) {
+    match lines::answers(alloc, input, Places::new(places)) {
         Ok(text) => copy_out(&text, out, needed),
         Err(status) => status,
     }
@@ -194,13 +195,13 @@ pub extern "C" fn wkt_lines_some(
         AnswersSome (read_at places) (print_at places) (ends_here last) input.now taken.new written.new out.new }
     ensures others { 1 ≤ result → HasNoPlaces places result
         ⊎ AnswersNone (read_at places) (print_at places) (ends_here last) input.now out.old result }
-    ensures no_places { 18 < places → result ≡ NO_PLACES }
+    ensures no_places { 36 < places → result ≡ NO_PLACES }
     ensures kept { 1 ≤ result → (taken.new ≡ taken.old) × (written.new ≡ written.old) }
 {
-    if places > 18 {
+    if places > MOST_ASKED {
         return NO_PLACES;
     }
-    match some_at(alloc, input, places, is_last(last), out) {
+    match answer_some(alloc, input, Places::new(places), is_last(last), out) {
         Ok(answered) => {
             *taken = answered.taken;
             *written = answered.written;
@@ -264,7 +265,7 @@ pub extern "C" fn wkt_column_canonical(
     ensures no_column { (IsColumn texts.now offsets.now valid.now out_offsets.old statuses.old → ⊥) → result ≡ NOT_COLUMN }
     ensures others { 1 ≤ result → result ≢ SMALL →
         IsNoColumn places texts.now offsets.now valid.now out_offsets.old statuses.old result }
-    ensures no_places { IsColumn texts.now offsets.now valid.now out_offsets.old statuses.old → 18 < places_in places →
+    ensures no_places { IsColumn texts.now offsets.now valid.now out_offsets.old statuses.old → 36 < places_in places →
         result ≡ NO_PLACES }
     ensures kept { 1 ≤ result →
         (out.new ≡ out.old) × (out_offsets.new ≡ out_offsets.old) × (statuses.new ≡ statuses.old) }
@@ -308,7 +309,7 @@ pub extern "C" fn wkt_arrays(
     ensures memory { result ≡ MEMORY → 64 < length text.now }
     ensures others { 1 ≤ result → result ≢ SMALL → result ≢ MEMORY → result ≢ NOT_WHOLE →
         IsNotFlat (places_in places) text.now result }
-    ensures no_places { 18 < places_in places → result ≡ NO_PLACES }
+    ensures no_places { 36 < places_in places → result ≡ NO_PLACES }
     ensures kept { 1 ≤ result →
         (numbers.new ≡ numbers.old) × (rings.new ≡ rings.old) × (polygons.new ≡ polygons.old) }
     ensures sizes_kept { 1 ≤ result → result ≢ SMALL → result ≢ NOT_WHOLE → sizes.new ≡ sizes.old }

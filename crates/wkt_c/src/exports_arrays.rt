@@ -105,7 +105,7 @@ pub extern "C" fn wkt_column_arrays(
         polygon_offsets.old) statuses.old result }
     ensures no_places { IsTextColumn texts.now offsets.now valid.now (as_column kinds.old dimensions.old numbers.old
         number_offsets.old rings.old ring_offsets.old polygons.old polygon_offsets.old) statuses.old →
-        18 < places_in places → result ≡ NO_PLACES }
+        36 < places_in places → result ≡ NO_PLACES }
     ensures kept { 1 ≤ result → (numbers.new ≡ numbers.old) × (rings.new ≡ rings.old) × (polygons.new ≡ polygons.old) }
     ensures offsets_kept { 1 ≤ result → (number_offsets.new ≡ number_offsets.old)
         × (ring_offsets.new ≡ ring_offsets.old) × (polygon_offsets.new ≡ polygon_offsets.old) }

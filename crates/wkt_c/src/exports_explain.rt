@@ -24,7 +24,7 @@ pub extern "C" fn wkt_explain(
     ensures explained { result ≡ DONE → IsExplained (read_at (places_in places)) text.now message.new start.new stop.new expected.new }
     ensures more { result ≡ NOT_WHOLE → IsFollowed (read_at (places_in places)) (asks_whole places) text.now start.new × (stop.new ≡ length text.now) }
     ensures others { 1 ≤ result → result ≢ NOT_WHOLE → result ≢ NO_PLACES → IsUnexplained (read_at (places_in places)) (asks_whole places) text.now result }
-    ensures no_places { (result ≡ NO_PLACES) ↔ (18 < places_in places) }
+    ensures no_places { (result ≡ NO_PLACES) ↔ (36 < places_in places) }
     ensures kept { 1 ≤ result → (message.new ≡ message.old) × (expected.new ≡ expected.old) }
     ensures place_kept { 1 ≤ result → result ≢ NOT_WHOLE → (start.new ≡ start.old) × (stop.new ≡ stop.old) }
 {
@@ -55,7 +55,7 @@ pub extern "C" fn wkt_hint(text: &[u8], places: u32, hint: &mut u32) -> u32
     ensures hinted { result ≡ DONE → IsHinted (read_at (places_in places)) (places_in places) text.now hint.new }
     ensures more { result ≡ NOT_WHOLE → (start : ℕ) × IsFollowed (read_at (places_in places)) (asks_whole places) text.now start }
     ensures others { 1 ≤ result → result ≢ NOT_WHOLE → result ≢ NO_PLACES → IsUnexplained (read_at (places_in places)) (asks_whole places) text.now result }
-    ensures no_places { (result ≡ NO_PLACES) ↔ (18 < places_in places) }
+    ensures no_places { (result ≡ NO_PLACES) ↔ (36 < places_in places) }
     ensures kept { 1 ≤ result → hint.new ≡ hint.old }
 {
     if !has_places(places) {

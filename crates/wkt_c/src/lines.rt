@@ -1,17 +1,15 @@
 //! Many lines answered at once: all of an input, and those at its front, as many as fit.
-ghost use Rattle.std.specs.Prelude.{◌≡◌, ◌⊎◌, ◌≤◌, ◌<◌, MatchResult, IfSome, take, vec_len, ◌+◌, ◌++◌, length};
+ghost use Rattle.std.specs.Prelude.{◌≡◌, ◌≤◌, ◌<◌, MatchResult, IfSome, take, vec_len, ◌+◌, ◌++◌, length};
 ghost use Rattle.wkt_lines.specs.Output.{IsOutput};
-ghost use Rattle.wkt_calls.specs.Answer.{read_at, print_at, HasNoPlaces};
+ghost use Rattle.wkt_calls.specs.Answer.{read_at, print_at};
 ghost use Rattle.wkt_c.specs.Chunks.{AnswersSome, AnswersNone};
 
 use std::alloc::Global;
-use wkt_calls::at_places;
 use wkt_calls::lines::{Answered, answer_lines, first_line};
-use wkt_calls::status::{MEMORY, NO_PLACES, SMALL};
+use wkt_calls::status::{MEMORY, SMALL};
 use wkt_canonical::{lengthen, room_for};
-use wkt_lines::laws::output_of_parts;
 use wkt_lines::line_end;
-use wkt_num::Decimal;
+use wkt_num::Places;
 
 /// How much more room than for the input is asked for at first.
 const PLUS: usize = 4096;
@@ -46,9 +44,9 @@ fn wider(room: usize, len: usize, rest: &[u8]) -> Option<usize>
     Some(needed.max(room.checked_add(1)?))
 }
 
-/// The answers to all lines of the input.
-pub(crate) fn answers<const D: u32>(alloc: Global, input: &[u8]) -> Result<Vec<u8>, u32>
-    ensures { MatchResult result (λ v. IsOutput (read_at D) (print_at D) input.now v.items) (λ s. s ≡ MEMORY) }
+/// The answers to all lines of the input, with decimals of so many places.
+pub(crate) fn answers(alloc: Global, input: &[u8], places: Places) -> Result<Vec<u8>, u32>
+    ensures { MatchResult result (λ v. IsOutput (read_at places) (print_at places) input.now v.items) (λ s. s ≡ MEMORY) }
 {
     let Ok(mut room) = Vec::with_capacity(alloc, input.len().saturating_add(PLUS)) else {
         return Err(MEMORY);
@@ -58,7 +56,7 @@ pub(crate) fn answers<const D: u32>(alloc: Global, input: &[u8]) -> Result<Vec<u
         written: 0,
     };
     'room: loop {
-        done = answer_lines::<D>(input, true, done, room.as_mut_slice());
+        done = answer_lines(input, places, true, done, room.as_mut_slice());
         if done.taken == input.len() {
             room.truncate(done.written);
             return Ok(room);
@@ -70,14 +68,6 @@ pub(crate) fn answers<const D: u32>(alloc: Global, input: &[u8]) -> Result<Vec<u
     }
 }
 
-/// The answers to all lines of the input, with decimals of so many places.
-pub(crate) fn answers_at(alloc: Global, input: &[u8], places: u32) -> Result<Vec<u8>, u32>
-    ensures { MatchResult result (λ v. IsOutput (read_at places) (print_at places) input.now v.items)
-        (λ s. HasNoPlaces places s ⊎ ((s ≡ MEMORY) × (places ≤ 18))) }
-{
-    at_places!(places, answers(alloc, input), Err(NO_PLACES))
-}
-
 /// Puts the bytes behind the first `at`.
 fn put_at(bytes: &[u8], out: &mut [u8], at: usize)
     requires { at + length bytes.now ≤ length out.old }
@@ -87,33 +77,32 @@ fn put_at(bytes: &[u8], out: &mut [u8], at: usize)
     out[at..at + bytes.len()].copy_from_slice(bytes);
 }
 
-/// Answers as many whole lines at the front of the input as fit into `out`; where the input ends, what is left behind the
-/// last line feed is a line too.
-fn answer_some<const D: u32>(
+/// Answers as many whole lines at the front of the input as fit into `out`, with decimals of so many places; where the input
+/// ends, what is left behind the last line feed is a line too.
+pub(crate) fn answer_some(
     alloc: Global,
     input: &[u8],
+    places: Places,
     last: bool,
     out: &mut [u8],
 ) -> Result<Answered, u32>
-    ensures answers { MatchResult result (λ a. AnswersSome (read_at D) (print_at D) last input.now a.taken a.written out.new)
-        (AnswersNone (read_at D) (print_at D) last input.now out.old) }
+    ensures answers { MatchResult result (λ a. AnswersSome (read_at places) (print_at places) last input.now a.taken a.written out.new)
+        (AnswersNone (read_at places) (print_at places) last input.now out.old) }
     ensures whole { length out.new ≡ length out.old }
 {
-    // No effect at run time. The proof reads that the output for parts is the outputs for them.
-    output_of_parts::<Decimal<D>>();
     let mut done = Answered {
         taken: 0,
         written: 0,
     };
     'lines: loop {
-        done = answer_lines::<D>(input, last, done, out);
+        done = answer_lines(input, places, last, done, out);
         // Whether the answer to the next line fits shows only when it is written.
         let rest = &input[done.taken..];
         let line = first_line(rest, last);
         if line == 0 {
             return Ok(done);
         }
-        let text = match answers::<D>(alloc, &rest[..line]) {
+        let text = match answers(alloc, &rest[..line], places) {
             Ok(text) => text,
             Err(status) => return Err(status),
         };
@@ -129,19 +118,4 @@ fn answer_some<const D: u32>(
             written: done.written + text.len(),
         };
     }
-}
-
-/// Answers whole lines at the front of the input as [`answer_some`] does, with decimals of so many places.
-pub(crate) fn some_at(
-    alloc: Global,
-    input: &[u8],
-    places: u32,
-    last: bool,
-    out: &mut [u8],
-) -> Result<Answered, u32>
-    requires { places ≤ 18 }
-    ensures { MatchResult result (λ a. AnswersSome (read_at places) (print_at places) last input.now a.taken a.written out.new)
-        (AnswersNone (read_at places) (print_at places) last input.now out.old) }
-{
-    at_places!(places, answer_some(alloc, input, last, out), unreachable!())
 }

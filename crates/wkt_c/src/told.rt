@@ -8,14 +8,13 @@ ghost use Rattle.wkt_c.specs.ColumnArrays.{IsTextOf, AreOfSome};
 ghost use Rattle.wkt_c.specs.Rows.{IsRefused, CopiesOutText};
 
 use std::alloc::Global;
-use wkt_calls::at_places;
+use wkt_calls::asked::MOST_ASKED;
 use wkt_calls::fill::copy_out;
 use wkt_calls::status::{MEMORY, NO_PLACES, NOT_ARRAYS};
 use wkt_canonical::Pen;
-use wkt_canonical::laws::{texts_are_short, writes_texts};
+use wkt_canonical::laws::texts_are_short;
 use wkt_fill::{Given, are_arrays, tell};
-use wkt_num::Decimal;
-use wkt_read::laws::reads_back;
+use wkt_num::Places;
 use wkt_types::{Dimension, GeometryType};
 
 /// Flat arrays of the caller's.
@@ -86,14 +85,15 @@ fn make_room(room: &mut Vec<u8>, needed: usize) -> Result<(), u32>
 }
 
 /// A pen that has written the text of the geometry of those arrays, in a room that grows as it has to.
-pub(crate) fn told<'a, const D: u32>(
+pub(crate) fn told<'a>(
     given: GivenArrays<'_>,
+    places: u32,
     room: &'a mut Vec<u8>,
-) -> Result<Pen<'a, Decimal<D>>, u32>
-    requires { D ≤ 36 }
-    ensures ok { IfOk result (λ pen. IsTextOf D given.entry.kind given.entry.dimension given.entry.numbers.now given.entry.rings.now given.entry.polygons.now (written_of pen).bytes) }
+) -> Result<Pen<'a, Places>, u32>
+    requires { places ≤ 36 }
+    ensures ok { IfOk result (λ pen. IsTextOf places given.entry.kind given.entry.dimension given.entry.numbers.now given.entry.rings.now given.entry.polygons.now (written_of pen).bytes) }
     ensures within { IfOk result IsWithin }
-    ensures err { IfErr result (IsRefused (AreOfSome D given.entry.kind given.entry.dimension given.entry.numbers.now given.entry.rings.now given.entry.polygons.now)) }
+    ensures err { IfErr result (IsRefused (AreOfSome places given.entry.kind given.entry.dimension given.entry.numbers.now given.entry.rings.now given.entry.polygons.now)) }
 {
     let arrays = Given {
         kind: kind_of(given.kind)?,
@@ -105,32 +105,30 @@ pub(crate) fn told<'a, const D: u32>(
     if !are_arrays(arrays) {
         return Err(NOT_ARRAYS);
     }
-    let Some(needed) = room_of(arrays, D) else {
+    let Some(needed) = room_of(arrays, places) else {
         return Err(MEMORY);
     };
     make_room(room, needed)?;
-    // No effect at run time. The proof reads that no number's text is too long, what the events write, and that it is read
-    // as that geometry.
+    // No effect at run time. The proof reads that no number's text is too long.
     texts_are_short();
-    writes_texts::<Decimal<D>>();
-    reads_back::<Decimal<D>>();
-    let pen = Pen::new(room.as_mut_slice());
-    Ok(tell::<D, Pen<'a, Decimal<D>>>(arrays, pen))
+    let pen = Pen::new(Places::new(places), room.as_mut_slice());
+    Ok(tell::<Pen<'a, Places>>(arrays, pen))
 }
 
 /// Copies out the text of the geometry of those arrays.
-fn copy_out_text<const D: u32>(
+fn copy_out_text(
     alloc: Global,
     given: GivenArrays<'_>,
+    places: u32,
     out: &mut [u8],
     needed: &mut usize,
 ) -> u32
-    requires { D ≤ 36 }
-    ensures { CopiesOutText D given.entry.kind given.entry.dimension given.entry.numbers.now given.entry.rings.now given.entry.polygons.now
+    requires { places ≤ 36 }
+    ensures { CopiesOutText places given.entry.kind given.entry.dimension given.entry.numbers.now given.entry.rings.now given.entry.polygons.now
         out.old out.new needed.old needed.new result }
 {
     let mut room = Vec::new(alloc);
-    match told::<D>(given, &mut room) {
+    match told(given, places, &mut room) {
         Ok(pen) => copy_out(pen.written(), out, needed),
         Err(status) => status,
     }
@@ -147,5 +145,8 @@ pub(crate) fn copy_out_text_at(
     ensures { CopiesOutText places given.entry.kind given.entry.dimension given.entry.numbers.now given.entry.rings.now given.entry.polygons.now
         out.old out.new needed.old needed.new result }
 {
-    at_places!(places, copy_out_text(alloc, given, out, needed), NO_PLACES)
+    if places > MOST_ASKED {
+        return NO_PLACES;
+    }
+    copy_out_text(alloc, given, places, out, needed)
 }

@@ -174,7 +174,7 @@ is-stuck : {N : Type 0} (read : List ℕ → Option N) (m : Machine) → state_o
 is-stuck read m is [] never = tt
 is-stuck read m is (p ∷ ps) never = ap (λ s. move read s p.lexeme) is ∙ ap (λ o. moved read o (number_of read p.lexeme)) (step-none 0 p.lexeme never)
 
-pub stops_first : {N : Type 0} (read : List ℕ → Option N) (text : List ℕ) {n : ℕ} (s : Bytes n) → s.text.now ≡ text → s.at ≡ 0 → IsUtf8 text → (m : Machine) → state_of m ≡ start → IsNoKind (sight ((bytes_view {n = n} false).remaining s)) → StopsAt read text m 0
+pub stops_first : {N : Type 0} (read : List ℕ → Option N) (text : List ℕ) {n : ℕ} (s : Bytes n) → s.text.now ≡ text → s.at ≡ 0 → IsUtf8 text → (m : Machine) → state_of m ≡ start → IsNoKind (sight ((bytes_view {N = N} {n = n} false).remaining s)) → StopsAt read text m 0
 stops_first {N} read text {n} s same begins utf8 m is never =
     subst (λ at. StopsAt read text m at) begins (stops_there read text s same begins utf8 s m (record {
       taken = [];
@@ -184,5 +184,5 @@ stops_first {N} read text {n} s same begins utf8 m is never =
       ran = ap (λ s. Some (s, [])) (sym is);
       is_open = ap is_over is;
       keeps = λ k h. h;
-      stuck = λ k h. is-stuck read m is ((bytes_view {n = n} false).remaining s) never;
+      stuck = λ k h. is-stuck read m is ((bytes_view {N = N} {n = n} false).remaining s) never;
     }))

@@ -103,9 +103,9 @@ module _ {N : Type 0} (read : List ℕ → Option N) (num : N → List ℕ) wher
     pub texts : IsTrue same ↔ (shape_text num (shape_of first) ≡ shape_text num (shape_of second))
     pub values : IsTrue same ↔ (canon (shape_of first) ≡ canon (shape_of second))
 
--- The status is 23, and there are more than 18 places.
+-- The status is 23, and there are more than 36 places.
 abbrev pub HasNoPlaces : ℕ → ℕ → Type 0
-HasNoPlaces places status = (status ≡ 23) × (18 < places)
+HasNoPlaces places status = (status ≡ 23) × (36 < places)
 
 -- A status is 23 where there are no numbers of so many places, and otherwise says something of the text.
 abbrev pub RefusesAt : ℕ → List ℕ → ℕ → Type 0

@@ -35,7 +35,7 @@ pub fn arrays_in(
     rings: &mut [usize],
     polygons: &mut [usize],
 ) -> u32
-    requires { places_in places ≤ 18 }
+    requires { places_in places ≤ 36 }
     ensures filled { result ≡ DONE → AreHandedOut (places_in places) text.now sizes.new numbers.old numbers.new rings.old
         rings.new polygons.old polygons.new }
     ensures small { result ≡ SMALL → HaveNoRoom (places_in places) text.now sizes.new numbers.old rings.old polygons.old }
@@ -127,7 +127,7 @@ pub fn arrays_short(
     rings: &mut [usize],
     polygons: &mut [usize],
 ) -> u32
-    requires { places_in places ≤ 18 }
+    requires { places_in places ≤ 36 }
     ensures { AnswersArrays places text.now (64 < length text.now) result sizes.old sizes.new numbers.old numbers.new
         rings.old rings.new polygons.old polygons.new }
 {
@@ -148,7 +148,7 @@ fn arrays_few(
     rings: &mut [usize],
     polygons: &mut [usize],
 ) -> u32
-    requires { places_in places ≤ 18 }
+    requires { places_in places ≤ 36 }
     ensures { AnswersArrays places text.now (64 < length text.now) result sizes.old sizes.new numbers.old numbers.new
         rings.old rings.new polygons.old polygons.new }
 {
@@ -178,7 +178,7 @@ fn arrays_shortest(
     rings: &mut [usize],
     polygons: &mut [usize],
 ) -> u32
-    requires { places_in places ≤ 18 }
+    requires { places_in places ≤ 36 }
     ensures { AnswersArrays places text.now (HasNoPlaceFor (places_in places) text.now 18 10 7) result sizes.old sizes.new
         numbers.old numbers.new rings.old rings.new polygons.old polygons.new }
 {

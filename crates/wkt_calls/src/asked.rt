@@ -1,5 +1,4 @@
-//! What a call asks for beside a text: how many places, and whether the text is to be one geometry as a whole; and a function
-//! for each count of places.
+//! What a call asks for beside a text: how many places, and whether the text is to be one geometry as a whole.
 ghost use Rattle.std.specs.Prelude.{◌≡◌, ◌<◌, ◌≤◌, length, drop, true, false};
 ghost use Rattle.wkt_num.specs.Bytes.{AllWhite};
 ghost use Rattle.wkt_calls.specs.Answer.{places_in, asks_whole, EndsAsAsked};
@@ -8,8 +7,8 @@ use wkt_read::words::is_blank;
 
 /// What is added to the number of places where whole texts are asked for.
 const WHOLE: u32 = 256;
-/// There are number types of up to so many places.
-const MOST_ASKED: u32 = 18;
+/// There are numbers of up to so many places.
+pub const MOST_ASKED: u32 = 36;
 
 /// How many places are asked for.
 pub fn places_of(asked: u32) -> u32
@@ -18,10 +17,10 @@ pub fn places_of(asked: u32) -> u32
     if asked < WHOLE { asked } else { asked - WHOLE }
 }
 
-/// Whether there are number types of as many places as are asked for.
+/// Whether there are numbers of as many places as are asked for.
 pub fn has_places(asked: u32) -> bool
-    ensures yes { result ≡ true → places_in asked ≤ 18 }
-    ensures no { result ≡ false → 18 < places_in asked }
+    ensures yes { result ≡ true → places_in asked ≤ 36 }
+    ensures no { result ≡ false → 36 < places_in asked }
 {
     places_of(asked) <= MOST_ASKED
 }
@@ -43,33 +42,4 @@ pub fn ends_as_asked(text: &[u8], end: usize, asked: u32) -> bool
         return true;
     }
     is_blank(&text[end..])
-}
-
-/// Calls a function with decimals of so many places, 0 to 18. The last part is what is answered where there are more.
-#[macro_export]
-macro_rules! at_places {
-    ($places:expr, $call:ident($($arg:expr),*), $more:expr) => {
-        match $places {
-            0 => $call::<0>($($arg),*),
-            1 => $call::<1>($($arg),*),
-            2 => $call::<2>($($arg),*),
-            3 => $call::<3>($($arg),*),
-            4 => $call::<4>($($arg),*),
-            5 => $call::<5>($($arg),*),
-            6 => $call::<6>($($arg),*),
-            7 => $call::<7>($($arg),*),
-            8 => $call::<8>($($arg),*),
-            9 => $call::<9>($($arg),*),
-            10 => $call::<10>($($arg),*),
-            11 => $call::<11>($($arg),*),
-            12 => $call::<12>($($arg),*),
-            13 => $call::<13>($($arg),*),
-            14 => $call::<14>($($arg),*),
-            15 => $call::<15>($($arg),*),
-            16 => $call::<16>($($arg),*),
-            17 => $call::<17>($($arg),*),
-            18 => $call::<18>($($arg),*),
-            _ => $more,
-        }
-    };
 }

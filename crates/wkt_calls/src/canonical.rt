@@ -1,19 +1,18 @@
 //! The one text of what a text begins with.
-ghost use Rattle.std.specs.Prelude.{◌≡◌, ◌≢◌, ◌+◌, ◌*◌, ◌≤◌, ◌⊎◌, ℕ, IfOk, IfSome, IsUtf8, true, false, take, drop, length, slice_index};
+ghost use Rattle.std.specs.Prelude.{◌≡◌, ◌≢◌, ◌+◌, ◌*◌, ◌≤◌, ◌⊎◌, ℕ, IfOk, IsUtf8, true, false, take, drop, length, slice_index};
 ghost use Rattle.std.specs.Str.{IsAscii};
 ghost use Rattle.wkt_num.specs.Bytes.{AllWhite};
 ghost use Rattle.wkt_calls.specs.Calls.{AnswersCanonical, IsWalkedFor, WritesAsked, WritesOrRefuses, WritesOrSaysWhy};
-ghost use Rattle.wkt_calls.specs.Answer.{read_at, print_at, places_in, asks_whole, EndsAsAsked, RefusesText, IsHandedOut, HasNoRoom};
+ghost use Rattle.wkt_calls.specs.Answer.{read_at, print_at, places_in, asks_whole, EndsAsAsked, IsHandedOut, HasNoRoom};
 
 use crate::asked::{ends_as_asked, places_of};
-use crate::at_places;
 use crate::fill::copy_out;
 use crate::refusal::refused_at_start;
 use crate::status::{DONE, NOT_TEXT, NOT_WHOLE, SMALL};
 use std::simd::prelude::*;
 use wkt_canonical::laws::texts_are_short;
 use wkt_canonical::{NoRoom, TextWritten, canonical_in_room};
-use wkt_num::Decimal;
+use wkt_num::Places;
 use wkt_read::Message;
 
 /// How long a text may be that is answered with no memory.
@@ -28,15 +27,15 @@ const BEHIND: usize = 32;
 /// Writes the canonical text of what a text begins with to the front of the room, and returns where the front ends and how
 /// long its canonical text is; or with which message a text is refused that begins with none.
 #[inline(always)]
-fn write<const D: u32>(text: &str, room: &mut [u8]) -> Result<(usize, usize), Message>
-    requires room { 2 * length text.now + 65 ≤ length room.old }
-    ensures writes { WritesOrSaysWhy (read_at D) (print_at D) text.now room.new result }
+fn write(places: Places, text: &str, room: &mut [u8]) -> Result<(usize, usize), Message>
+    requires { 2 * length text.now + 65 ≤ length room.old }
+    ensures writes { WritesOrSaysWhy (read_at places) (print_at places) text.now room.new result }
     ensures within { IfOk result (λ r. r.1 + 64 ≤ length room.new) }
     ensures whole { length room.new ≡ length room.old }
 {
     // No effect at run time. The proof reads that decimals have no texts for which there is no room.
     texts_are_short();
-    match canonical_in_room::<Decimal<D>>(text, room) {
+    match canonical_in_room(places, text, room) {
         Ok(Ok(TextWritten { end, len })) => Ok((end, len)),
         Ok(Err(message)) => Err(message),
         Err(NoRoom) => unreachable!(),
@@ -45,33 +44,12 @@ fn write<const D: u32>(text: &str, room: &mut [u8]) -> Result<(usize, usize), Me
 
 /// Does what `write` does, and returns where the front ends and how long its canonical text is, or why the text is
 /// refused. `walked` is the text, or the text and what stands behind a NUL.
-fn write_or_refuse<const D: u32>(
+fn write_or_refuse(
     text: &str,
     walked: &str,
+    places: Places,
     room: &mut [u8],
 ) -> Result<(usize, usize), u32>
-    requires room { 2 * length walked.now + 65 ≤ length room.old }
-    requires utf8 { IsUtf8 text.now }
-    requires walked { IsWalkedFor text.now walked.now }
-    ensures canonical { WritesOrRefuses (read_at D) (print_at D) text.now room.new result }
-    ensures within { IfOk result (λ r. r.1 + 64 ≤ length room.new) }
-    ensures whole { length room.new ≡ length room.old }
-{
-    match write::<D>(walked, room) {
-        Ok((end, n)) => Ok((end, n)),
-        Err(message) => Err(message.number()),
-    }
-}
-
-/// Writes the canonical text or returns the status of its refusal, with decimals of so many places.
-#[inline(always)]
-fn write_or_refuse_at(
-    text: &str,
-    walked: &str,
-    places: u32,
-    room: &mut [u8],
-) -> Result<(usize, usize), u32>
-    requires places { places ≤ 18 }
     requires room { 2 * length walked.now + 65 ≤ length room.old }
     requires utf8 { IsUtf8 text.now }
     requires walked { IsWalkedFor text.now walked.now }
@@ -79,12 +57,15 @@ fn write_or_refuse_at(
     ensures within { IfOk result (λ r. r.1 + 64 ≤ length room.new) }
     ensures whole { length room.new ≡ length room.old }
 {
-    at_places!(places, write_or_refuse(text, walked, room), unreachable!())
+    match write(places, walked, room) {
+        Ok((end, n)) => Ok((end, n)),
+        Err(message) => Err(message.number()),
+    }
 }
 
 /// Writes the canonical text or returns the status of its refusal, with decimals of as many places as are asked for.
 fn write_in(text: &str, walked: &str, asked: u32, room: &mut [u8]) -> Result<(usize, usize), u32>
-    requires places { places_in asked ≤ 18 }
+    requires places { places_in asked ≤ 36 }
     requires room { 2 * length walked.now + 65 ≤ length room.old }
     requires utf8 { IsUtf8 text.now }
     requires walked { IsWalkedFor text.now walked.now }
@@ -92,14 +73,14 @@ fn write_in(text: &str, walked: &str, asked: u32, room: &mut [u8]) -> Result<(us
     ensures within { IfOk result (λ r. r.1 + 64 ≤ length room.new) }
     ensures whole { length room.new ≡ length room.old }
 {
-    write_or_refuse_at(text, walked, places_of(asked), room)
+    write_or_refuse(text, walked, Places::new(places_of(asked)), room)
 }
 
 /// Writes the canonical text of what a text begins with to the front of a room that is 65 bytes longer than twice the text,
 /// and returns where the geometry ends in the text and how long the canonical text is, or why the text is refused. No more
 /// of the room is used than that.
 pub fn write_within(text: &str, asked: u32, room: &mut [u8]) -> Result<(usize, usize), u32>
-    requires places { places_in asked ≤ 18 }
+    requires places { places_in asked ≤ 36 }
     requires room { 2 * length text.now + 65 ≤ length room.old }
     requires utf8 { IsUtf8 text.now }
     ensures canonical { WritesAsked asked text.now room.new result }
@@ -166,7 +147,7 @@ pub(crate) fn write_short(
     near: &mut [u8],
     room: &mut [u8],
 ) -> Result<(usize, usize), u32>
-    requires places { places_in asked ≤ 18 }
+    requires places { places_in asked ≤ 36 }
     requires near { length text.now + 32 ≤ length near.old }
     requires zeros { (i : ℕ) → slice_index near.old i ≡ 0 }
     requires room { 2 * length text.now + 129 ≤ length room.old }
@@ -225,7 +206,7 @@ pub fn canonical_shortest(
     needed: &mut usize,
     end: &mut usize,
 ) -> u32
-    requires places { places_in asked ≤ 18 }
+    requires places { places_in asked ≤ 36 }
     requires short { length text.now ≤ SHORTEST }
     ensures { AnswersCanonical asked text.now result out.old out.new needed.old needed.new end.old end.new }
 {
@@ -244,7 +225,7 @@ fn canonical_cleared(
     needed: &mut usize,
     end: &mut usize,
 ) -> u32
-    requires places { places_in asked ≤ 18 }
+    requires places { places_in asked ≤ 36 }
     requires short { length text.now ≤ SHORTEST }
     ensures { AnswersCanonical asked text.now result out.old out.new needed.old needed.new end.old end.new }
 {
@@ -263,26 +244,17 @@ fn canonical_unlikely(
     needed: &mut usize,
     end: &mut usize,
 ) -> u32
-    requires places { places_in asked ≤ 18 }
+    requires places { places_in asked ≤ 36 }
     requires short { length text.now ≤ SHORTEST }
     ensures { AnswersCanonical asked text.now result out.old out.new needed.old needed.new end.old end.new }
 {
     match str::from_utf8(text) {
-        Ok(text) => match refused_at(text, places_of(asked)) {
+        Ok(text) => match refused_at_start(Places::new(places_of(asked)), text) {
             Some(status) => status,
             None => canonical_cleared(text.as_bytes(), asked, out, needed, end),
         },
         Err(_) => NOT_TEXT,
     }
-}
-
-/// The status of a text that begins with no word of a kind, with decimals of so many places; `None` where it does.
-#[inline(always)]
-pub(crate) fn refused_at(text: &str, places: u32) -> Option<u32>
-    requires { places ≤ 18 }
-    ensures { IfSome result (RefusesText (read_at places) text.now) }
-{
-    at_places!(places, refused_at_start(text), unreachable!())
 }
 
 /// Answers a text of up to [`SHORT`] bytes with the canonical text of what it begins with.
@@ -294,7 +266,7 @@ pub fn canonical_short(
     needed: &mut usize,
     end: &mut usize,
 ) -> u32
-    requires places { places_in asked ≤ 18 }
+    requires places { places_in asked ≤ 36 }
     requires short { length text.now ≤ SHORT }
     ensures { AnswersCanonical asked text.now result out.old out.new needed.old needed.new end.old end.new }
 {
@@ -313,7 +285,7 @@ fn canonical_middle(
     needed: &mut usize,
     end: &mut usize,
 ) -> u32
-    requires places { places_in asked ≤ 18 }
+    requires places { places_in asked ≤ 36 }
     requires short { length text.now ≤ MIDDLE }
     ensures { AnswersCanonical asked text.now result out.old out.new needed.old needed.new end.old end.new }
 {
@@ -331,7 +303,7 @@ fn canonical_longer(
     needed: &mut usize,
     end: &mut usize,
 ) -> u32
-    requires places { places_in asked ≤ 18 }
+    requires places { places_in asked ≤ 36 }
     requires short { length text.now ≤ SHORT }
     ensures { AnswersCanonical asked text.now result out.old out.new needed.old needed.new end.old end.new }
 {
@@ -351,7 +323,7 @@ fn canonical_padded(
     needed: &mut usize,
     end: &mut usize,
 ) -> u32
-    requires places { places_in asked ≤ 18 }
+    requires places { places_in asked ≤ 36 }
     requires near { length text.now + 32 ≤ length near.old }
     requires zeros { (i : ℕ) → slice_index near.old i ≡ 0 }
     requires room { 2 * length text.now + 129 ≤ length room.old }

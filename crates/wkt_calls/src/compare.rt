@@ -1,35 +1,13 @@
 //! Texts compared by the one text of what each begins with.
 ghost use Rattle.std.specs.Prelude.{◌≡◌, ◌+◌, ◌*◌, ◌≤◌, ◌↔◌, ◌⊎◌, ℕ, IsTrue, MatchResult, IsUtf8, length, slice_index};
-ghost use Rattle.wkt_num.specs.Decimal.{IsUnits};
 ghost use Rattle.wkt_calls.specs.Calls.{AreCompared};
-ghost use Rattle.wkt_read.specs.Laws.{FrontIsWritable, OneText};
 ghost use Rattle.wkt_calls.specs.Answer.{read_at, print_at, places_in, IsCanonicalOf, Compares, RefusesOne};
 
 use crate::asked::places_of;
-use crate::at_places;
-use crate::canonical::{MIDDLE, SHORT, may_begin, refused_at, write_short, write_within};
+use crate::canonical::{MIDDLE, SHORT, may_begin, write_short, write_within};
+use crate::refusal::refused_at_start;
 use crate::status::NOT_TEXT;
-use wkt_num::Decimal;
-use wkt_read::laws::{front_is_writable, one_text};
-
-/// What holds of decimals: one text is one value.
-fn laws<const D: u32>()
-    requires { D ≤ 36 }
-    ensures writable { FrontIsWritable (IsUnits D) (read_at D) }
-    ensures text { OneText (IsUnits D) (print_at D) (read_at D) }
-{
-    front_is_writable::<Decimal<D>>();
-    one_text::<Decimal<D>>();
-}
-
-/// What holds of decimals of so many places: one text is one value.
-fn laws_at(places: u32)
-    requires { places ≤ 18 }
-    ensures writable { FrontIsWritable (IsUnits places) (read_at places) }
-    ensures text { OneText (IsUnits places) (print_at places) (read_at places) }
-{
-    at_places!(places, laws(), unreachable!())
-}
+use wkt_num::Places;
 
 /// Whether these two canonical texts are one.
 fn is_one(one: &[u8], other: &[u8]) -> bool
@@ -48,13 +26,10 @@ pub fn judge(
     other_end: usize,
     asked: u32,
 ) -> bool
-    requires places { places_in asked ≤ 18 }
     requires first { IsCanonicalOf (read_at (places_in asked)) (print_at (places_in asked)) one.now first.now end }
     requires second { IsCanonicalOf (read_at (places_in asked)) (print_at (places_in asked)) other.now second.now other_end }
     ensures { Compares (read_at (places_in asked)) (print_at (places_in asked)) one.now other.now end other_end result }
 {
-    // No effect at run time. The proof reads that one text is one value.
-    laws_at(places_of(asked));
     is_one(first, second)
 }
 
@@ -80,7 +55,7 @@ fn refused_first(status: u32, other: &[u8]) -> u32
 
 /// Whether two texts of up to [`SHORT`] bytes begin with one geometry.
 pub fn same_short(one: &[u8], other: &[u8], asked: u32) -> Result<Compared, u32>
-    requires places { places_in asked ≤ 18 }
+    requires places { places_in asked ≤ 36 }
     requires short { length one.now ≤ SHORT }
     requires other_short { length other.now ≤ SHORT }
     ensures { MatchResult result (AreCompared asked one.now other.now) (RefusesOne (read_at (places_in asked)) one.now other.now) }
@@ -98,13 +73,13 @@ pub fn same_short(one: &[u8], other: &[u8], asked: u32) -> Result<Compared, u32>
 #[cold]
 #[inline(never)]
 fn same_unlikely(one: &[u8], other: &[u8], asked: u32) -> Result<Compared, u32>
-    requires places { places_in asked ≤ 18 }
+    requires places { places_in asked ≤ 36 }
     requires short { length one.now ≤ SHORT }
     requires other_short { length other.now ≤ SHORT }
     ensures { MatchResult result (AreCompared asked one.now other.now) (RefusesOne (read_at (places_in asked)) one.now other.now) }
 {
     match str::from_utf8(one) {
-        Ok(text) => match refused_at(text, places_of(asked)) {
+        Ok(text) => match refused_at_start(Places::new(places_of(asked)), text) {
             Some(status) => Err(refused_first(status, other)),
             None => same_longer(text.as_bytes(), other, asked),
         },
@@ -115,7 +90,7 @@ fn same_unlikely(one: &[u8], other: &[u8], asked: u32) -> Result<Compared, u32>
 /// The same, for texts of up to [`MIDDLE`] bytes.
 #[inline(always)]
 fn same_middle(one: &[u8], other: &[u8], asked: u32) -> Result<Compared, u32>
-    requires places { places_in asked ≤ 18 }
+    requires places { places_in asked ≤ 36 }
     requires short { length one.now ≤ MIDDLE }
     requires other_short { length other.now ≤ MIDDLE }
     ensures { MatchResult result (AreCompared asked one.now other.now) (RefusesOne (read_at (places_in asked)) one.now other.now) }
@@ -138,7 +113,7 @@ fn same_middle(one: &[u8], other: &[u8], asked: u32) -> Result<Compared, u32>
 /// The same, for texts of any length up to [`SHORT`].
 #[inline(never)]
 fn same_longer(one: &[u8], other: &[u8], asked: u32) -> Result<Compared, u32>
-    requires places { places_in asked ≤ 18 }
+    requires places { places_in asked ≤ 36 }
     requires short { length one.now ≤ SHORT }
     requires other_short { length other.now ≤ SHORT }
     ensures { MatchResult result (AreCompared asked one.now other.now) (RefusesOne (read_at (places_in asked)) one.now other.now) }
@@ -169,7 +144,7 @@ fn same_padded(
     other_near: &mut [u8],
     other_room: &mut [u8],
 ) -> Result<Compared, u32>
-    requires places { places_in asked ≤ 18 }
+    requires places { places_in asked ≤ 36 }
     requires near { length one.now + 32 ≤ length near.old }
     requires zeros { (i : ℕ) → slice_index near.old i ≡ 0 }
     requires room { 2 * length one.now + 129 ≤ length room.old }
@@ -210,7 +185,7 @@ pub fn same_in(
     room: &mut [u8],
     other_room: &mut [u8],
 ) -> Result<Compared, u32>
-    requires places { places_in asked ≤ 18 }
+    requires places { places_in asked ≤ 36 }
     requires room { 2 * length one.now + 65 ≤ length room.old }
     requires other_room { 2 * length other.now + 65 ≤ length other_room.old }
     requires utf8 { IsUtf8 one.now }

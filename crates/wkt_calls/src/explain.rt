@@ -5,10 +5,9 @@ ghost use Rattle.wkt_calls.specs.Answer.{read_at, places_in, asks_whole};
 ghost use Rattle.wkt_calls.specs.Explained.{IsUnexplained, expected_number, hint_number};
 
 use crate::asked::{asks_whole, places_of};
-use crate::at_places;
 use crate::status::{ACCEPTED, NOT_TEXT};
-use wkt_explain::{Expected, Hint, Problem, check};
-use wkt_num::Decimal;
+use wkt_explain::{Expected, Hint, Problem, check_by};
+use wkt_num::Places;
 
 /// The number of what could stand there.
 pub fn number_of_expected(expected: Expected) -> u32
@@ -51,15 +50,9 @@ pub fn number_of_hint(hint: Option<Hint>) -> u32
     }
 }
 
-fn checked<const D: u32>(text: &str, whole: bool) -> Result<usize, Problem>
-    ensures { MatchResult result (IsAccepted (read_at D) whole text.now) (IsProblem (read_at D) whole text.now) }
-{
-    check::<Decimal<D>>(text, whole)
-}
-
 /// Why the text isn't accepted; or the status of a text that is accepted, or that is no text.
 pub fn problem(text: &[u8], asked: u32) -> Result<Problem, u32>
-    requires { places_in asked ≤ 18 }
+    requires { places_in asked ≤ 36 }
     ensures { MatchResult result
         (λ p. IsUtf8 text.now × IsProblem (read_at (places_in asked)) (asks_whole asked) text.now p)
         (IsUnexplained (read_at (places_in asked)) (asks_whole asked) text.now) }
@@ -69,7 +62,7 @@ pub fn problem(text: &[u8], asked: u32) -> Result<Problem, u32>
     };
     let whole = asks_whole(asked);
     let places = places_of(asked);
-    match at_places!(places, checked(text, whole), unreachable!()) {
+    match check_by(Places::new(places), text, whole) {
         Ok(_) => Err(ACCEPTED),
         Err(problem) => Ok(problem),
     }

@@ -5,13 +5,12 @@ ghost use Rattle.wkt_calls.specs.Answer.{places_in, read_at, RefusesText};
 ghost use Rattle.wkt_calls.specs.Arrays.{IsFlat, IsFlatPoint, IsNotFlatIn};
 
 use crate::asked::places_of;
-use crate::at_places;
 use crate::infer::{number_of_dimension, number_of_kind};
 use crate::refusal::refusal;
 use crate::status::NOT_TEXT;
 use wkt_fill::{Filler, Room, fill_arrays};
 use wkt_machine::{FastPoint, fast_point};
-use wkt_num::Decimal;
+use wkt_num::Places;
 
 /// Flat arrays with the kind, the dimension and the end of their geometry.
 #[derive(Drop)]
@@ -24,11 +23,11 @@ pub struct Flat<'a> {
 
 /// The arrays of the geometry at the front of a text, in the room. 22: the room is too small.
 #[inline(always)]
-fn make_flat<'a, const D: u32>(text: &[u8], room: Room<'a>) -> Result<Flat<'a>, u32>
-    ensures { MatchResult result (IsFlat D text.now) (IsNotFlatIn D text.now room.entry) }
+fn make_flat<'a>(text: &[u8], places: Places, room: Room<'a>) -> Result<Flat<'a>, u32>
+    ensures { MatchResult result (IsFlat places text.now) (IsNotFlatIn places text.now room.entry) }
 {
-    let Some(filled) = fill_arrays::<D>(text, room) else {
-        return Err(refused::<D>(text));
+    let Some(filled) = fill_arrays(places, text, room) else {
+        return Err(refused(places, text));
     };
     // A front is text, so only what follows it has to be looked at.
     if !is_text_from(text, filled.end) {
@@ -68,38 +67,30 @@ fn is_text_from(text: &[u8], end: usize) -> bool
 /// Why bytes are refused that have no front.
 #[cold]
 #[inline(never)]
-fn refused<const D: u32>(text: &[u8]) -> u32
-    requires { IsUtf8 text.now → HasNoFront (read_at D) text.now }
-    ensures { RefusesText (read_at D) text.now result }
+fn refused(places: Places, text: &[u8]) -> u32
+    requires { IsUtf8 text.now → HasNoFront (read_at places) text.now }
+    ensures { RefusesText (read_at places) text.now result }
 {
     match str::from_utf8(text) {
-        Ok(text) => refusal::<D>(text),
+        Ok(text) => refusal(places, text),
         Err(_) => NOT_TEXT,
     }
 }
 
-/// The flat arrays of a text's front, or why it has none, with decimals of so many places.
-fn flat_at<'a>(text: &[u8], places: u32, room: Room<'a>) -> Result<Flat<'a>, u32>
-    requires { places ≤ 18 }
-    ensures { MatchResult result (IsFlat places text.now) (IsNotFlatIn places text.now room.entry) }
-{
-    at_places!(places, make_flat(text, room), unreachable!())
-}
-
 /// The flat arrays of a text's front, or why it has none, with decimals of as many places as are asked for.
 pub fn flat_asked<'a>(text: &[u8], asked: u32, room: Room<'a>) -> Result<Flat<'a>, u32>
-    requires { places_in asked ≤ 18 }
+    requires { places_in asked ≤ 36 }
     ensures { MatchResult result (IsFlat (places_in asked) text.now) (IsNotFlatIn (places_in asked) text.now room.entry) }
 {
-    flat_at(text, places_of(asked), room)
+    make_flat(text, Places::new(places_of(asked)), room)
 }
 
 /// The point of two numbers at the front of a text. `None` doesn't imply that none stands there.
 #[inline(always)]
-pub fn make_point<const D: u32>(text: &[u8]) -> Option<FastPoint>
-    ensures { IfSome result (λ p. IsFlatPoint D text.now p) }
+pub fn make_point(places: u32, text: &[u8]) -> Option<FastPoint>
+    ensures { IfSome result (λ p. IsFlatPoint places text.now p) }
 {
-    let Some(point) = fast_point::<D>(text) else {
+    let Some(point) = fast_point(places, text) else {
         return None;
     };
     if !is_text_from(text, point.end) {
@@ -108,27 +99,17 @@ pub fn make_point<const D: u32>(text: &[u8]) -> Option<FastPoint>
     Some(point)
 }
 
-/// Puts it there, and returns whether there is one. A point that is returned would come through memory that is cleared for
-/// each text.
-#[inline(always)]
-fn put_point<const D: u32>(text: &[u8], point: &mut FastPoint) -> bool
-    ensures { result ≡ true → IsFlatPoint D text.now point.new }
+/// Puts the point at the front of a text there, with decimals of as many places as are asked for, and returns whether
+/// there is one. A point that is returned would come through memory that is cleared for each text.
+#[inline(never)]
+pub(crate) fn find_point(text: &[u8], asked: u32, point: &mut FastPoint) -> bool
+    ensures { result ≡ true → IsFlatPoint (places_in asked) text.now point.new }
 {
-    match make_point::<D>(text) {
+    match make_point(places_of(asked), text) {
         Some(found) => {
             *point = found;
             true
         }
         None => false,
     }
-}
-
-/// Puts the point at the front of a text there, with decimals of as many places as are asked for, and returns whether
-/// there is one.
-#[inline(never)]
-pub(crate) fn find_point(text: &[u8], asked: u32, point: &mut FastPoint) -> bool
-    requires { places_in asked ≤ 18 }
-    ensures { result ≡ true → IsFlatPoint (places_in asked) text.now point.new }
-{
-    at_places!(places_of(asked), put_point(text, point), unreachable!())
 }

@@ -6,12 +6,10 @@ ghost use Rattle.wkt_lines.specs.Output.{IsOutput};
 ghost use Rattle.wkt_calls.specs.Answer.{read_at, print_at};
 ghost use Rattle.wkt_calls.specs.Calls.{AnswersSure, AreWholeLines, IsChunkStuck, ends_here, IsFirstLine};
 
-use crate::at_places;
 use wkt_canonical::laws::texts_are_short;
 use wkt_canonical::{NoRoom, SPARE, has_room};
-use wkt_lines::laws::output_of_parts;
-use wkt_lines::{Answer, answer_line, line_end};
-use wkt_num::Decimal;
+use wkt_lines::{Answer, answer_line_by, line_end};
+use wkt_num::Places;
 
 /// How many bytes of an input are looked at together for whole lines, mostly.
 const SUM_AT_ONCE: usize = 65536;
@@ -34,15 +32,15 @@ pub fn is_last(last: u32) -> bool
 
 /// Writes the answer to the first line behind the first `len` bytes.
 #[inline(always)]
-fn answer_first<const D: u32>(rest: &[u8], out: &mut [u8], len: usize) -> Answer
+fn answer_first(places: Places, rest: &[u8], out: &mut [u8], len: usize) -> Answer
     requires { len + 2 * length rest.now + 65 ≤ length out.old }
-    ensures answers { AnswersBehind (read_at D) (print_at D) rest.now len out.old out.new result.taken result.len }
+    ensures answers { AnswersBehind (read_at places) (print_at places) rest.now len out.old out.new result.taken result.len }
     ensures whole { length out.new ≡ length out.old }
     ensures room { result.len ≤ length out.old }
     ensures line { result.taken ≡ length (before_feed rest.now) + 1 }
     ensures within { result.taken ≤ length rest.now + 1 }
 {
-    match answer_line::<Decimal<D>>(rest, out, len) {
+    match answer_line_by(places, rest, out, len) {
         Ok(answer) => answer,
         Err(NoRoom) => {
             // No effect at run time. The proof reads that decimals have no such texts.
@@ -73,8 +71,9 @@ fn lesser(one: usize, other: usize) -> usize
 }
 
 /// Answers the lines behind those that are answered, as long as the next answer surely has room.
-pub fn answer_lines<const D: u32>(
+pub fn answer_lines(
     input: &[u8],
+    places: Places,
     last: bool,
     done: Answered,
     out: &mut [u8],
@@ -82,17 +81,15 @@ pub fn answer_lines<const D: u32>(
     requires taken { done.taken ≤ length input.now }
     requires written { done.written ≤ length out.old }
     requires lines { AreWholeLines last input.now done.taken }
-    requires answers { IsOutput (read_at D) (print_at D) (take done.taken input.now) (take done.written out.old) }
+    requires answers { IsOutput (read_at places) (print_at places) (take done.taken input.now) (take done.written out.old) }
     ensures taken { result.taken ≤ length input.now }
     ensures written { result.written ≤ length out.new }
     ensures lines { AreWholeLines last input.now result.taken }
-    ensures answers { IsOutput (read_at D) (print_at D) (take result.taken input.now) (take result.written out.new) }
+    ensures answers { IsOutput (read_at places) (print_at places) (take result.taken input.now) (take result.written out.new) }
     ensures whole { length out.new ≡ length out.old }
     ensures goes { done.taken ≤ result.taken }
     ensures stuck { IsChunkStuck last (drop result.taken input.now) (length out.new - result.written) }
 {
-    // No effect at run time. The proof reads that the output for parts is the outputs for them.
-    output_of_parts::<Decimal<D>>();
     let mut at = done.taken;
     let mut len = done.written;
     let mut end = at;
@@ -107,7 +104,7 @@ pub fn answer_lines<const D: u32>(
                 };
             }
         }
-        let answer = answer_first::<D>(&input[at..end], out, len);
+        let answer = answer_first(places, &input[at..end], out, len);
         at = lesser(at + answer.taken, input.len());
         len = answer.len;
     }
@@ -117,26 +114,17 @@ pub fn answer_lines<const D: u32>(
     }
 }
 
-/// Answers as many whole lines at the front of the input as surely fit into `out`; where the input ends, what is left behind
-/// the last line feed is a line too.
-fn sure_lines<const D: u32>(input: &[u8], last: bool, out: &mut [u8]) -> Answered
-    ensures { AnswersSure (read_at D) (print_at D) last input.now result.taken result.written out.new }
+/// Answers as many whole lines at the front of the input as surely fit into `out`, with decimals of so many places; where the
+/// input ends, what is left behind the last line feed is a line too.
+pub fn sure_lines_at(input: &[u8], places: u32, last: bool, out: &mut [u8]) -> Answered
+    requires { places ≤ 36 }
+    ensures { AnswersSure (read_at places) (print_at places) last input.now result.taken result.written out.new }
 {
-    // No effect at run time. The proof reads that the output for parts is the outputs for them.
-    output_of_parts::<Decimal<D>>();
     let none = Answered {
         taken: 0,
         written: 0,
     };
-    answer_lines::<D>(input, last, none, out)
-}
-
-/// Answers whole lines at the front of the input as [`sure_lines`] does, with decimals of so many places.
-pub fn sure_lines_at(input: &[u8], places: u32, last: bool, out: &mut [u8]) -> Answered
-    requires { places ≤ 18 }
-    ensures { AnswersSure (read_at places) (print_at places) last input.now result.taken result.written out.new }
-{
-    at_places!(places, sure_lines(input, last, out), unreachable!())
+    answer_lines(input, Places::new(places), last, none, out)
 }
 
 /// The bytes of the first line, if it is whole, else none.

@@ -7,7 +7,7 @@ pub const NOT_TEXT: u32 = 20;
 pub const SMALL: u32 = 21;
 /// Out of memory.
 pub const MEMORY: u32 = 22;
-/// There is no number type of so many places here.
+/// There are no numbers of so many places here.
 pub const NO_PLACES: u32 = 23;
 /// A collection, which has no flat arrays.
 pub const NOT_FLAT: u32 = 24;

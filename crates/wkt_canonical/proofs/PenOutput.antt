@@ -182,35 +182,40 @@ always : {N : Type 0} (o : Option N) → IfSome o (λ x. Unit {0})
 always None = tt
 always (Some x) = tt
 
+-- a drive over a text's bytes with a pen
+module _ {P N : Type 0} (reads : P → List ℕ → Option N) (nums : P → N → List ℕ) {n : ℕ} (feed : Bool) (text : List ℕ) (s : Bytes n) (pen : Pen P) (to : At (Bytes n) (Pen P)) (is : s.text.now ≡ text) (at : s.at ≡ 0) where
+  driven : GoesFrom (reads pen.numbers) (bytes_view feed) (pen_maker reads nums) s pen to → is_over (state_of to.machine) ≡ true
+      → (v : Value N) × Front (reads pen.numbers) (line_of feed text) v to.source.at × Made (reads pen.numbers) (nums pen.numbers) pen (events v) to.builder
+  driven h o = front_made (reads pen.numbers) (bytes_view feed) (pen_maker reads nums) (line_of feed text) s pen to (line_left feed text s is at) to.source.at (λ end e. e) h o
+
+  -- the pen that is kept has the numbers that it had
+  pub writes_events : (before after : Pen P) → pen ≡ before → GoesFrom (reads pen.numbers) (bytes_view feed) (pen_maker reads nums) s pen to → is_over (state_of to.machine) ≡ true → record to.builder { numbers = before.numbers } ≡ after
+      → length before.out.now ≤ length after.out.now → WritesEvents (reads before.numbers) (nums before.numbers) (line_of feed text) before after to.source.at
+  writes_events before after begins h o same long =
+      let (v, front, made) = driven h o in
+      let here : Made (reads pen.numbers) (nums pen.numbers) pen (events v) (record to.builder { numbers = pen.numbers }) = subst (λ (p : P). Made (reads pen.numbers) (nums pen.numbers) pen (events v) (record to.builder { numbers = p })) made.numbers made in
+      let kept : Made (reads before.numbers) (nums before.numbers) before (events v) after =
+      subst (Made (reads before.numbers) (nums before.numbers) before (events v)) same (subst (λ (p : Pen P). Made (reads p.numbers) (nums p.numbers) p (events v) (record to.builder { numbers = p.numbers })) begins here) in
+      let shorter = kept.shorter in
+      record { value = v; front = subst (λ (p : Pen P). Front (reads p.numbers) (line_of feed text) v to.source.at) begins front; made = kept; whole = omega (arith, shorter, long) }
+
+  pub writes_nothing : RefusesFrom (reads pen.numbers) (bytes_view feed) (pen_maker reads nums) s pen to → IsUtf8 (line_of feed text) → HasNoFront (reads pen.numbers) (line_of feed text)
+  writes_nothing h utf8 =
+      no_front_there (reads pen.numbers) (bytes_view feed) (pen_maker reads nums) (line_of feed text) s pen to (line_left feed text s is at) text
+      (is, (subst (λ t. IsUtf8 (line_of feed t)) (sym is) utf8, omega (arith, at))) h
+
+  -- where it is refused the machine stops
+  pub stops_at : RefusesFrom (reads pen.numbers) (bytes_view feed) (pen_maker reads nums) s pen to → StopsIn (reads pen.numbers) feed text to.machine to.source.at
+  stops_at h off utf8 =
+      stops_there (reads pen.numbers) text s is at utf8 to.source to.machine
+      (refused (reads pen.numbers) (bytes_view false) (pen_maker reads nums) s pen to (subst (λ b. RefusesFrom (reads pen.numbers) (bytes_view b) (pen_maker reads nums) s pen to) off h))
+
 module _ {N : Type 0} (read : List ℕ → Option N) (num : N → List ℕ) where
   fits : (line : List ℕ) (v : Value N) (end : ℕ) → Front read line v end → IsWellFormed (λ (x : N). Unit {0}) v
   fits line v end front = geometry_fits (λ (x : N). Unit {0}) read (λ bs. always (read bs)) v front.lexemes front.reads
 
-  -- a drive over a text's bytes with a pen
-  module _ {n : ℕ} (feed : Bool) (text : List ℕ) (s : Bytes n) (pen : Pen N) (to : At (Bytes n) (Pen N)) (is : s.text.now ≡ text) (at : s.at ≡ 0) where
-    driven : GoesFrom read (bytes_view feed) (pen_maker read num) s pen to → is_over (state_of to.machine) ≡ true → (v : Value N) × Front read (line_of feed text) v to.source.at × Made read num pen (events v) to.builder
-    driven h o = front_made read (bytes_view feed) (pen_maker read num) (line_of feed text) s pen to (line_left feed text s is at) to.source.at (λ end e. e) h o
-
-    pub writes_events : (before after : Pen N) → pen ≡ before → GoesFrom read (bytes_view feed) (pen_maker read num) s pen to → is_over (state_of to.machine) ≡ true → to.builder ≡ after → length before.out.now ≤ length after.out.now
-        → WritesEvents read num (line_of feed text) before after to.source.at
-    writes_events before after begins h o same long =
-        let (v, front, made) = driven h o in
-        let kept : Made read num before (events v) after = subst (λ p. Made read num p (events v) after) begins (subst (Made read num pen (events v)) same made) in
-        let shorter = kept.shorter in
-        record { value = v; front = front; made = kept; whole = omega (arith, shorter, long) }
-
-    pub writes_nothing : RefusesFrom read (bytes_view feed) (pen_maker read num) s pen to → IsUtf8 (line_of feed text) → HasNoFront read (line_of feed text)
-    writes_nothing h utf8 =
-        no_front_there read (bytes_view feed) (pen_maker read num) (line_of feed text) s pen to (line_left feed text s is at) text
-        (is, (subst (λ t. IsUtf8 (line_of feed t)) (sym is) utf8, omega (arith, at))) h
-
-    -- where it is refused the machine stops
-    pub stops_at : RefusesFrom read (bytes_view feed) (pen_maker read num) s pen to → StopsIn read feed text to.machine to.source.at
-    stops_at h off utf8 =
-        stops_there read text s is at utf8 to.source to.machine (refused read (bytes_view false) (pen_maker read num) s pen to (subst (λ b. RefusesFrom read (bytes_view b) (pen_maker read num) s pen to) off h))
-
   -- a pen that had written nothing holds the text alone
-  pub wrote-alone : (line : List ℕ) (end : ℕ) (old new : List ℕ) (before after : Pen N) → before.len ≡ 0 → before.polygon ≡ 0 → WritesEvents read num line before after end → new ≡ after.out.now → HasWritten read num line 0 old new end after.len
+  pub wrote-alone : {P : Type 0} (line : List ℕ) (end : ℕ) (old new : List ℕ) (before after : Pen P) → before.len ≡ 0 → before.polygon ≡ 0 → WritesEvents read num line before after end → new ≡ after.out.now → HasWritten read num line 0 old new end after.len
   wrote-alone line end old new before after none first h tie =
       let b = h.made.wrote h.whole in
       let empty : written_of before ≡ record { bytes = []; polygon = 0 } = ap (λ (n : ℕ). record { bytes = take n before.out.now; polygon = before.polygon }) none ∙ ap (λ (n : ℕ). record { bytes = []; polygon = n }) first in
@@ -243,7 +248,7 @@ module _ {N : Type 0} (read : List ℕ → Option N) (num : N → List ℕ) wher
   whole-text text bytes at old new (Err e) same utf8 w = w
 
   -- what was written at the front of a buffer is the text's canonical text
-  pub wrote-here : (text bytes old new : List ℕ) (before after : Pen N) (end : ℕ) → bytes ≡ text → IsUtf8 text → before.len ≡ 0 → before.polygon ≡ 0 → WritesEvents read num (line_of false bytes) before after end → after.len + 64 ≤ length after.out.now → new ≡ after.out.now
+  pub wrote-here : {P : Type 0} (text bytes old new : List ℕ) (before after : Pen P) (end : ℕ) → bytes ≡ text → IsUtf8 text → before.len ≡ 0 → before.polygon ≡ 0 → WritesEvents read num (line_of false bytes) before after end → after.len + 64 ≤ length after.out.now → new ≡ after.out.now
       → IsCanonicalTo read num text (take after.len new) end × (after.len ≤ length new) × IsUtf8 (take after.len new)
   wrote-here text bytes old new before after end same utf8 none first h room tie =
       wrote-into text old new end after.len (omega (arith, room, ap length tie)) (whole-text text bytes 0 old new (Ok (Some (end, after.len))) same utf8 (wrote-alone (line_of false bytes) end old new before after none first h tie))
@@ -268,32 +273,33 @@ length-stored at n xs ys e room =
 
 -- What a pen has written that was told a value.
 
-module _ {N : Type 0} (read : List ℕ → Option N) (num : N → List ℕ) where
+module _ {P N : Type 0} (read : List ℕ → Option N) (num : N → List ℕ) where
   -- a pen that has written nothing has room for all but two windows
-  pub fits-fresh : (room : List ℕ) (p : Pen N) (n : ℕ) → IsFresh room p → n + 64 ≤ length room → Fits read num p n
-  fits-fresh room p n f le = omega (arith, f.none, f.whole, le)
+  pub fits-fresh : (numbers : P) (room : List ℕ) (p : Pen P) (n : ℕ) → IsFresh numbers room p → n + 64 ≤ length room → Fits read num p n
+  fits-fresh numbers room p n f le = omega (arith, f.none, f.whole, le)
 
-  pub within-room : (p : Pen N) → Fits read num p 0 → IsWithin p
+  pub within-room : (p : Pen P) → Fits read num p 0 → IsWithin p
   within-room p h = omega (arith, h)
 
   -- a number whose text has no room has a long one
-  same-room : (v : Value N) (s t : Pen N) → (HasLongText read num → ⊥) → Made read num s (events v) t → length t.out.now ≡ length s.out.now
+  same-room : (v : Value N) (s t : Pen P) → (HasLongText read num → ⊥) → Made read num s (events v) t → length t.out.now ≡ length s.out.now
   same-room v s t short h = elim (cases_lt (length t.out.now) (length s.out.now)) [
     | inl less ↦ absurd (short (h.stuck less))
     | inr none ↦ let le = h.shorter in omega (arith, le, none)
   ]
 
-  pub wrote-value : (is_value : N → Type 0) → (HasLongText read num → ⊥) → WritesTexts is_value num → (room : List ℕ) (s t : Pen N) (v : Value N) → IsFresh room s → IsWellFormed is_value v →
+  pub wrote-value : (is_value : N → Type 0) → (HasLongText read num → ⊥) → WritesTexts is_value num → (numbers : P) (room : List ℕ) (s t : Pen P) (v : Value N) → IsFresh numbers room s → IsWellFormed is_value v →
       Made read num s (events v) t → (written_of t).bytes ≡ shape_text num (shape_of v)
-  wrote-value is_value short writes room s t v fresh fits h =
+  wrote-value is_value short writes numbers room s t v fresh fits h =
       let becomes = h.wrote (same-room v s t short h) in
       let first : take s.len s.out.now ≡ [] = ap (λ n. take n s.out.now) fresh.none in
       ap (λ w. w.bytes) becomes.written ∙ writes v (written_of s) fits ∙ ap (λ bs. bs ++ shape_text num (shape_of v)) first
 
 -- What a pen's number is.
 
-pub extends_more : {N : Type 0} (s t u : Pen N) (bs cs : List ℕ) → Extends s bs t → Extends t cs u → Extends s (bs ++ cs) u
+pub extends_more : {P : Type 0} (s t u : Pen P) (bs cs : List ℕ) → Extends s bs t → Extends t cs u → Extends s (bs ++ cs) u
 extends_more s t u bs cs h k = record {
+  numbers = k.numbers ∙ h.numbers;
   origin = k.origin ∙ h.origin;
   whole = k.whole ∙ h.whole;
   len = omega (arith, k.len, h.len, length-append bs cs);
@@ -301,36 +307,44 @@ extends_more s t u bs cs h k = record {
   written = k.written ∙ ap (λ l. l ++ cs) h.written ∙ append_assoc (take s.len s.out.now) bs cs;
 }
 
-pub becomes_of : {N : Type 0} (s t : Pen N) (bs : List ℕ) → Extends s bs t → PenBecomes s (added bs (written_of s)) t
+pub becomes_of : {P : Type 0} (s t : Pen P) (bs : List ℕ) → Extends s bs t → PenBecomes s (added bs (written_of s)) t
 becomes_of s t bs h = record {
+  numbers = h.numbers;
   origin = h.origin;
   whole = h.whole;
   written = ap₂ (λ (l : List ℕ) (n : ℕ). record { bytes = l; polygon = n }) h.written h.polygon;
 }
 
-wrote_of : {N : Type 0} (s t : Pen N) (bs : List ℕ) → Extends s bs t → Wrote s bs t
-wrote_of s t bs h = record { shorter = omega (arith, h.whole); unless = λ _. h }
+wrote_of : {P : Type 0} (s t : Pen P) (bs : List ℕ) → Extends s bs t → Wrote s bs t
+wrote_of s t bs h = record { numbers = h.numbers; shorter = omega (arith, h.whole); unless = λ _. h }
 
 -- the pen has written what stands before a number, and then the number
-module _ {N : Type 0} (read : List ℕ → Option N) (num : N → List ℕ) (text : List ℕ) (at : ℕ) (a : Axis) (self pen : Pen N) (before : Extends self (separator a) pen) where
-  pub makes-number : (made : Pen N) (r : Option ℕ) → IfSome r (Numbered read num text at pen made) → IfSome r (λ end. MakesNumber read (pen_maker read num) self text at a made end)
-  makes-number made None h = tt
-  makes-number made (Some end) h = record {
+module _ {P N : Type 0} (reads : P → List ℕ → Option N) (nums : P → N → List ℕ) (text : List ℕ) (at : ℕ) (a : Axis) (self pen : Pen P) (before : Extends self (separator a) pen) where
+  numbered : (made : Pen P) (end : ℕ) → Numbered (reads pen.numbers) (nums pen.numbers) text at pen made end → Numbered (reads self.numbers) (nums self.numbers) text at pen made end
+  numbered made end = subst (λ (p : P). Numbered (reads p) (nums p) text at pen made end) before.numbers
+
+  one-number : (made : Pen P) (end : ℕ) → Numbered (reads self.numbers) (nums self.numbers) text at pen made end → MakesNumber (reads self.numbers) (pen_maker reads nums) self text at a made end
+  one-number made end h = record {
     number = h.number;
     there = h.there;
     makes = record {
+      numbers = h.wrote.numbers ∙ before.numbers;
       shorter = omega (arith, h.wrote.shorter, before.whole);
-      wrote = λ e. becomes_of self made (separator a ++ num h.number) (extends_more self pen made (separator a) (num h.number) before (h.wrote.unless (omega (arith, e, before.whole))));
+      wrote = λ e. becomes_of self made (separator a ++ nums self.numbers h.number) (extends_more self pen made (separator a) (nums self.numbers h.number) before (h.wrote.unless (omega (arith, e, before.whole))));
       texts = λ e. (h.utf8 (omega (arith, e, before.whole)), tt);
       stuck = λ less. record {
         run = shortest (without_plus (slice_range text at end));
         number = h.number;
         some = shortest-some (without_plus (slice_range text at end));
-        reads = ap read (without-shortest (without_plus (slice_range text at end))) ∙ h.there.reads;
+        reads = ap (reads self.numbers) (without-shortest (without_plus (slice_range text at end))) ∙ h.there.reads;
         long = h.stuck (omega (arith, less, before.whole));
       };
     };
   }
+
+  pub makes-number : (made : Pen P) (r : Option ℕ) → IfSome r (Numbered (reads pen.numbers) (nums pen.numbers) text at pen made) → IfSome r (λ end. MakesNumber (reads self.numbers) (pen_maker reads nums) self text at a made end)
+  makes-number made None h = tt
+  makes-number made (Some end) h = one-number made end (numbered made end h)
 
   separator-short : (a : Axis) → length (separator a) ≤ 1
   separator-short axis.X = omega arith
@@ -338,12 +352,12 @@ module _ {N : Type 0} (read : List ℕ → Option N) (num : N → List ℕ) (tex
   separator-short axis.Z = omega arith
   separator-short axis.M = omega arith
 
-  pub leaves-number : (made : Pen N) (r : Option ℕ) → IfSome r (Numbered read num text at pen made) → IfSome r (LeavesBehind (pen_maker read num) self text at made)
+  pub leaves-number : (made : Pen P) (r : Option ℕ) → IfSome r (Numbered (reads pen.numbers) (nums pen.numbers) text at pen made) → IfSome r (LeavesBehind (pen_maker reads nums) self text at made)
   leaves-number made None h = tt
   leaves-number made (Some end) h = λ m most fits. h.room m most (omega (arith, fits, before.len, before.whole, separator-short a))
 
 -- What was written is taken back: no event made it.
-pub taken-back : {N : Type 0} (read : List ℕ → Option N) (num : N → List ℕ) (self pen : Pen N) (text : List ℕ) → Extends self text pen → self.len ≤ length self.out.now → Made read num self [] (record pen { len = self.len })
+pub taken-back : {P N : Type 0} (read : List ℕ → Option N) (num : N → List ℕ) (self pen : Pen P) (text : List ℕ) → Extends self text pen → self.len ≤ length self.out.now → Made read num self [] (record pen { len = self.len })
 taken-back read num self pen text h within =
     let low : self.len ≤ pen.len = omega (arith, h.len) in
     let long : length (take self.len self.out.now) ≡ self.len = length-take-le self.len self.out.now within in
@@ -351,38 +365,40 @@ taken-back read num self pen text h within =
     sym (take-take self.len pen.len pen.out.now low) ∙ ap (take self.len) h.written
     ∙ ap (λ (k : ℕ). take k (take self.len self.out.now ++ text)) (sym long) ∙ take-append_seam (take self.len self.out.now) text in
     record {
+      numbers = h.numbers;
       shorter = omega (arith, h.whole);
-      wrote = λ _. record { origin = h.origin; whole = h.whole; written = ap₂ (λ (l : List ℕ) (n : ℕ). record { bytes = l; polygon = n }) bytes h.polygon };
+      wrote = λ _. record { numbers = h.numbers; origin = h.origin; whole = h.whole; written = ap₂ (λ (l : List ℕ) (n : ℕ). record { bytes = l; polygon = n }) bytes h.polygon };
       texts = λ _. tt;
       stuck = λ less. absurd (omega (arith, less, h.whole));
     }
 
--- where the last polygon stands was as it is
-pub same-polygon : {N : Type 0} (self made : Pen N) (r : Option ℕ) → IfNone r (made ≡ self) → IfNone r (record made { polygon = self.polygon } ≡ self)
-same-polygon {N} self made None h = ap (λ (p : Pen N). record p { polygon = self.polygon }) h
+-- where the last polygon stands was as it is, and so were the numbers
+pub same-polygon : {P : Type 0} (self made : Pen P) (r : Option ℕ) → IfNone r (made ≡ self) → IfNone r (record made { polygon = self.polygon; numbers = self.numbers } ≡ self)
+same-polygon {P} self made None h = ap (λ (p : Pen P). record p { polygon = self.polygon; numbers = self.numbers }) h
 same-polygon self made (Some end) h = tt
 
-extends-none : {N : Type 0} (p : Pen N) → Extends p [] p
-extends-none p = record { origin = refl; whole = refl; len = omega arith; polygon = refl; written = sym (append-nil (take p.len p.out.now)) }
+extends-none : {P : Type 0} (p : Pen P) → Extends p [] p
+extends-none p = record { numbers = refl; origin = refl; whole = refl; len = omega arith; polygon = refl; written = sym (append-nil (take p.len p.out.now)) }
 
 -- the pen has written the parenthesis of a point without parentheses, and then its first number
-module _ {N : Type 0} (read : List ℕ → Option N) (num : N → List ℕ) (text : List ℕ) (at : ℕ) (self pen made : Pen N) (before : Extends self (40 ∷ []) pen) (end : ℕ) (h : Numbered read num text at pen made end) where
-  pub makes-bare : MakesBareNumber read (pen_maker read num) self text at made end
+module _ {P N : Type 0} (reads : P → List ℕ → Option N) (nums : P → N → List ℕ) (text : List ℕ) (at : ℕ) (self pen made : Pen P) (before : Extends self (40 ∷ []) pen) (end : ℕ) (h : Numbered (reads pen.numbers) (nums pen.numbers) text at pen made end) where
+  pub makes-bare : MakesBareNumber (reads self.numbers) (pen_maker reads nums) self text at made end
   makes-bare = record {
     opened = pen;
     opens = record {
+      numbers = before.numbers;
       shorter = omega (arith, before.whole);
       wrote = λ _. becomes_of self pen (40 ∷ []) before;
       texts = λ _. (tt, tt);
       stuck = λ less. absurd (omega (arith, less, before.whole));
     };
-    number = makes-number read num text at axis.X pen pen (extends-none pen) made (Some end) h;
+    number = subst (λ (p : P). MakesNumber (reads p) (pen_maker reads nums) pen text at axis.X made end) before.numbers (makes-number reads nums text at axis.X pen pen (extends-none pen) made (Some end) h);
   }
 
-  pub leaves-bare : LeavesBehindBare (pen_maker read num) self text at made end
+  pub leaves-bare : LeavesBehindBare (pen_maker reads nums) self text at made end
   leaves-bare = λ m most fits. h.room m most (omega (arith, fits, before.len, before.whole))
 
-module _ {N : Type 0} (read : List ℕ → Option N) (num : N → List ℕ) (text : List ℕ) (at end : ℕ) (x : N) (there : IsNumberAt read text at end x) (self pen : Pen N) where
+module _ {P N : Type 0} (read : List ℕ → Option N) (num : N → List ℕ) (text : List ℕ) (at end : ℕ) (x : N) (there : IsNumberAt read text at end x) (self pen : Pen P) where
   -- a number whose text left room for what follows
   pub fitting-number : Extends self (num x) pen → IsUtf8 (num x) → pen.len + (2 * (length text - end) + 66) ≤ length pen.out.now → Numbered read num text at self pen end
   fitting-number h utf8 room = record {
@@ -406,13 +422,13 @@ module _ {N : Type 0} (read : List ℕ → Option N) (num : N → List ℕ) (tex
   }
 
   -- one that didn't
-  pub stuck-number : IsPenStuck (length self.out.now) pen → number_cost (without_plus (slice_range text at end)) ≤ length (num x) → Numbered read num text at self pen end
+  pub stuck-number : IsPenStuck self.numbers (length self.out.now) pen → number_cost (without_plus (slice_range text at end)) ≤ length (num x) → Numbered read num text at self pen end
   stuck-number stuck long =
       let less = stuck.less in let none = stuck.none in let some = some-cost in
       record {
         number = x;
         there = there;
-        wrote = record { shorter = omega (arith, less); unless = λ e. absurd (omega (arith, e, less)) };
+        wrote = record { numbers = stuck.numbers; shorter = omega (arith, less); unless = λ e. absurd (omega (arith, e, less)) };
         utf8 = λ e. absurd (omega (arith, e, less));
         stuck = λ _. long;
         room = λ m most h. omega (arith, h, less, none, some);
@@ -426,7 +442,7 @@ module _ {N : Type 0} (read : List ℕ → Option N) (num : N → List ℕ) (tex
       some-cost = some-bytes (shortest (without_plus (slice_range text at end))) (shortest-some (without_plus (slice_range text at end)))
 
 -- A number that keeps its text was written as it stands.
-pub kept-numbered : {T : Type 0} (read : List ℕ → Option T) (num : T → List ℕ) (utf8 : (run : List ℕ) (x : T) → read run ≡ Some x → IsUtf8 (num x)) (text : List ℕ) (at end kept : ℕ) (before after : Pen T) → at ≤ length text
+pub kept-numbered : {P T : Type 0} (read : List ℕ → Option T) (num : T → List ℕ) (utf8 : (run : List ℕ) (x : T) → read run ≡ Some x → IsUtf8 (num x)) (text : List ℕ) (at end kept : ℕ) (before after : Pen P) → at ≤ length text
     → KeepsText read num (take (length text - at) (drop at text)) end kept → Extends before (take kept (take (length text - at) (drop at text))) after → Numbered read num text at before after (at + end)
 kept-numbered read num utf8 text at end kept before after within keeps written =
     let rest : take (length text - at) (drop at text) ≡ drop at text = take_rest text at in

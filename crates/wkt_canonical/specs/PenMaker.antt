@@ -1,5 +1,5 @@
 -- What a pen has written, and what it makes of events.
-use Rattle.std.proofs.Common.{refl, sym, ap, ◌∙◌, arith, inl, inr}
+use Rattle.std.proofs.Common.{refl, sym, ap, subst, ◌∙◌, arith, inl, inr}
 use Rattle.std.specs.Prelude.{◌≡◌, ℕ, ◌+◌, ◌≤◌, List, ◌++◌, length, take, IsUtf8, ◌-◌, ◌*◌, ◌<◌, [], ◌∷◌, get_or, slice_range, Option, IsTrue}
 use Rattle.std.specs.List.{AllByRecursion}
 use Rattle.std.proofs.lemmas.Bool.{cases_lt}
@@ -15,21 +15,23 @@ use Rattle.wkt_canonical.specs.Canonical.{HasLongText}
 -- What a pen has written.
 
 -- what a pen has written, and where in it the parenthesis of the last polygon stands
-abbrev pub written_of : {T : Type 0} → Pen T → EventsWritten
+abbrev pub written_of : {P : Type 0} → Pen P → EventsWritten
 written_of p = record { bytes = take p.len p.out.now; polygon = p.polygon }
 
 -- There are so many bytes behind what is written.
-abbrev pub HasBytes : {T : Type 0} → Pen T → ℕ → Type 0
+abbrev pub HasBytes : {P : Type 0} → Pen P → ℕ → Type 0
 HasBytes p n = p.len + n ≤ length p.out.now
 
--- This is written now, in the same bytes. What stands behind it does not count.
-pub record PenBecomes {T : Type 0} (before : Pen T) (w : EventsWritten) (after : Pen T) : Type 0 where
+-- This is written now, in the same bytes, by a pen of the same numbers. What stands behind it does not count.
+pub record PenBecomes {P : Type 0} (before : Pen P) (w : EventsWritten) (after : Pen P) : Type 0 where
+  pub numbers : after.numbers ≡ before.numbers
   pub origin : after.out.ghost_name ≡ before.out.ghost_name
   pub whole : length after.out.now ≡ length before.out.now
   pub written : written_of after ≡ w
 
 -- The text was added to what was written, in the same bytes.
-pub record Extends {T : Type 0} (before : Pen T) (text : List ℕ) (after : Pen T) : Type 0 where
+pub record Extends {P : Type 0} (before : Pen P) (text : List ℕ) (after : Pen P) : Type 0 where
+  pub numbers : after.numbers ≡ before.numbers
   pub origin : after.out.ghost_name ≡ before.out.ghost_name
   pub whole : length after.out.now ≡ length before.out.now
   pub len : after.len ≡ before.len + length text
@@ -37,27 +39,30 @@ pub record Extends {T : Type 0} (before : Pen T) (text : List ℕ) (after : Pen 
   pub written : take after.len after.out.now ≡ take before.len before.out.now ++ text
 
 -- A text was put behind what is written, unless the pen is stuck and has a byte less.
-pub record Wrote {T : Type 0} (before : Pen T) (text : List ℕ) (after : Pen T) : Type 0 where
+pub record Wrote {P : Type 0} (before : Pen P) (text : List ℕ) (after : Pen P) : Type 0 where
+  pub numbers : after.numbers ≡ before.numbers
   pub shorter : length after.out.now ≤ length before.out.now
   pub unless : length after.out.now ≡ length before.out.now → Extends before text after
 
 -- What is written lies within the bytes of the pen.
-abbrev pub IsWithin : {T : Type 0} → Pen T → Type 0
+abbrev pub IsWithin : {P : Type 0} → Pen P → Type 0
 IsWithin p = p.len ≤ length p.out.now
 
--- The pen has written nothing, and has as many bytes as these.
-pub record IsFresh {T : Type 0} (room : List ℕ) (pen : Pen T) : Type 0 where
+-- The pen has written nothing, and has these numbers, and as many bytes as these.
+pub record IsFresh {P : Type 0} (given : P) (room : List ℕ) (pen : Pen P) : Type 0 where
+  pub numbers : pen.numbers ≡ given
   pub whole : length pen.out.now ≡ length room
   pub none : pen.len ≡ 0
   pub first : pen.polygon ≡ 0
 
--- The pen has a byte less than so many, and has written nothing.
-pub record IsPenStuck {T : Type 0} (n : ℕ) (pen : Pen T) : Type 0 where
+-- The pen has these numbers, and a byte less than so many, and has written nothing.
+pub record IsPenStuck {P : Type 0} (given : P) (n : ℕ) (pen : Pen P) : Type 0 where
+  pub numbers : pen.numbers ≡ given
   pub less : length pen.out.now + 1 ≡ n
   pub none : pen.len ≡ 0
 
 -- A number's text was added, and is UTF-8.
-pub record WritesNumber {T : Type 0} (num : T → List ℕ) (before : Pen T) (number : T) (after : Pen T) : Type 0 where
+pub record WritesNumber {P N : Type 0} (num : N → List ℕ) (before : Pen P) (number : N) (after : Pen P) : Type 0 where
   pub extends : Extends before (num number) after
   pub utf8 : IsUtf8 (num number)
 
@@ -80,33 +85,37 @@ pub write_append : {N : Type 0} (num : N → List ℕ) (es fs : List (Event N)) 
 write_append num [] fs w = refl
 write_append num (e ∷ es) fs w = write_append num es fs (write num e w)
 
-module _ {N : Type 0} (read : List ℕ → Option N) (num : N → List ℕ) where
+module _ {P N : Type 0} (read : List ℕ → Option N) (num : N → List ℕ) where
   -- Unless the pen is stuck, it has written the events, and the text of each number is UTF-8. Where it is stuck a number's text is long.
-  pub record Made (s : Pen N) (es : List (Event N)) (t : Pen N) : Type 0 where
+  pub record Made (s : Pen P) (es : List (Event N)) (t : Pen P) : Type 0 where
+    pub numbers : t.numbers ≡ s.numbers
     pub shorter : length t.out.now ≤ length s.out.now
     pub wrote : length t.out.now ≡ length s.out.now → PenBecomes s (write_all num es (written_of s)) t
     pub texts : length t.out.now ≡ length s.out.now → EachNumber (λ x. IsUtf8 (num x)) es
     pub stuck : length t.out.now < length s.out.now → HasLongText read num
 
-  pub makes_none : (s : Pen N) → Made s [] s
+  pub makes_none : (s : Pen P) → Made s [] s
   makes_none s = record {
+    numbers = refl;
     shorter = omega arith;
-    wrote = λ _. record { origin = refl; whole = refl; written = refl };
+    wrote = λ _. record { numbers = refl; origin = refl; whole = refl; written = refl };
     texts = λ _. tt;
     stuck = λ less. absurd (omega (arith, less));
   }
 
-  becomes_more : (s t u : Pen N) (es fs : List (Event N)) → PenBecomes s (write_all num es (written_of s)) t → PenBecomes t (write_all num fs (written_of t)) u → PenBecomes s (write_all num (es ++ fs) (written_of s)) u
+  becomes_more : (s t u : Pen P) (es fs : List (Event N)) → PenBecomes s (write_all num es (written_of s)) t → PenBecomes t (write_all num fs (written_of t)) u → PenBecomes s (write_all num (es ++ fs) (written_of s)) u
   becomes_more s t u es fs h k = record {
+    numbers = k.numbers ∙ h.numbers;
     origin = k.origin ∙ h.origin;
     whole = k.whole ∙ h.whole;
     written = k.written ∙ ap (write_all num fs) h.written ∙ sym (write_append num es fs (written_of s));
   }
 
-  pub makes_more : (s t u : Pen N) (es fs : List (Event N)) → Made s es t → Made t fs u → Made s (es ++ fs) u
+  pub makes_more : (s t u : Pen P) (es fs : List (Event N)) → Made s es t → Made t fs u → Made s (es ++ fs) u
   makes_more s t u es fs h k =
       let first = h.shorter in let then = k.shorter in
       record {
+        numbers = k.numbers ∙ h.numbers;
         shorter = omega (arith, first, then);
         wrote = λ e. becomes_more s t u es fs (h.wrote (omega (arith, first, then, e))) (k.wrote (omega (arith, first, then, e)));
         texts = λ e. each_append (λ x. IsUtf8 (num x)) es fs (h.texts (omega (arith, first, then, e))) (k.texts (omega (arith, first, then, e)));
@@ -114,30 +123,32 @@ module _ {N : Type 0} (read : List ℕ → Option N) (num : N → List ℕ) wher
       }
 
   -- There is room for so much and two windows of 32 bytes behind it.
-  abbrev pub Fits : Pen N → ℕ → Type 0
+  abbrev pub Fits : Pen P → ℕ → Type 0
   Fits p n = p.len + n + 64 ≤ length p.out.now
 
-  pub fits_less : (s : Pen N) (m n : ℕ) → m ≤ n → Fits s n → Fits s m
+  pub fits_less : (s : Pen P) (m n : ℕ) → m ≤ n → Fits s n → Fits s m
   fits_less s m n order h = omega (arith, order, h)
 
-  -- What is made is text. A number takes its text and a space before it.
-  abbrev pub pen_maker : Maker N (Pen N)
-  pen_maker = record {
-    makes = Made;
-    fits = Fits;
-    takes = λ x. length (num x) + 1;
-    none = makes_none;
-    more = makes_more;
-    less = fits_less;
-  }
+-- What is made is text. A number takes its text and a space before it.
+abbrev pub pen_maker : {P N : Type 0} → (P → List ℕ → Option N) → (P → N → List ℕ) → Maker N (Pen P)
+pen_maker {P} {N} read num = record {
+  makes = λ s. Made (read s.numbers) (num s.numbers) s;
+  reads = λ s. read s.numbers;
+  fits = λ s. Fits (read s.numbers) (num s.numbers) s;
+  takes = λ s x. length (num s.numbers x) + 1;
+  none = λ s. makes_none (read s.numbers) (num s.numbers) s;
+  more = λ s t u es fs h k. makes_more (read s.numbers) (num s.numbers) s t u es fs h (subst (λ (p : P). Made (read p) (num p) t fs u) h.numbers k);
+  same = λ s t es h. (ap {B = List ℕ → Option N} read h.numbers, ap {B = N → ℕ} (λ p x. length (num p x) + 1) h.numbers);
+  less = λ s. fits_less (read s.numbers) (num s.numbers) s;
+}
 
 -- A space may have been written, and there is room for the number that stands in the bytes.
-pub record HasSpace {N : Type 0} (p : Pen N) (text : List ℕ) (at : ℕ) : Type 0 where
+pub record HasSpace {P : Type 0} (p : Pen P) (text : List ℕ) (at : ℕ) : Type 0 where
   pub some : p.len + 63 ≤ length p.out.now
   pub run : (end : ℕ) → IsRunEnd text at end → at < end → IsTrue (starts_number (get_or text at 0)) → p.len + number_cost (without_plus (slice_range text at end)) + 63 ≤ length p.out.now
 
 -- A number stands there up to `end`, and its text was written and is UTF-8, unless the pen is stuck: then the text is long. Room for what follows is left.
-pub record Numbered {N : Type 0} (read : List ℕ → Option N) (num : N → List ℕ) (text : List ℕ) (at : ℕ) (before after : Pen N) (end : ℕ) : Type 0 where
+pub record Numbered {P N : Type 0} (read : List ℕ → Option N) (num : N → List ℕ) (text : List ℕ) (at : ℕ) (before after : Pen P) (end : ℕ) : Type 0 where
   pub number : N
   pub there : IsNumberAt read text at end number
   pub wrote : Wrote before (num number) after

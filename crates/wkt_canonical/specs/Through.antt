@@ -11,6 +11,7 @@ use Rattle.wkt_machine.specs.declared.machine.Machine.{Machine}
 use Rattle.wkt_canonical.specs.Canonical.{IsCanonicalTo, HasLongText}
 use Rattle.wkt_canonical.specs.PenMaker.{Made}
 use Rattle.wkt_canonical.specs.declared.pen.Pen.{Pen}
+use Rattle.wkt_canonical.specs.declared.space.Space.{Space}
 use Rattle.wkt_canonical.specs.declared.canonical.Next.{Next}
 use Rattle.wkt_canonical.specs.declared.canonical.NoRoom.{NoRoom}
 use Rattle.wkt_canonical.specs.declared.canonical.TextWritten.{TextWritten}
@@ -35,17 +36,21 @@ abbrev pub StopsIn : {N : Type 0} → (List ℕ → Option N) → Bool → List 
 StopsIn read feed text m at = feed ≡ false → IsUtf8 text → StopsAt read text m at
 
 -- The events of the value that the text begins with were written, and it ends there.
-pub record WritesEvents {N : Type 0} (read : List ℕ → Option N) (num : N → List ℕ) (text : List ℕ) (before after : Pen N) (to : ℕ) : Type 0 where
+pub record WritesEvents {P N : Type 0} (read : List ℕ → Option N) (num : N → List ℕ) (text : List ℕ) (before after : Pen P) (to : ℕ) : Type 0 where
   pub value : Value N
   pub front : Front read text value to
   pub made : Made read num before (events value) after
   pub whole : length after.out.now ≡ length before.out.now
 
--- That; or the text begins with none; or a number's text was too long.
-abbrev pub WritesNext : {N : Type 0} → (List ℕ → Option N) → (N → List ℕ) → Bool → List ℕ → Pen N → Pen N → Next → Type 0
-WritesNext read num feed text before after (next.Ends to) = WritesEvents read num (line_of feed text) before after to
-WritesNext read num feed text before after (next.Nothing m at) = IsUtf8 (line_of feed text) → HasNoFront read (line_of feed text)
-WritesNext read num feed text before after next.NoRoom = HasLongText read num
+-- a pen over a sink's bytes, of which so many are written
+abbrev pub pen_over : {P : Type 0} → P → ℕ → Space → Pen P
+pen_over numbers polygon s = record { out = s.out; len = s.len; polygon = polygon; numbers = numbers }
+
+-- That, by a pen over the bytes; or the text begins with none; or a number's text was too long.
+abbrev pub WritesNext : {P N : Type 0} → (List ℕ → Option N) → (N → List ℕ) → P → Bool → List ℕ → Space → Space → Next → Type 0
+WritesNext read num numbers feed text before after (next.Ends to) = (polygon : ℕ) × WritesEvents read num (line_of feed text) (pen_over numbers 0 before) (pen_over numbers polygon after) to
+WritesNext read num numbers feed text before after (next.Nothing m at) = IsUtf8 (line_of feed text) → HasNoFront read (line_of feed text)
+WritesNext read num numbers feed text before after next.NoRoom = HasLongText read num
 
 -- The canonical text stands at the front of a buffer; or the text is refused with the message; or the buffer was too short, or a number's text too long.
 abbrev pub WritesOrSays : {N : Type 0} → (List ℕ → Option N) → (N → List ℕ) → List ℕ → List ℕ → List ℕ → Result (Result TextWritten Message) NoRoom → Type 0

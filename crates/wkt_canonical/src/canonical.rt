@@ -5,10 +5,10 @@ ghost use Rattle.wkt_canonical.specs.Through.{IfEnds, IfNothing, IfWritten, Stop
 
 use crate::pen::Pen;
 use crate::room::has_room;
-use std::marker::PhantomData;
+use crate::space::Space;
 use wkt_machine::drive::drive;
 use wkt_machine::{At, Bytes, Machine, message_at};
-use wkt_num::WktNum;
+use wkt_num::{Numbers, OfType, WktNum};
 use wkt_read::Message;
 
 /// A number's text is at least twice as long as what it was read from, and there was no room for it: more may do. Decimals
@@ -41,7 +41,22 @@ pub fn canonical_into<T: WktNum>(
     ensures writes { WritesInto T.read T.num text.now buffer.old buffer.new result }
     ensures whole { length buffer.new ≡ length buffer.old }
 {
-    match canonical_or_message_outlined::<T>(text, buffer) {
+    canonical_into_by(OfType::<T>::new(), text, buffer)
+}
+
+/// The same, with numbers of any kind.
+///
+/// # Errors
+/// [`NoRoom`], as there.
+pub fn canonical_into_by<N: Numbers>(
+    numbers: N,
+    text: &str,
+    buffer: &mut [u8],
+) -> Result<Option<TextWritten>, NoRoom>
+    ensures writes { WritesInto (N.read numbers) (N.num numbers) text.now buffer.old buffer.new result }
+    ensures whole { length buffer.new ≡ length buffer.old }
+{
+    match canonical_or_message_outlined(numbers, text, buffer) {
         Ok(Ok(written)) => Ok(Some(written)),
         Ok(Err(_)) => Ok(None),
         Err(NoRoom) => Err(NoRoom),
@@ -53,18 +68,19 @@ pub fn canonical_into<T: WktNum>(
 /// # Errors
 /// [`NoRoom`], as there.
 #[inline(always)]
-pub fn canonical_or_message<T: WktNum>(
+pub fn canonical_or_message<N: Numbers>(
+    numbers: N,
     text: &str,
     buffer: &mut [u8],
 ) -> Result<Result<TextWritten, Message>, NoRoom>
-    ensures writes { WritesOrSays T.read T.num text.now buffer.old buffer.new result }
+    ensures writes { WritesOrSays (N.read numbers) (N.num numbers) text.now buffer.old buffer.new result }
     ensures room { IfWritten result (λ w. w.len + 64 ≤ length buffer.new) }
     ensures whole { length buffer.new ≡ length buffer.old }
 {
     if !has_room(buffer.len(), text.len()) {
         return Err(NoRoom);
     }
-    canonical_in_room::<T>(text, buffer)
+    canonical_in_room(numbers, text, buffer)
 }
 
 /// The same, into a buffer that surely is long enough, which isn't looked at.
@@ -72,39 +88,43 @@ pub fn canonical_or_message<T: WktNum>(
 /// # Errors
 /// [`NoRoom`]: a number's text is at least twice as long as what it was read from.
 #[inline(always)]
-pub fn canonical_in_room<T: WktNum>(
+pub fn canonical_in_room<N: Numbers>(
+    numbers: N,
     text: &str,
     buffer: &mut [u8],
 ) -> Result<Result<TextWritten, Message>, NoRoom>
     requires { 2 * length text.now + 65 ≤ length buffer.old }
-    ensures writes { WritesOrSays T.read T.num text.now buffer.old buffer.new result }
+    ensures writes { WritesOrSays (N.read numbers) (N.num numbers) text.now buffer.old buffer.new result }
     ensures room { IfWritten result (λ w. w.len + 64 ≤ length buffer.new) }
     ensures whole { length buffer.new ≡ length buffer.old }
 {
-    let mut pen: Pen<'_, T> = Pen {
+    let mut space = Space {
         out: &mut *buffer,
         len: 0,
-        polygon: 0,
-        of: PhantomData,
+        failures: 0,
     };
-    match write_next::<T, false>(text.as_bytes(), &mut pen) {
-        Next::Ends(end) => Ok(Ok(TextWritten { end, len: pen.len })),
-        Next::Nothing(machine, at) => Ok(Err(message_at::<T>(machine, text, at))),
+    match write_next::<N, false>(numbers, text.as_bytes(), &mut space) {
+        Next::Ends(end) => Ok(Ok(TextWritten {
+            end,
+            len: space.len,
+        })),
+        Next::Nothing(machine, at) => Ok(Err(message_at(numbers, machine, text, at))),
         Next::NoRoom => Err(NoRoom),
     }
 }
 
 /// The same as [`canonical_or_message`], in the one place that most calls share: into that the machine is built, however large it is.
 #[inline(never)]
-pub fn canonical_or_message_outlined<T: WktNum>(
+pub fn canonical_or_message_outlined<N: Numbers>(
+    numbers: N,
     text: &str,
     buffer: &mut [u8],
 ) -> Result<Result<TextWritten, Message>, NoRoom>
-    ensures writes { WritesOrSays T.read T.num text.now buffer.old buffer.new result }
+    ensures writes { WritesOrSays (N.read numbers) (N.num numbers) text.now buffer.old buffer.new result }
     ensures room { IfWritten result (λ w. w.len + 64 ≤ length buffer.new) }
     ensures whole { length buffer.new ≡ length buffer.old }
 {
-    canonical_or_message::<T>(text, buffer)
+    canonical_or_message(numbers, text, buffer)
 }
 
 /// Writes the canonical text of the geometry that the text begins with behind the first `len` bytes, and returns where
@@ -124,7 +144,7 @@ pub fn write_canonical<T: WktNum>(
     ensures room { LeavesRoom out.old result }
     ensures whole { length out.new ≡ length out.old }
 {
-    write_front::<T, false>(text.as_bytes(), out, len)
+    write_front::<OfType<T>, false>(OfType::<T>::new(), text.as_bytes(), out, len)
 }
 
 /// Writes the canonical text of what bytes begin with, which where `FEED_ENDS` end at the first LF. Where they are no
@@ -133,18 +153,19 @@ pub fn write_canonical<T: WktNum>(
 /// # Errors
 /// Those of [`write_canonical`].
 #[inline(always)]
-pub fn write_front<T: WktNum, const FEED_ENDS: bool>(
+pub fn write_front<N: Numbers, const FEED_ENDS: bool>(
+    numbers: N,
     text: &[u8],
     out: &mut [u8],
     len: usize,
 ) -> Result<Option<(usize, usize)>, NoRoom>
     requires { len + 2 * length text.now + 65 ≤ length out.old }
-    ensures writes { WritesFront T.read T.num FEED_ENDS text.now len out.old out.new result }
+    ensures writes { WritesFront (N.read numbers) (N.num numbers) FEED_ENDS text.now len out.old out.new result }
     ensures kept { take len out.new ≡ take len out.old }
     ensures room { LeavesRoom out.old result }
     ensures whole { length out.new ≡ length out.old }
 {
-    match write_alone::<T, FEED_ENDS>(text, &mut out[len..]) {
+    match write_alone::<N, FEED_ENDS>(numbers, text, &mut out[len..]) {
         Ok(Some((end, n))) => Ok(Some((end, len + n))),
         Ok(None) => Ok(None),
         Err(NoRoom) => Err(NoRoom),
@@ -153,23 +174,23 @@ pub fn write_front<T: WktNum, const FEED_ENDS: bool>(
 
 /// Writes the canonical text of what bytes begin with from the first byte of `out` on.
 #[inline(always)]
-fn write_alone<T: WktNum, const FEED_ENDS: bool>(
+fn write_alone<N: Numbers, const FEED_ENDS: bool>(
+    numbers: N,
     text: &[u8],
     out: &mut [u8],
 ) -> Result<Option<(usize, usize)>, NoRoom>
     requires { 2 * length text.now + 65 ≤ length out.old }
-    ensures writes { WritesFront T.read T.num FEED_ENDS text.now 0 out.old out.new result }
+    ensures writes { WritesFront (N.read numbers) (N.num numbers) FEED_ENDS text.now 0 out.old out.new result }
     ensures room { LeavesRoom out.old result }
     ensures whole { length out.new ≡ length out.old }
 {
-    let mut pen: Pen<'_, T> = Pen {
+    let mut space = Space {
         out: &mut *out,
         len: 0,
-        polygon: 0,
-        of: PhantomData,
+        failures: 0,
     };
-    match write_next::<T, FEED_ENDS>(text, &mut pen) {
-        Next::Ends(end) => Ok(Some((end, pen.len))),
+    match write_next::<N, FEED_ENDS>(numbers, text, &mut space) {
+        Next::Ends(end) => Ok(Some((end, space.len))),
         Next::Nothing(_, _) => Ok(None),
         Next::NoRoom => Err(NoRoom),
     }
@@ -185,29 +206,30 @@ pub(crate) enum Next {
     NoRoom,
 }
 
-/// Writes the geometry that the text begins with. Where it isn't written, what the pen holds is lost.
+/// Writes the geometry that the text begins with. Where it isn't written, what the bytes hold is lost.
 ///
-/// The machine holds the pen by value, and it is put back here, so that whoever lends it knows its bytes afterwards.
+/// The machine holds a pen by value, and its bytes are put back here, so that whoever lends them knows them afterwards.
 #[inline(always)]
-pub(crate) fn write_next<T: WktNum, const FEED_ENDS: bool>(
+pub(crate) fn write_next<N: Numbers, const FEED_ENDS: bool>(
+    numbers: N,
     text: &[u8],
-    pen: &mut Pen<'_, T>,
+    space: &mut Space<'_>,
 ) -> Next
-    requires room { pen.old.len + 2 * length text.now + 65 ≤ length pen.old.out.now }
-    ensures same_reference { IfEnds result (λ r. pen.new.out.ghost_name ≡ pen.old.out.ghost_name) }
-    ensures room { IfEnds result (λ r. pen.new.len + 64 ≤ length pen.new.out.now) }
-    ensures writes { WritesNext T.read T.num FEED_ENDS text.now pen.old pen.new result }
-    ensures stops { IfNothing result (StopsIn T.read FEED_ENDS text.now) }
+    requires room { space.old.len + 2 * length text.now + 65 ≤ length space.old.out.now }
+    ensures same_reference { IfEnds result (λ r. space.new.out.ghost_name ≡ space.old.out.ghost_name) }
+    ensures room { IfEnds result (λ r. space.new.len + 64 ≤ length space.new.out.now) }
+    ensures writes { WritesNext (N.read numbers) (N.num numbers) numbers FEED_ENDS text.now space.old space.new result }
+    ensures stops { IfNothing result (StopsIn (N.read numbers) FEED_ENDS text.now) }
 {
-    let whole = pen.out.len();
-    let out = std::mem::take(&mut pen.out);
-    let made = Pen {
+    let whole = space.out.len();
+    let out = std::mem::take(&mut space.out);
+    let pen = Pen {
         out,
-        len: pen.len,
-        polygon: pen.polygon,
-        of: PhantomData,
+        len: space.len,
+        polygon: 0,
+        numbers,
     };
-    match drive::<T, Bytes<'_, FEED_ENDS>, Pen<'_, T>>(Bytes::new(text, 0), made) {
+    match drive::<N::Number, Bytes<'_, FEED_ENDS>, Pen<'_, N>>(Bytes::new(text, 0), pen) {
         Ok(over) => {
             let At {
                 source,
@@ -217,15 +239,14 @@ pub(crate) fn write_next<T: WktNum, const FEED_ENDS: bool>(
             let Pen {
                 out,
                 len,
-                polygon,
-                of: _,
+                polygon: _,
+                numbers: _,
             } = builder;
             if out.len() < whole {
                 return Next::NoRoom;
             }
-            pen.out = out;
-            pen.len = len;
-            pen.polygon = polygon;
+            space.out = out;
+            space.len = len;
             Next::Ends(source.at)
         }
         Err(stop) => Next::Nothing(stop.machine, stop.source.at),

@@ -11,11 +11,13 @@ mod room;
 mod space;
 
 pub use canonical::{
-    NoRoom, TextWritten, canonical_in_room, canonical_into, canonical_or_message,
-    canonical_or_message_outlined, write_canonical, write_front,
+    NoRoom, TextWritten, canonical_in_room, canonical_into, canonical_into_by,
+    canonical_or_message, canonical_or_message_outlined, write_canonical, write_front,
 };
 pub use pen::Pen;
-pub use room::{SPARE, has_room, lengthen, make_room, room_for, widen, write_growing};
+pub use room::{
+    SPARE, has_room, lengthen, make_room, room_for, widen, write_growing, write_growing_by,
+};
 
 #[cfg(test)]
 mod tests;

@@ -10,7 +10,7 @@ use crate::pen::Pen;
 use crate::space::Space;
 use wkt_events::{byte_at, is_of_run, number_there};
 use wkt_machine::pad;
-use wkt_num::WktNum;
+use wkt_num::Numbers;
 
 /// How many bytes a window has.
 const PEN_WINDOW: usize = 32;
@@ -30,17 +30,17 @@ fn past_plus(text: &[u8], at: usize, end: usize) -> usize
     at
 }
 
-impl<'a, T: WktNum> Pen<'a, T> {
+impl<'a, N: Numbers> Pen<'a, N> {
     /// The number's text.
-    pub(crate) fn put_value(self, number: T) -> Self
-        requires { HasBytes self (length (T.num number)) }
-        ensures { WritesNumber T.num self.entry number result }
+    pub(crate) fn put_value(self, number: N::Number) -> Self
+        requires { HasBytes self (length (N.num self.numbers number)) }
+        ensures { WritesNumber (N.num self.entry.numbers) self.entry number result }
     {
         let Pen {
             out,
             len,
             polygon,
-            of,
+            numbers,
         } = self;
         let mut space = Space {
             out,
@@ -48,12 +48,12 @@ impl<'a, T: WktNum> Pen<'a, T> {
             failures: 0,
         };
         // There is room for it.
-        let _ = number.write_number(&mut space);
+        let _ = numbers.write_number(number, &mut space);
         Pen {
             out: space.out,
             len: space.len,
             polygon,
-            of,
+            numbers,
         }
     }
 
@@ -62,11 +62,11 @@ impl<'a, T: WktNum> Pen<'a, T> {
     fn other_number(self, text: &[u8], at: usize) -> (Self, Option<usize>)
         requires at { at ≤ length text.now }
         requires room { HasSpace self text.now at }
-        ensures some { IfSome result.1 (Numbered T.read T.num text.now at self.entry result.0) }
-        ensures none { IfNone result.1 (NoNumber T.read text.now at) }
+        ensures some { IfSome result.1 (Numbered (N.read self.entry.numbers) (N.num self.entry.numbers) text.now at self.entry result.0) }
+        ensures none { IfNone result.1 (NoNumber (N.read self.entry.numbers) text.now at) }
         ensures nothing { IfNone result.1 (result.0 ≡ self.entry) }
     {
-        let Some((number, end)) = number_there::<T>(text, at) else {
+        let Some((number, end)) = number_there(self.numbers, text, at) else {
             return (self, None);
         };
         let run = past_plus(text, at, end);
@@ -74,7 +74,7 @@ impl<'a, T: WktNum> Pen<'a, T> {
             out,
             len,
             polygon,
-            of,
+            numbers,
         } = self;
         let before = len;
         let mut space = Space {
@@ -82,7 +82,7 @@ impl<'a, T: WktNum> Pen<'a, T> {
             len,
             failures: 0,
         };
-        match number.write_number(&mut space) {
+        match numbers.write_number(number, &mut space) {
             Ok(()) => {
                 let (out, len) = (space.out, space.len);
                 // Each byte of the run was given room for two. A longer text has to leave room for what follows.
@@ -91,13 +91,13 @@ impl<'a, T: WktNum> Pen<'a, T> {
                         out,
                         len,
                         polygon,
-                        of,
+                        numbers,
                     };
                     return (pen, Some(end));
                 }
-                (Pen::stuck(out), Some(end))
+                (Pen::stuck(numbers, out), Some(end))
             }
-            Err(_) => (Pen::stuck(space.out), Some(end)),
+            Err(_) => (Pen::stuck(numbers, space.out), Some(end)),
         }
     }
 
@@ -106,17 +106,17 @@ impl<'a, T: WktNum> Pen<'a, T> {
     pub(crate) fn put_number(self, text: &[u8], at: usize) -> (Self, Option<usize>)
         requires at { at ≤ length text.now }
         requires room { HasSpace self text.now at }
-        ensures some { IfSome result.1 (Numbered T.read T.num text.now at self.entry result.0) }
-        ensures none { IfNone result.1 (NoNumber T.read text.now at) }
+        ensures some { IfSome result.1 (Numbered (N.read self.entry.numbers) (N.num self.entry.numbers) text.now at self.entry result.0) }
+        ensures none { IfNone result.1 (NoNumber (N.read self.entry.numbers) text.now at) }
         ensures nothing { IfNone result.1 (result.0 ≡ self.entry) }
     {
         // Of these types it isn't known that a text that is kept is UTF-8.
-        if !T::reads_texts() {
+        if !self.numbers.reads_texts() {
             return self.other_number(text, at);
         }
         let rest = &text[at..];
         if rest.len() >= PEN_WINDOW {
-            if let Some((end, kept)) = T::canonical_prefix_simd(rest) {
+            if let Some((end, kept)) = self.numbers.canonical_prefix_simd(rest) {
                 return (self.put_front(rest, kept), Some(at + end));
             }
         }
@@ -129,23 +129,24 @@ impl<'a, T: WktNum> Pen<'a, T> {
     fn slow_number(self, text: &[u8], at: usize) -> (Self, Option<usize>)
         requires at { at ≤ length text.now }
         requires room { HasSpace self text.now at }
-        ensures some { IfSome result.1 (Numbered T.read T.num text.now at self.entry result.0) }
-        ensures none { IfNone result.1 (NoNumber T.read text.now at) }
+        ensures some { IfSome result.1 (Numbered (N.read self.entry.numbers) (N.num self.entry.numbers) text.now at self.entry result.0) }
+        ensures none { IfNone result.1 (NoNumber (N.read self.entry.numbers) text.now at) }
         ensures nothing { IfNone result.1 (result.0 ≡ self.entry) }
     {
         let polygon = self.polygon;
+        let numbers = self.numbers;
         let (pen, end) = self.slow_number_outlined(text, at);
         let Pen {
             out,
             len,
             polygon: _,
-            of,
+            numbers: _,
         } = pen;
         let pen = Pen {
             out,
             len,
             polygon,
-            of,
+            numbers,
         };
         (pen, end)
     }
@@ -156,8 +157,8 @@ impl<'a, T: WktNum> Pen<'a, T> {
     fn slow_number_outlined(self, text: &[u8], at: usize) -> (Self, Option<usize>)
         requires at { at ≤ length text.now }
         requires room { HasSpace self text.now at }
-        ensures some { IfSome result.1 (Numbered T.read T.num text.now at self.entry result.0) }
-        ensures none { IfNone result.1 (NoNumber T.read text.now at) }
+        ensures some { IfSome result.1 (Numbered (N.read self.entry.numbers) (N.num self.entry.numbers) text.now at self.entry result.0) }
+        ensures none { IfNone result.1 (NoNumber (N.read self.entry.numbers) text.now at) }
         ensures nothing { IfNone result.1 (result.0 ≡ self.entry) }
     {
         // No number stands where a parenthesis closes, or the text ends.
@@ -165,10 +166,10 @@ impl<'a, T: WktNum> Pen<'a, T> {
             return (self, None);
         }
         let rest = &text[at..];
-        if T::reads_texts() && rest.len() < PEN_WINDOW {
+        if self.numbers.reads_texts() && rest.len() < PEN_WINDOW {
             let mut window = [0; PEN_WINDOW];
             pad(&mut window, rest);
-            if let Some((end, kept)) = T::canonical_prefix_simd(&window) {
+            if let Some((end, kept)) = self.numbers.canonical_prefix_simd(&window) {
                 return (self.put_front(&window, kept), Some(at + end));
             }
         }

@@ -4,36 +4,35 @@ ghost use Rattle.wkt_access.specs.Texts.{suffix};
 ghost use Rattle.wkt_canonical.specs.PenMaker.{HasBytes, Extends, PenBecomes, IsFresh, IsPenStuck, IsWithin, written_of};
 ghost use Rattle.wkt_canonical.specs.Written.{kind_text, empty_text, separator, is_polygon, is_hollow, opened, closed};
 
-use std::marker::PhantomData;
 use std::simd::prelude::*;
 use wkt_access::Dimension;
 use wkt_machine::{Axis, Builder, Part};
-use wkt_num::WktNum;
+use wkt_num::Numbers;
 
 /// Bytes with room, of which the first `len` are written. A polygon may be taken back.
 ///
 /// A pen that had no room for the text of a number is stuck: it has a byte less, writes on from the first, and its bytes
 /// count for nothing.
 #[derive(Drop)]
-pub struct Pen<'a, T> {
+pub struct Pen<'a, N> {
     pub(crate) out: &'a mut [u8],
     pub(crate) len: usize,
     // Where the parenthesis of the last polygon stands.
     pub(crate) polygon: usize,
-    pub(crate) of: PhantomData<T>,
+    pub(crate) numbers: N,
 }
 
-impl<'a, T> Pen<'a, T> {
+impl<'a, N: Numbers> Pen<'a, N> {
     /// A pen that has written nothing yet, and has those bytes.
     #[inline(always)]
-    pub fn new(out: &'a mut [u8]) -> Pen<'a, T>
-        ensures { IsFresh out.old result }
+    pub fn new(numbers: N, out: &'a mut [u8]) -> Pen<'a, N>
+        ensures { IsFresh numbers out.old result }
     {
         Pen {
             out,
             len: 0,
             polygon: 0,
-            of: PhantomData,
+            numbers,
         }
     }
 
@@ -47,16 +46,16 @@ impl<'a, T> Pen<'a, T> {
     }
 
     /// A pen that is stuck.
-    pub(crate) fn stuck(out: &'a mut [u8]) -> Pen<'a, T>
+    pub(crate) fn stuck(numbers: N, out: &'a mut [u8]) -> Pen<'a, N>
         requires { 1 ≤ length out.old }
-        ensures { IsPenStuck (length out.old) result }
+        ensures { IsPenStuck numbers (length out.old) result }
     {
         let n = out.len() - 1;
         Pen {
             out: &mut out[..n],
             len: 0,
             polygon: 0,
-            of: PhantomData,
+            numbers,
         }
     }
 
@@ -69,14 +68,14 @@ impl<'a, T> Pen<'a, T> {
             out,
             len,
             polygon,
-            of,
+            numbers,
         } = self;
         out[len] = byte;
         Pen {
             out,
             len: len + 1,
             polygon,
-            of,
+            numbers,
         }
     }
 
@@ -92,14 +91,14 @@ impl<'a, T> Pen<'a, T> {
             out,
             len,
             polygon,
-            of,
+            numbers,
         } = self;
         u8x32::from_slice(window).copy_to_slice(&mut out[len..]);
         Pen {
             out,
             len: len + n,
             polygon,
-            of,
+            numbers,
         }
     }
 
@@ -112,7 +111,7 @@ impl<'a, T> Pen<'a, T> {
             out,
             len,
             polygon,
-            of,
+            numbers,
         } = self;
         let end = len + text.len();
         out[len..end].copy_from_slice(text);
@@ -120,7 +119,7 @@ impl<'a, T> Pen<'a, T> {
             out,
             len: end,
             polygon,
-            of,
+            numbers,
         }
     }
 
@@ -169,13 +168,13 @@ impl<'a, T> Pen<'a, T> {
             out,
             len: _,
             polygon,
-            of,
+            numbers,
         } = self;
         Pen {
             out,
             len,
             polygon,
-            of,
+            numbers,
         }
     }
 
@@ -202,13 +201,13 @@ impl<'a, T> Pen<'a, T> {
             out,
             len,
             polygon: _,
-            of,
+            numbers,
         } = self;
         let pen = Pen {
             out,
             len,
             polygon: len,
-            of,
+            numbers,
         };
         pen.put(b'(')
     }
@@ -239,13 +238,13 @@ impl<'a, T> Pen<'a, T> {
             out,
             len: _,
             polygon,
-            of,
+            numbers,
         } = self;
         let pen = Pen {
             out,
             len: polygon,
             polygon,
-            of,
+            numbers,
         };
         pen.put_empty(part)
     }
@@ -291,10 +290,10 @@ fn is_polygon(part: Part) -> bool
     matches!(part, Part::Polygon | Part::Area)
 }
 
-impl<T: WktNum> Builder<T> for Pen<'_, T> {
+impl<N: Numbers> Builder<N::Number> for Pen<'_, N> {
     ghost use Rattle.wkt_canonical.specs.PenMaker.{pen_maker};
 
-    ghost maker = { pen_maker T.read T.num };
+    ghost maker = { pen_maker N.read N.num };
 
     #[inline(always)]
     fn begin(self, whole: Part, dim: Dimension) -> Self {
@@ -328,7 +327,7 @@ impl<T: WktNum> Builder<T> for Pen<'_, T> {
     }
 
     #[inline(always)]
-    fn number(self, number: T, axis: Axis) -> Self {
+    fn number(self, number: N::Number, axis: Axis) -> Self {
         self.put_separator(axis).put_value(number)
     }
 

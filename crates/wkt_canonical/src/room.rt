@@ -2,9 +2,9 @@
 ghost use Rattle.std.specs.Prelude.{◌≡◌, ◌+◌, ◌*◌, ◌^◌, ◌<◌, ◌≤◌, OnOk, SomeIff, take, vec_len, true, false};
 ghost use Rattle.wkt_canonical.specs.Through.{HoldsCanonical};
 
-use crate::canonical::{NoRoom, TextWritten, canonical_into};
+use crate::canonical::{NoRoom, TextWritten, canonical_into_by};
 use std::alloc::AllocError;
-use wkt_num::WktNum;
+use wkt_num::{Numbers, OfType, WktNum};
 
 /// How much longer than twice a text the room for its canonical text is.
 ///
@@ -107,12 +107,26 @@ pub fn write_growing<T: WktNum>(
 ) -> Result<Option<TextWritten>, AllocError>
     ensures { HoldsCanonical T.read T.num text.now room.new.items result }
 {
+    write_growing_by(OfType::<T>::new(), text, room)
+}
+
+/// The same, with numbers of any kind.
+///
+/// # Errors
+/// Out of memory.
+pub fn write_growing_by<N: Numbers>(
+    numbers: N,
+    text: &str,
+    room: &mut Vec<u8>,
+) -> Result<Option<TextWritten>, AllocError>
+    ensures { HoldsCanonical (N.read numbers) (N.num numbers) text.now room.new.items result }
+{
     match make_room(room, 0, text.len()) {
         Ok(()) => {}
         Err(e) => return Err(e),
     }
     'room: loop {
-        match canonical_into::<T>(text, room.as_mut_slice()) {
+        match canonical_into_by(numbers, text, room.as_mut_slice()) {
             Ok(written) => return Ok(written),
             Err(NoRoom) => {}
         }

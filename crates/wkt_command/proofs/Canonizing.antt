@@ -30,14 +30,14 @@ ok-map (Err e) P Q f h = tt
 
 module _ (o : Options) (text : List ℕ) (old new : Option (List ℕ)) where
   -- it was read, and its canonical text was put out
-  pub canonizes-read : (room : List ℕ) (len : ℕ) → IsVerdict (read_decimal 127 36 (min o.places 18)) (decimal_text (min o.places 18)) o.front text room (Read len)
+  pub canonizes-read : (room : List ℕ) (len : ℕ) → IsVerdict (read_decimal 127 36 (min o.places 36)) (decimal_text (min o.places 36)) o.front text room (Read len)
       → IsUtf8 text → Appends old new (take len room ++ 10 ∷ []) → Canonizes o text old new
   canonizes-read room len (end, w, whole) utf8 out = (
     take len room ++ 10 ∷ [],
     record {
       read = λ u v e is.
-          let same = front_one (read_decimal 127 36 (min o.places 18)) text w.value v end e w.front is.front in
-          ap (λ bs. bs ++ 10 ∷ []) (w.is ∙ ap (λ x. shape_text (decimal_text (min o.places 18)) (shape_of x)) same.0);
+          let same = front_one (read_decimal 127 36 (min o.places 36)) text w.value v end e w.front is.front in
+          ap (λ bs. bs ++ 10 ∷ []) (w.is ∙ ap (λ x. shape_text (decimal_text (min o.places 36)) (shape_of x)) same.0);
       refused = λ none. absurd (none utf8 w.value end (record { front = w.front; whole = whole }));
     },
     out,
@@ -48,15 +48,15 @@ module _ (o : Options) (text : List ℕ) (old new : Option (List ℕ)) where
   canonizes-refused none out = (refused_line o.refused, record { read = λ u v e is. absurd (none u v e is); refused = λ _. refl }, out)
 
   -- a text that is refused somewhere isn't read
-  pub none-refused : (room : List ℕ) (why : Explanation) → IsVerdict (read_decimal 127 36 (min o.places 18)) (decimal_text (min o.places 18)) o.front text room (Refused why)
+  pub none-refused : (room : List ℕ) (why : Explanation) → IsVerdict (read_decimal 127 36 (min o.places 36)) (decimal_text (min o.places 36)) o.front text room (Refused why)
       → IsUtf8 text → (v : Value ℤ) (end : ℕ) → IsReadAs o text v end → ⊥
   none-refused room why (same, at, none) utf8 v end is = none v end is.front
 
   -- nor is one with more than white space after its front, unless the front alone counts
-  pub none-rest : (room : List ℕ) (stop : ℕ) → IsVerdict (read_decimal 127 36 (min o.places 18)) (decimal_text (min o.places 18)) o.front text room (Rest stop)
+  pub none-rest : (room : List ℕ) (stop : ℕ) → IsVerdict (read_decimal 127 36 (min o.places 36)) (decimal_text (min o.places 36)) o.front text room (Rest stop)
       → IsUtf8 text → (v : Value ℤ) (end : ℕ) → IsReadAs o text v end → ⊥
   none-rest room stop (whole, (len, w), more) utf8 v end is =
-      let same = front_one (read_decimal 127 36 (min o.places 18)) text v w.value end stop is.front w.front in
+      let same = front_one (read_decimal 127 36 (min o.places 36)) text v w.value end stop is.front w.front in
       ⊎_elim (λ (e : o.front ≡ true). let clash : true ≡ false = sym e ∙ whole in cc) (λ white. more (subst (λ n. AllWhite (drop n text)) same.1 white)) is.whole
 
 pub canonizes-kept : (o : Options) (text : List ℕ) (old middle new : Option (List ℕ)) → Canonizes o text old middle → Keeps middle new → Canonizes o text old new

@@ -43,7 +43,7 @@ out_bytes contents o = writer_contents contents o.writer
 
 -- A text is read as this value, whose front ends there: nothing but white space follows it, or the front alone counts.
 pub record IsReadAs (o : Options) (text : List ℕ) (v : Value ℤ) (end : ℕ) : Type 0 where
-  pub front : Front (read_decimal 127 36 (min o.places 18)) text v end
+  pub front : Front (read_decimal 127 36 (min o.places 36)) text v end
   pub whole : (o.front ≡ true) ⊎ AllWhite (drop end text)
 
 -- The line for a refused text, if one was asked for; the word `skip` asks for none.
@@ -54,7 +54,7 @@ refused_line (Some word) = if bytes_eq (codes "skip") (string_bytes word) then [
 -- What `wkt canon` writes for a text: of one that is read the canonical text, with a line feed, and of another what was asked for.
 pub record IsAnswerTo (o : Options) (text out : List ℕ) : Type 0 where
   pub read : IsUtf8 text → (v : Value ℤ) (end : ℕ) → IsReadAs o text v end
-      → out ≡ shape_text (decimal_text (min o.places 18)) (shape_of v) ++ 10 ∷ []
+      → out ≡ shape_text (decimal_text (min o.places 36)) (shape_of v) ++ 10 ∷ []
   pub refused : (IsUtf8 text → (v : Value ℤ) (end : ℕ) → IsReadAs o text v end → ⊥) → out ≡ refused_line o.refused
 
 -- That was written.

@@ -40,7 +40,7 @@ pub enum Ends {
 #[derive(Drop)]
 pub struct Options {
     pub command: Command,
-    /// How many digits a number may have after its point, 0 to 18.
+    /// How many digits a number may have after its point, 0 to 36.
     pub places: u32,
     pub ends: Ends,
     /// What follows a geometry in its text isn't looked at.

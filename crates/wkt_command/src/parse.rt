@@ -254,7 +254,7 @@ fn ends(before: Ends, now: Ends) -> Result<Ends, UsageError> {
 
 fn places(alloc: Global, value: &str) -> Result<u32, UsageError> {
     match value.parse::<u32>() {
-        Ok(n) if n <= 18 => Ok(n),
+        Ok(n) if n <= 36 => Ok(n),
         _ => Err(UsageError::Places(copy(alloc, value)?)),
     }
 }

@@ -20,7 +20,7 @@ usage: wkt check [OPTIONS] [FILE..]   where texts are refused, and what was expe
 
 Each line of a FILE is a text of well-known text. With no FILE, or where FILE is -, standard input is read.
 
-  -p, --places N    numbers have at most N digits after the point, 0 to 18 (18); nothing is rounded
+  -p, --places N    numbers have at most N digits after the point, 0 to 36 (18); nothing is rounded
   -w, --whole       a FILE is one text, on any number of lines
   -0, --null        texts end at a NUL, not at a line feed
   -f, --front       what follows a geometry in its text isn't looked at
@@ -57,7 +57,7 @@ pub enum UsageError {
     NoValue(String),
     #[error("option {0} takes no value")]
     Value(String),
-    #[error("--places takes a number from 0 to 18, not {0}")]
+    #[error("--places takes a number from 0 to 36, not {0}")]
     Places(String),
     #[error("--max takes a number, not {0}")]
     Max(String),

@@ -4,9 +4,9 @@ ghost use Rattle.wkt_command.specs.Canon.{IsVerdict};
 ghost use Rattle.wkt_num.specs.Decimal.{decimal_text, read_decimal};
 
 use std::alloc::{AllocError, Global};
-use wkt_canonical::{TextWritten, write_growing};
-use wkt_explain::{Explanation, explain};
-use wkt_num::{Decimal, WktNum};
+use wkt_canonical::{TextWritten, write_growing_by};
+use wkt_explain::{Explanation, explain_by};
+use wkt_num::{Numbers, Places};
 use wkt_read::words::is_blank;
 
 /// The first bytes: so many, or all where there are fewer.
@@ -28,15 +28,16 @@ pub enum Verdict<'a> {
 }
 
 /// Whether the text is read, with its canonical text in the room; of a front, whatever follows it.
-pub fn judge<'a, T: WktNum>(
+pub fn judge<'a, N: Numbers>(
+    numbers: N,
     alloc: Global,
     text: &'a str,
     front: bool,
     room: &mut Vec<u8>,
 ) -> Result<Verdict<'a>, AllocError>
-    ensures { IfOk result (IsVerdict T.read T.num front text.now room.new.items) }
+    ensures { IfOk result (IsVerdict (N.read numbers) (N.num numbers) front text.now room.new.items) }
 {
-    match write_growing::<T>(text, room)? {
+    match write_growing_by(numbers, text, room)? {
         Some(TextWritten { end, len }) => {
             if front || is_blank(&text.as_bytes()[end..]) {
                 Ok(Verdict::Read(len))
@@ -44,14 +45,14 @@ pub fn judge<'a, T: WktNum>(
                 Ok(Verdict::Rest(end))
             }
         }
-        None => match explain::<T>(text) {
+        None => match explain_by(numbers, text) {
             Some(why) => Ok(Verdict::Refused(why)),
             None => unreachable!(),
         },
     }
 }
 
-/// Whether the text is read, with its canonical text in the room, over decimals of so many places (18 where more are
+/// Whether the text is read, with its canonical text in the room, over decimals of so many places (36 where more are
 /// asked for).
 ///
 /// # Errors
@@ -63,27 +64,7 @@ pub fn verdict_at<'a>(
     front: bool,
     room: &mut Vec<u8>,
 ) -> Result<Verdict<'a>, AllocError>
-    ensures { IfOk result (IsVerdict (read_decimal 127 36 (min places 18)) (decimal_text (min places 18)) front text.now room.new.items) }
+    ensures { IfOk result (IsVerdict (read_decimal 127 36 (min places 36)) (decimal_text (min places 36)) front text.now room.new.items) }
 {
-    match places {
-        0 => judge::<Decimal<0>>(alloc, text, front, room),
-        1 => judge::<Decimal<1>>(alloc, text, front, room),
-        2 => judge::<Decimal<2>>(alloc, text, front, room),
-        3 => judge::<Decimal<3>>(alloc, text, front, room),
-        4 => judge::<Decimal<4>>(alloc, text, front, room),
-        5 => judge::<Decimal<5>>(alloc, text, front, room),
-        6 => judge::<Decimal<6>>(alloc, text, front, room),
-        7 => judge::<Decimal<7>>(alloc, text, front, room),
-        8 => judge::<Decimal<8>>(alloc, text, front, room),
-        9 => judge::<Decimal<9>>(alloc, text, front, room),
-        10 => judge::<Decimal<10>>(alloc, text, front, room),
-        11 => judge::<Decimal<11>>(alloc, text, front, room),
-        12 => judge::<Decimal<12>>(alloc, text, front, room),
-        13 => judge::<Decimal<13>>(alloc, text, front, room),
-        14 => judge::<Decimal<14>>(alloc, text, front, room),
-        15 => judge::<Decimal<15>>(alloc, text, front, room),
-        16 => judge::<Decimal<16>>(alloc, text, front, room),
-        17 => judge::<Decimal<17>>(alloc, text, front, room),
-        _ => judge::<Decimal<18>>(alloc, text, front, room),
-    }
+    judge(Places::new(places.min(36)), alloc, text, front, room)
 }

@@ -4,14 +4,14 @@ ghost use Rattle.wkt_read.specs.Lexemes.{starts_number};
 ghost use Rattle.wkt_events.specs.Remaining.{IsNumberAt, NoNumber, plus_len};
 
 use crate::bytes::{is_ascii_fast, run_end};
-use wkt_num::WktNum;
+use wkt_num::Numbers;
 
 /// The number that stands there, in any form, and its end.
 #[inline(always)]
-pub fn number_there<T: WktNum>(text: &[u8], at: usize) -> Option<(T, usize)>
+pub fn number_there<N: Numbers>(numbers: N, text: &[u8], at: usize) -> Option<(N::Number, usize)>
     requires { at ≤ length text.now }
-    ensures some { IfSome result (λ p. IsNumberAt T.read text.now at p.1 p.0) }
-    ensures none { IfNone result (NoNumber T.read text.now at) }
+    ensures some { IfSome result (λ p. IsNumberAt (N.read numbers) text.now at p.1 p.0) }
+    ensures none { IfNone result (NoNumber (N.read numbers) text.now at) }
 {
     let end = run_end(text, at);
     if end == at || !begins_number(text[at]) {
@@ -20,7 +20,7 @@ pub fn number_there<T: WktNum>(text: &[u8], at: usize) -> Option<(T, usize)>
     let Some(run) = text_of(text, past_plus(text, at), end) else {
         return None;
     };
-    let Some(number) = T::read_number(run) else {
+    let Some(number) = numbers.read_number(run) else {
         return None;
     };
     Some((number, end))

@@ -10,7 +10,7 @@ ghost use Rattle.wkt_read.specs.Table.{IsReportedAt};
 use crate::explanation::{Explanation, Refusal};
 use crate::walked::{driven, walked};
 use wkt_machine::message_at;
-use wkt_num::WktNum;
+use wkt_num::{Numbers, OfType, WktNum};
 use wkt_read::Message;
 
 /// With which message a text is refused that has no geometry at its front. It takes no memory, and no stack for
@@ -19,9 +19,17 @@ pub fn message<T: WktNum>(text: &str) -> Message
     requires { HasNoFront T.read text.now }
     ensures { IsRefusedWith T.read text.now result }
 {
-    match driven::<T>(text) {
+    message_by(OfType::<T>::new(), text)
+}
+
+/// The same, with numbers of any kind.
+pub fn message_by<N: Numbers>(numbers: N, text: &str) -> Message
+    requires { HasNoFront (N.read numbers) text.now }
+    ensures { IsRefusedWith (N.read numbers) text.now result }
+{
+    match driven(numbers, text) {
         Ok(_) => unreachable!(),
-        Err((machine, at)) => message_at::<T>(machine, text, at),
+        Err((machine, at)) => message_at(numbers, machine, text, at),
     }
 }
 
@@ -46,7 +54,7 @@ pub fn refusal<T: WktNum>(text: &str) -> Option<Refusal>
     ensures message { IfSome result (λ r. IsRefusedWith T.read text.now r.message) }
     ensures table { IfSome result (λ r. IsReportedAt T.read text.now r.start r.end r.expected r.message) }
 {
-    match walked::<T>(text) {
+    match walked(OfType::<T>::new(), text) {
         Ok(_) => None,
         Err(why) => Some(why),
     }
@@ -71,7 +79,20 @@ pub fn explain<'a, T: WktNum>(text: &'a str) -> Option<Explanation<'a>>
     ensures message { IfSome result (λ e. IsTextRefused T.read text.now e.message.now) }
     ensures bad { IfSome result (λ e. e.message.now ≡ bad_number → HasBadNumber T.read text.now) }
 {
-    let Some(found) = refusal::<T>(text) else {
+    explain_by(OfType::<T>::new(), text)
+}
+
+/// The same, with numbers of any kind.
+pub fn explain_by<'a, N: Numbers>(numbers: N, text: &'a str) -> Option<Explanation<'a>>
+    ensures front { IfNone result (HasFront (N.read numbers) text.now) }
+    ensures no_front { OnSome result (HasNoFront (N.read numbers) text.now) }
+    ensures place { IfSome result (λ e. IsRefusedAt (N.read numbers) text.now e.start e.end e.expected) }
+    ensures part { IfSome result (λ e. IsPart text.now e.start e.end) }
+    ensures text { IfSome result (λ e. e.text.now ≡ text.now) }
+    ensures message { IfSome result (λ e. IsTextRefused (N.read numbers) text.now e.message.now) }
+    ensures bad { IfSome result (λ e. e.message.now ≡ bad_number → HasBadNumber (N.read numbers) text.now) }
+{
+    let Err(found) = walked(numbers, text) else {
         return None;
     };
     Some(Explanation {

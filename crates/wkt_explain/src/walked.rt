@@ -13,7 +13,7 @@ use crate::explanation::Refusal;
 use wkt_events::{begins_number, byte_at, run_end, skip_white};
 use wkt_machine::drive::drive;
 use wkt_machine::{Bytes, Machine, Nothing, message_at};
-use wkt_num::WktNum;
+use wkt_num::Numbers;
 use wkt_read::table::at_word;
 use wkt_read::words::{is_white, kind_in};
 
@@ -52,15 +52,15 @@ fn lexeme_end(text: &[u8], start: usize) -> usize
 }
 
 /// The refusal of a text in which the machine stops.
-fn refusal_at<T: WktNum>(machine: Machine, text: &str, at: usize) -> Refusal
+fn refusal_at<N: Numbers>(numbers: N, machine: Machine, text: &str, at: usize) -> Refusal
     requires inside { at ≤ length text.now }
-    requires stuck { IsStuck T.read machine (remaining_spanned false text.now at) }
-    ensures { IsTold T.read text.now machine at result }
+    requires stuck { IsStuck (N.read numbers) machine (remaining_spanned false text.now at) }
+    ensures { IsTold (N.read numbers) text.now machine at result }
 {
     let bytes = text.as_bytes();
     let start = skip_white::<false>(bytes, at);
     Refusal {
-        message: message_at::<T>(machine, text, at),
+        message: message_at(numbers, machine, text, at),
         start,
         end: lexeme_end(bytes, start),
         expected: machine.expected(),
@@ -71,12 +71,16 @@ fn refusal_at<T: WktNum>(machine: Machine, text: &str, at: usize) -> Refusal
 ///
 /// It is one function, so that the machine is built into it, however large it is.
 #[inline(never)]
-pub(crate) fn driven<T: WktNum>(text: &str) -> Result<usize, (Machine, usize)>
-    ensures front { IfOk result (λ end. EndsFront T.read text.now end) }
+pub(crate) fn driven<N: Numbers>(numbers: N, text: &str) -> Result<usize, (Machine, usize)>
+    ensures front { IfOk result (λ end. EndsFront (N.read numbers) text.now end) }
     ensures within { IfOk result (λ end. end ≤ length text.now) }
-    ensures stopped { IfErr result (λ s. StopsAt T.read text.now s.0 s.1) }
+    ensures stopped { IfErr result (λ s. StopsAt (N.read numbers) text.now s.0 s.1) }
 {
-    match drive::<T, Bytes<'_, false>, Nothing>(Bytes::new(text.as_bytes(), 0), Nothing) {
+    let nothing = Nothing { numbers };
+    match drive::<N::Number, Bytes<'_, false>, Nothing<N>>(
+        Bytes::new(text.as_bytes(), 0),
+        nothing,
+    ) {
         Ok(over) => Ok(over.source.at),
         Err(stop) => Err((stop.machine, stop.source.at)),
     }
@@ -91,8 +95,8 @@ fn may_begin(byte: u8) -> bool {
 /// The refusal of a text that begins with a word of no kind, if its first letter shows that: then nothing is made of the
 /// text. `None` implies nothing.
 #[inline(always)]
-fn refused_first<T: WktNum>(text: &str) -> Option<Refusal>
-    ensures { IfSome result (λ r. IsToldFirst T.read text.now r) }
+fn refused_first<N: Numbers>(numbers: N, text: &str) -> Option<Refusal>
+    ensures { IfSome result (λ r. IsToldFirst (N.read numbers) text.now r) }
 {
     let bytes = text.as_bytes();
     if may_begin(byte_at(bytes, 0)) {
@@ -117,20 +121,20 @@ fn refused_first<T: WktNum>(text: &str) -> Option<Refusal>
 }
 
 /// Where the geometry ends that the text begins with, or where the text is refused.
-pub(crate) fn walked<T: WktNum>(text: &str) -> Result<usize, Refusal>
-    ensures front { IfOk result (λ end. EndsFront T.read text.now end) }
+pub(crate) fn walked<N: Numbers>(numbers: N, text: &str) -> Result<usize, Refusal>
+    ensures front { IfOk result (λ end. EndsFront (N.read numbers) text.now end) }
     ensures within { IfOk result (λ end. end ≤ length text.now) }
-    ensures no_front { OnErr result (HasNoFront T.read text.now) }
-    ensures place { IfErr result (λ r. IsRefusedAt T.read text.now r.start r.end r.expected) }
+    ensures no_front { OnErr result (HasNoFront (N.read numbers) text.now) }
+    ensures place { IfErr result (λ r. IsRefusedAt (N.read numbers) text.now r.start r.end r.expected) }
     ensures part { IfErr result (λ r. IsPart text.now r.start r.end) }
-    ensures message { IfErr result (λ r. IsRefusedWith T.read text.now r.message) }
-    ensures table { IfErr result (λ r. IsReportedAt T.read text.now r.start r.end r.expected r.message) }
+    ensures message { IfErr result (λ r. IsRefusedWith (N.read numbers) text.now r.message) }
+    ensures table { IfErr result (λ r. IsReportedAt (N.read numbers) text.now r.start r.end r.expected r.message) }
 {
-    if let Some(why) = refused_first::<T>(text) {
+    if let Some(why) = refused_first(numbers, text) {
         return Err(why);
     }
-    match driven::<T>(text) {
+    match driven(numbers, text) {
         Ok(end) => Ok(end),
-        Err((machine, at)) => Err(refusal_at::<T>(machine, text, at)),
+        Err((machine, at)) => Err(refusal_at(numbers, machine, text, at)),
     }
 }

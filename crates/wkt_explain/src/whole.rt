@@ -4,7 +4,7 @@ ghost use Rattle.wkt_explain.specs.Problems.{IsAccepted, IsProblem};
 
 use crate::explanation::Refusal;
 use crate::walked::{past_white, walked};
-use wkt_num::WktNum;
+use wkt_num::{Numbers, OfType, WktNum};
 
 /// Why a text isn't accepted.
 #[derive(Clone, Copy, PartialEq, Eq, Debug)]
@@ -28,7 +28,17 @@ pub enum Problem {
 pub fn check<T: WktNum>(text: &str, whole: bool) -> Result<usize, Problem>
     ensures { MatchResult result (IsAccepted T.read whole text.now) (IsProblem T.read whole text.now) }
 {
-    let end = match walked::<T>(text) {
+    check_by(OfType::<T>::new(), text, whole)
+}
+
+/// The same, with numbers of any kind.
+///
+/// # Errors
+/// As there.
+pub fn check_by<N: Numbers>(numbers: N, text: &str, whole: bool) -> Result<usize, Problem>
+    ensures { MatchResult result (IsAccepted (N.read numbers) whole text.now) (IsProblem (N.read numbers) whole text.now) }
+{
+    let end = match walked(numbers, text) {
         Ok(end) => end,
         Err(why) => return Err(Problem::Refused(why)),
     };

@@ -1,5 +1,5 @@
 -- The arrays of the front of a text, and a number that stands there.
-use Rattle.std.proofs.Common.{ℕ, ℤ, ◌+◌, ◌-◌, ◌≤◌, ◌<◌, List, [], length, take, drop, refl, sym, subst, ◌∙◌, to_z, of_z, w64, ◌≡◌, ◌≢◌, ◌⊎◌, inl, inr, ◌++◌, suc, zero, ap, arith, Option, Some, Bool, true, false, IfSome}
+use Rattle.std.proofs.Common.{ℕ, ℤ, ◌+◌, ◌-◌, ◌≤◌, List, [], length, take, drop, refl, sym, subst, ◌∙◌, to_z, of_z, w64, ◌≡◌, ◌≢◌, ◌⊎◌, inl, inr, ◌++◌, suc, zero, ap, arith, Option, Some, Bool, true, false, IfSome}
 use Rattle.std.specs.Prelude.{IsUtf8}
 use Rattle.std.proofs.lemmas.List.{take_rest, append-nil}
 use Rattle.std.specs.List.{Contains}
@@ -40,7 +40,7 @@ is-zero : (n : ℕ) → (n ≡ 0) ⊎ (n ≢ 0)
 is-zero zero = inl refl
 is-zero (suc n) = inr (λ e. absurd (omega (arith, e)))
 
-module _ (v : Value ℤ) (r : Room) (s0 s t : Filler) (begins : FillerBegins r s0) (fills : Fills s0 (events v) s) (reports : RefusesCollection s t) (out : IsHeld v (arrays_of (events v)) ⊎ IsCollected v (arrays_of (events v))) where
+module _ (places : ℕ) (v : Value ℤ) (r : Room) (s0 s t : Filler) (begins : FillerBegins places r s0) (fills : Fills s0 (events v) s) (reports : RefusesCollection s t) (out : IsHeld v (arrays_of (events v)) ⊎ IsCollected v (arrays_of (events v))) where
   made-is : s.status ≡ 0 → view s ≡ arrays_of (events v)
   made-is z = elim (is-zero s0.status) [
     | inl z0 ↦ fills.does z0 z ∙ ap (steps (events v)) (begins.fresh z0)
@@ -134,7 +134,7 @@ module _ (places : ℕ) (text : List ℕ) where
   run-text : (run : List ℕ) (x : ℤ) → read run ≡ Some x → IsUtf8 run
   run-text run x e = subst (λ (o : Option ℤ). IfSome o (λ u. IsUtf8 run)) e (decimal_utf8 places run)
 
-  pub filled : (r : Room) (s0 s t : Filler) (v : Value ℤ) (to : ℕ) → FillerBegins r s0 → Front read text v to → Fills s0 (events v) s → RefusesCollection s t → FillsFront places text r t to
+  pub filled : (r : Room) (s0 s t : Filler) (v : Value ℤ) (to : ℕ) → FillerBegins places r s0 → Front read text v to → Fills s0 (events v) s → RefusesCollection s t → FillsFront places text r t to
   filled r s0 s t v to begins front fills reports =
       let fits = geometry_fits (IsUnits places) read (decimal_reads_values places) v front.lexemes front.reads in
       let out = outcome (IsUnits places) v fits in
@@ -144,6 +144,6 @@ module _ (places : ℕ) (text : List ℕ) where
         within = let ends = front.ends in omega (arith, ends);
         utf8 = (text-behind-front read run-text text v to front, text-with-front read run-text text v to front);
         fits = fits;
-        holds = holds-all v r s0 s t begins fills reports out;
-        unheld = is-unheld v r s0 s t begins fills reports out;
+        holds = holds-all places v r s0 s t begins fills reports out;
+        unheld = is-unheld places v r s0 s t begins fills reports out;
       }

@@ -17,32 +17,38 @@ use Rattle.wkt_fill.specs.declared.given.Given.{Given}
 
 -- Events that are told one after another, with room for those that are left.
 
+pub cost-append : {N : Type 0} (takes : N → ℕ) (es fs : List (Event N)) → events_cost takes (es ++ fs) ≡ events_cost takes es + events_cost takes fs
+cost-append takes [] fs = omega arith
+cost-append takes (e ∷ es) fs = let more = cost-append takes es fs in omega (arith, more)
+
 module _ {N B : Type 0} (maker : Maker N B) where
-  pub cost-append : (es fs : List (Event N)) → events_cost maker (es ++ fs) ≡ events_cost maker es + events_cost maker fs
-  cost-append [] fs = omega arith
-  cost-append (e ∷ es) fs = let more = cost-append es fs in omega (arith, more)
+  -- numbers take what they took
+  pub takes-same : (b c : B) (es : List (Event N)) → maker.makes b es c → maker.takes c ≡ maker.takes b
+  takes-same b c es makes = let s = maker.same b c es makes in s.1
 
   pub tells-more : (b c d : B) (es fs : List (Event N)) → Tells maker b es c → Tells maker c fs d → Tells maker b (es ++ fs) d
   tells-more b c d es fs h k = record {
     makes = maker.more b c d es fs h.makes k.makes;
     leaves = λ m room.
-        let all = cost-append es fs in
-        k.leaves m (h.leaves (m + events_cost maker fs) (subst (λ (n : ℕ). maker.fits b n) {x = m + events_cost maker (es ++ fs)} {y = m + events_cost maker fs + events_cost maker es} (omega (arith, all)) room));
+        let t : N → ℕ = maker.takes b in
+        let all = cost-append t es fs in
+        let then = subst (λ u. Leaves maker c (events_cost u fs) d) (takes-same b c es h.makes) k.leaves in
+        then m (h.leaves (m + events_cost t fs) (subst (λ (n : ℕ). maker.fits b n) {x = m + events_cost t (es ++ fs)} {y = m + events_cost t fs + events_cost t es} (omega (arith, all)) room));
   }
 
   -- one event
-  pub tells-one : (b c : B) (e : Event N) (n : ℕ) → event_cost maker e ≡ n → maker.makes b (e ∷ []) c → Leaves maker b n c → Tells maker b (e ∷ []) c
+  pub tells-one : (b c : B) (e : Event N) (n : ℕ) → event_cost (maker.takes b) e ≡ n → maker.makes b (e ∷ []) c → Leaves maker b n c → Tells maker b (e ∷ []) c
   tells-one b c e n is makes leaves = record {
     makes = makes;
-    leaves = λ m room. leaves m (subst (λ (k : ℕ). maker.fits b k) {x = m + events_cost maker (e ∷ [])} {y = m + n} (omega (arith, is)) room);
+    leaves = λ m room. leaves m (subst (λ (k : ℕ). maker.fits b k) {x = m + events_cost (maker.takes b) (e ∷ [])} {y = m + n} (omega (arith, is)) room);
   }
 
   -- So much was told of some events that the others are left, for which there is room.
   pub record Owes (b : B) (es : List (Event N)) (c : B) (rest : List (Event N)) : Type 0 where
-    pub room : maker.fits c (events_cost maker rest)
+    pub room : maker.fits c (events_cost (maker.takes c) rest)
     pub then : (d : B) → Tells maker c rest d → Tells maker b es d
 
-  pub owes-all : (b : B) (es : List (Event N)) → maker.fits b (events_cost maker es) → Owes b es b es
+  pub owes-all : (b : B) (es : List (Event N)) → maker.fits b (events_cost (maker.takes b) es) → Owes b es b es
   owes-all b es room = record { room = room; then = λ d h. h }
 
   -- in other words
@@ -50,16 +56,18 @@ module _ {N B : Type 0} (maker : Maker N B) where
   owes-so b c es rest more e h = subst (Owes b es c) e h
 
   -- there is room for the first of those that are left
-  pub owes-fits : (b c : B) (es fs rest : List (Event N)) (n : ℕ) → events_cost maker fs ≡ n → Owes b es c (fs ++ rest) → maker.fits c n
+  pub owes-fits : (b c : B) (es fs rest : List (Event N)) (n : ℕ) → events_cost (maker.takes c) fs ≡ n → Owes b es c (fs ++ rest) → maker.fits c n
   owes-fits b c es fs rest n is h =
-      let all = cost-append fs rest in
-      maker.less c n (events_cost maker (fs ++ rest)) (omega (arith, all, is)) h.room
+      let all = cost-append (maker.takes c) fs rest in
+      maker.less c n (events_cost (maker.takes c) (fs ++ rest)) (omega (arith, all, is)) h.room
 
   pub owes-less : (b c d : B) (es fs rest : List (Event N)) → Owes b es c (fs ++ rest) → Tells maker c fs d → Owes b es d rest
   owes-less b c d es fs rest h told = record {
     room =
-        let all = cost-append fs rest in
-        told.leaves (events_cost maker rest) (subst (λ (n : ℕ). maker.fits c n) {x = events_cost maker (fs ++ rest)} {y = events_cost maker rest + events_cost maker fs} (omega (arith, all)) h.room);
+        let t : N → ℕ = maker.takes c in
+        let all = cost-append t fs rest in
+        let room : maker.fits d (events_cost t rest) = told.leaves (events_cost t rest) (subst (λ (n : ℕ). maker.fits c n) {x = events_cost t (fs ++ rest)} {y = events_cost t rest + events_cost t fs} (omega (arith, all)) h.room) in
+        subst (λ u. maker.fits d (events_cost u rest)) (sym (takes-same c d fs told.makes)) room;
     then = λ e k. h.then e (tells-more c d e fs rest told k);
   }
 
@@ -94,7 +102,7 @@ module _ {N B : Type 0} (maker : Maker N B) where
       abbrev left : ℕ → List (Event N)
       left i = further p item (up_to at i to)
 
-      module _ (lt : from < to) (room : maker.fits b (events_cost maker all)) where
+      module _ (lt : from < to) (room : maker.fits b (events_cost (maker.takes b) all)) where
         opening : Owes b all b ((Event.Open p ∷ []) ++ (item (at from) ++ left (from + 1)))
         opening = owes-so b b all all _ (list-first from to lt) (owes-all b all room)
 
@@ -105,7 +113,7 @@ module _ {N B : Type 0} (maker : Maker N B) where
           opened : Owes b all c (item (at from) ++ left (from + 1))
           opened = owes-less b b c all (Event.Open p ∷ []) (item (at from) ++ left (from + 1)) opening (tells-one b c (Event.Open p) 1 refl makes leaves)
 
-          pub first-fits : maker.fits c (events_cost maker (item (at from)))
+          pub first-fits : maker.fits c (events_cost (maker.takes c) (item (at from)))
           first-fits = owes-fits b c all (item (at from)) (left (from + 1)) _ refl opened
 
           pub first-told : (d : B) → Tells maker c (item (at from)) d → Owes b all d (left (from + 1))
@@ -123,7 +131,7 @@ module _ {N B : Type 0} (maker : Maker N B) where
             behind : Owes b all c (item (at i) ++ left (i + 1))
             behind = owes-less b m c all (Event.Comma p ∷ []) (item (at i) ++ left (i + 1)) next (tells-one m c (Event.Comma p) 1 refl makes leaves)
 
-            pub next-fits : maker.fits c (events_cost maker (item (at i)))
+            pub next-fits : maker.fits c (events_cost (maker.takes c) (item (at i)))
             next-fits = owes-fits b c all (item (at i)) (left (i + 1)) _ refl behind
 
             pub next-told : (d : B) → Tells maker c (item (at i)) d → Owes b all d (left (i + 1))
@@ -140,7 +148,7 @@ module _ {N B : Type 0} (maker : Maker N B) where
           closed c makes leaves = owes-none b m c all (Event.Close p ∷ []) last (tells-one m c (Event.Close p) 1 refl makes leaves)
 
       module _ (le : to ≤ from) where
-        pub empty-fits : maker.fits b (events_cost maker all) → maker.fits b 6
+        pub empty-fits : maker.fits b (events_cost (maker.takes b) all) → maker.fits b 6
         empty-fits room = owes-fits b b all (Event.Empty p ∷ []) [] 6 (omega arith) (owes-so b b all all _ (list-none from to le) (owes-all b all room))
 
         pub emptied : (c : B) → maker.makes b (Event.Empty p ∷ []) c → Leaves maker b 6 c → Tells maker b all c
@@ -182,101 +190,94 @@ first-two XYZ n xs le = ap (numbers XYZ) (threes n xs le)
 first-two XYM n xs le = ap (numbers XYM) (threes n xs le)
 first-two XYZM n xs le = ap (numbers XYZM) (fours n xs le)
 
+-- they are those of the dimension
+pub more-of : (d e : Dimension) (n : ℕ) (xs : List ℤ) → d ≡ e → more d n xs ≡ more e n xs
+more-of d e n xs is = ap (λ k. more k n xs) is
+
 module _ {B : Type 0} (maker : Maker ℤ B) (d : Dimension) (xs : List ℤ) (i n : ℕ) (at : n ≡ i * size d) (within : i * size d + size d ≤ length xs)
-    (b : B) (room : maker.fits b (events_cost maker (numbers d (cut d xs i)))) (x y : ℤ) (x-is : x ≡ nth xs n) (y-is : y ≡ nth xs (n + 1)) where
+    (b : B) (room : maker.fits b (events_cost (maker.takes b) (numbers d (cut d xs i)))) where
   abbrev coordinate-all : List (Event ℤ)
   coordinate-all = numbers d (cut d xs i)
 
-  split : coordinate-all ≡ (Event.Number axis.X x ∷ []) ++ ((Event.Number axis.Y y ∷ []) ++ more d n xs)
-  split =
-      ap (λ (k : ℕ). numbers d (take (size d) (drop k xs))) (sym at)
-      ∙ first-two d n xs (omega (arith, at, within))
-      ∙ ap (λ (u : ℤ). Event.Number axis.X u ∷ Event.Number axis.Y (nth xs (n + 1)) ∷ more d n xs) (sym x-is)
-      ∙ ap (λ (u : ℤ). Event.Number axis.X x ∷ Event.Number axis.Y u ∷ more d n xs) (sym y-is)
+  abbrev x-told : List (Event ℤ)
+  x-told = Event.Number axis.X (nth xs n) ∷ []
 
-  begun : Owes maker b coordinate-all b ((Event.Number axis.X x ∷ []) ++ ((Event.Number axis.Y y ∷ []) ++ more d n xs))
+  abbrev y-told : List (Event ℤ)
+  y-told = Event.Number axis.Y (nth xs (n + 1)) ∷ []
+
+  split : coordinate-all ≡ x-told ++ (y-told ++ more d n xs)
+  split = ap (λ (k : ℕ). numbers d (take (size d) (drop k xs))) (sym at) ∙ first-two d n xs (omega (arith, at, within))
+
+  begun : Owes maker b coordinate-all b (x-told ++ (y-told ++ more d n xs))
   begun = owes-so maker b b coordinate-all coordinate-all _ split (owes-all maker b coordinate-all room)
 
-  pub x-fits : maker.fits b (maker.takes x)
-  x-fits = owes-fits maker b b coordinate-all (Event.Number axis.X x ∷ []) ((Event.Number axis.Y y ∷ []) ++ more d n xs) (maker.takes x) (omega arith) begun
+  pub x-fits : maker.fits b (maker.takes b (nth xs n))
+  x-fits = owes-fits maker b b coordinate-all x-told (y-told ++ more d n xs) (maker.takes b (nth xs n)) (omega arith) begun
 
-  module _ (b1 : B) (x-made : maker.makes b (Event.Number axis.X x ∷ []) b1) (x-left : Leaves maker b (maker.takes x) b1) where
-    after-x : Owes maker b coordinate-all b1 ((Event.Number axis.Y y ∷ []) ++ more d n xs)
-    after-x = owes-less maker b b b1 coordinate-all (Event.Number axis.X x ∷ []) ((Event.Number axis.Y y ∷ []) ++ more d n xs) begun (tells-one maker b b1 (Event.Number axis.X x) (maker.takes x) refl x-made x-left)
+  module _ (b1 : B) (x-is : Tells maker b x-told b1) where
+    after-x : Owes maker b coordinate-all b1 (y-told ++ more d n xs)
+    after-x = owes-less maker b b b1 coordinate-all x-told (y-told ++ more d n xs) begun x-is
 
-    pub y-fits : maker.fits b1 (maker.takes y)
-    y-fits = owes-fits maker b b1 coordinate-all (Event.Number axis.Y y ∷ []) (more d n xs) (maker.takes y) (omega arith) after-x
+    pub y-fits : maker.fits b1 (maker.takes b1 (nth xs (n + 1)))
+    y-fits = owes-fits maker b b1 coordinate-all y-told (more d n xs) (maker.takes b1 (nth xs (n + 1))) (omega arith) after-x
 
-    module _ (b2 : B) (y-made : maker.makes b1 (Event.Number axis.Y y ∷ []) b2) (y-left : Leaves maker b1 (maker.takes y) b2) where
+    module _ (b2 : B) (y-is : Tells maker b1 y-told b2) where
       after-y : Owes maker b coordinate-all b2 (more d n xs)
-      after-y = owes-less maker b b1 b2 coordinate-all (Event.Number axis.Y y ∷ []) (more d n xs) after-x (tells-one maker b1 b2 (Event.Number axis.Y y) (maker.takes y) refl y-made y-left)
+      after-y = owes-less maker b b1 b2 coordinate-all y-told (more d n xs) after-x y-is
 
       nothing-told : Tells maker b2 [] b2
       nothing-told = record { makes = maker.none b2; leaves = λ m fits. subst (λ (k : ℕ). maker.fits b2 k) {x = m + 0} {y = m} (omega arith) fits }
 
-      pub two-told : d ≡ XY → Tells maker b coordinate-all b2
-      two-told e = owes-none maker b b2 b2 coordinate-all (more d n xs) after-y (subst (λ es. Tells maker b2 es b2) (sym (ap (λ k. more k n xs) e)) nothing-told)
+      pub two-told : more d n xs ≡ [] → Tells maker b coordinate-all b2
+      two-told e = owes-none maker b b2 b2 coordinate-all (more d n xs) after-y (subst (λ es. Tells maker b2 es b2) (sym e) nothing-told)
 
       -- a third number, before others or none
       module _ (z : ℤ) (a : Axis) (rest : List (Event ℤ)) (is : more d n xs ≡ (Event.Number a z ∷ []) ++ rest) where
         third : Owes maker b coordinate-all b2 ((Event.Number a z ∷ []) ++ rest)
         third = owes-so maker b b2 coordinate-all (more d n xs) _ is after-y
 
-        pub z-fits : maker.fits b2 (maker.takes z)
-        z-fits = owes-fits maker b b2 coordinate-all (Event.Number a z ∷ []) rest (maker.takes z) (omega arith) third
+        pub z-fits : maker.fits b2 (maker.takes b2 z)
+        z-fits = owes-fits maker b b2 coordinate-all (Event.Number a z ∷ []) rest (maker.takes b2 z) (omega arith) third
 
-        module _ (b3 : B) (z-made : maker.makes b2 (Event.Number a z ∷ []) b3) (z-left : Leaves maker b2 (maker.takes z) b3) where
+        module _ (b3 : B) (z-is : Tells maker b2 (Event.Number a z ∷ []) b3) where
           after-z : Owes maker b coordinate-all b3 rest
-          after-z = owes-less maker b b2 b3 coordinate-all (Event.Number a z ∷ []) rest third (tells-one maker b2 b3 (Event.Number a z) (maker.takes z) refl z-made z-left)
+          after-z = owes-less maker b b2 b3 coordinate-all (Event.Number a z ∷ []) rest third z-is
 
-          pub m-fits : (m : ℤ) → rest ≡ Event.Number axis.M m ∷ [] → maker.fits b3 (maker.takes m)
-          m-fits m e = owes-fits maker b b3 coordinate-all (Event.Number axis.M m ∷ []) [] (maker.takes m) (omega arith) (owes-so maker b b3 coordinate-all rest _ e after-z)
+          pub m-fits : (m : ℤ) → rest ≡ Event.Number axis.M m ∷ [] → maker.fits b3 (maker.takes b3 m)
+          m-fits m e = owes-fits maker b b3 coordinate-all (Event.Number axis.M m ∷ []) [] (maker.takes b3 m) (omega arith) (owes-so maker b b3 coordinate-all rest _ e after-z)
 
-          pub four-told : (m : ℤ) (b4 : B) → rest ≡ Event.Number axis.M m ∷ [] → maker.makes b3 (Event.Number axis.M m ∷ []) b4 → Leaves maker b3 (maker.takes m) b4 → Tells maker b coordinate-all b4
-          four-told m b4 e made left =
-              owes-none maker b b3 b4 coordinate-all rest after-z (subst (λ es. Tells maker b3 es b4) (sym e) (tells-one maker b3 b4 (Event.Number axis.M m) (maker.takes m) refl made left))
+          pub rest-told : (b4 : B) → Tells maker b3 rest b4 → Tells maker b coordinate-all b4
+          rest-told b4 told = owes-none maker b b3 b4 coordinate-all rest after-z told
 
-      pub three-told : (z : ℤ) (a : Axis) (b3 : B) → more d n xs ≡ Event.Number a z ∷ [] → maker.makes b2 (Event.Number a z ∷ []) b3 → Leaves maker b2 (maker.takes z) b3 → Tells maker b coordinate-all b3
-      three-told z a b3 e made left =
-          owes-none maker b b2 b3 coordinate-all (more d n xs) after-y (subst (λ es. Tells maker b2 es b3) (sym e) (tells-one maker b2 b3 (Event.Number a z) (maker.takes z) refl made left))
-
-  pub with-z : (z : ℤ) → z ≡ nth xs (n + 2) → d ≡ XYZ → more d n xs ≡ Event.Number axis.Z z ∷ []
-  with-z z is e = ap (λ k. more k n xs) e ∙ ap (λ (u : ℤ). Event.Number axis.Z u ∷ []) (sym is)
-
-  pub with-m : (z : ℤ) → z ≡ nth xs (n + 2) → d ≡ XYM → more d n xs ≡ Event.Number axis.M z ∷ []
-  with-m z is e = ap (λ k. more k n xs) e ∙ ap (λ (u : ℤ). Event.Number axis.M u ∷ []) (sym is)
-
-  pub with-zm : (z m : ℤ) → z ≡ nth xs (n + 2) → m ≡ nth xs (n + 3) → d ≡ XYZM → more d n xs ≡ Event.Number axis.Z z ∷ Event.Number axis.M m ∷ []
-  with-zm z m is m-is e =
-      ap (λ k. more k n xs) e ∙ ap (λ (u : ℤ). Event.Number axis.Z u ∷ Event.Number axis.M (nth xs (n + 3)) ∷ []) (sym is)
-      ∙ ap (λ (u : ℤ). Event.Number axis.Z z ∷ Event.Number axis.M u ∷ []) (sym m-is)
+      pub three-told : (b3 : B) → Tells maker b2 (more d n xs) b3 → Tells maker b coordinate-all b3
+      three-told b3 told = owes-none maker b b2 b3 coordinate-all (more d n xs) after-y told
 
 -- A header, and what stands behind it.
 
-pub are-whole : (places : ℕ) (g : Given) → AreGiven places g → AreWhole g
-are-whole places g a = whole-of places g a.0 a.1
+pub are-whole : (g : Given) → (places : ℕ) × AreGiven places g → AreWhole g
+are-whole g (places, (v, h)) = whole-of places g v h
 
-pub parts-of-kind : (places : ℕ) (g : Given) → AreGiven places g → (k : GeometryType) → g.kind ≡ k → HasPartsOf k g
-parts-of-kind places g a k e = subst (λ j. HasPartsOf j g) e (has-parts places g a.0 a.1)
+pub parts-of-kind : (g : Given) → (places : ℕ) × AreGiven places g → (k : GeometryType) → g.kind ≡ k → HasPartsOf k g
+parts-of-kind g (places, (v, h)) k e = subst (λ j. HasPartsOf j g) e (has-parts places g v h)
 
-module _ {B : Type 0} (maker : Maker ℤ B) (places : ℕ) (g : Given) (b : B) (given : AreGiven places g) (room : (v : Value ℤ) → IsGiven places g v → maker.fits b (events_cost maker (events v)))
-    (p : Part) (rest : List (Event ℤ)) (split : (v : Value ℤ) → IsGiven places g v → events v ≡ (Event.Header p g.dimension ∷ []) ++ rest) where
+module _ {B : Type 0} (maker : Maker ℤ B) (g : Given) (b : B) (given : (places : ℕ) × AreGiven places g) (room : (places : ℕ) (v : Value ℤ) → IsGiven places g v → maker.fits b (events_cost (maker.takes b) (events v)))
+    (p : Part) (rest : List (Event ℤ)) (split : (places : ℕ) (v : Value ℤ) → IsGiven places g v → events v ≡ (Event.Header p g.dimension ∷ []) ++ rest) where
   header-all : List (Event ℤ)
   header-all = (Event.Header p g.dimension ∷ []) ++ rest
 
-  enough : maker.fits b (events_cost maker ((Event.Header p g.dimension ∷ []) ++ rest))
-  enough = subst (λ es. maker.fits b (events_cost maker es)) (split given.0 given.1) (room given.0 given.1)
+  enough : maker.fits b (events_cost (maker.takes b) ((Event.Header p g.dimension ∷ []) ++ rest))
+  enough = subst (λ es. maker.fits b (events_cost (maker.takes b) es)) (split given.0 given.1.0 given.1.1) (room given.0 given.1.0 given.1.1)
 
   pub header-fits : maker.fits b (header_cost p)
   header-fits = owes-fits maker b b ((Event.Header p g.dimension ∷ []) ++ rest) (Event.Header p g.dimension ∷ []) rest (header_cost p) (omega arith) (owes-all maker b ((Event.Header p g.dimension ∷ []) ++ rest) enough)
 
   module _ (c : B) (makes : maker.makes b (Event.Header p g.dimension ∷ []) c) (leaves : Leaves maker b (header_cost p) c) where
-    pub rest-fits : maker.fits c (events_cost maker rest)
+    pub rest-fits : maker.fits c (events_cost (maker.takes c) rest)
     rest-fits =
         let left = owes-less maker b b c ((Event.Header p g.dimension ∷ []) ++ rest) (Event.Header p g.dimension ∷ []) rest (owes-all maker b ((Event.Header p g.dimension ∷ []) ++ rest) enough)
         (tells-one maker b c (Event.Header p g.dimension) (header_cost p) refl makes leaves) in
         left.room
 
-    pub whole-told : (d : B) → Tells maker c rest d → (v : Value ℤ) → IsGiven places g v → Tells maker b (events v) d
-    whole-told d told v h =
-        subst (λ es. Tells maker b es d) (sym (split v h)) (tells-more maker b c d (Event.Header p g.dimension ∷ []) rest (tells-one maker b c (Event.Header p g.dimension) (header_cost p) refl makes leaves) told)
+    pub whole-told : (d : B) → Tells maker c rest d → (places : ℕ) (v : Value ℤ) → IsGiven places g v → Tells maker b (events v) d
+    whole-told d told places v h =
+        subst (λ es. Tells maker b es d) (sym (split places v h)) (tells-more maker b c d (Event.Header p g.dimension ∷ []) rest (tells-one maker b c (Event.Header p g.dimension) (header_cost p) refl makes leaves) told)

@@ -79,24 +79,25 @@ pub record IsGiven (places : ℕ) (g : Given) (value : Value ℤ) : Type 0 where
 abbrev pub AreGiven : ℕ → Given → Type 0
 AreGiven places g = (value : Value ℤ) × IsGiven places g value
 
-module _ {N B : Type 0} (maker : Maker N B) where
-  -- How much room an event takes.
+module _ {N : Type 0} (takes : N → ℕ) where
+  -- How much room an event takes, by how much each number takes.
   abbrev pub event_cost : Event N → ℕ
   event_cost (Event.Header p d) = header_cost p
   event_cost (Event.Open p) = 1
   event_cost (Event.Comma p) = 1
   event_cost (Event.Close p) = 1
   event_cost (Event.Empty p) = 6
-  event_cost (Event.Number a x) = maker.takes x
+  event_cost (Event.Number a x) = takes x
 
   abbrev pub events_cost : List (Event N) → ℕ
   events_cost [] = 0
   events_cost (e ∷ es) = event_cost e + events_cost es
 
+module _ {N B : Type 0} (maker : Maker N B) where
   -- The events were told, and no more room was taken than they take.
   pub record Tells (b : B) (es : List (Event N)) (c : B) : Type 0 where
     pub makes : maker.makes b es c
-    pub leaves : Leaves maker b (events_cost es) c
+    pub leaves : Leaves maker b (events_cost (maker.takes b) es) c
 
 -- The parts of a geometry between the offsets of flat arrays. Only private contracts cite these words.
 

@@ -262,6 +262,7 @@ IsOrderly f = f.coordinates ≤ f.number_count
 -- The arrays became these, unless they have no room or a number of theirs was too large; then the filler's status says so, and stays.
 pub record FillerBecomes (s : Filler) (w : Headed) (t : Filler) : Type 0 where
   pub room : KeepsRoom s t
+  pub places : t.places ≡ s.places
   pub orderly : IsOrderly s → IsOrderly t
   pub stays : s.status ≢ 0 → t.status ≡ s.status
   pub does : s.status ≡ 0 → t.status ≡ 0 → view t ≡ w
@@ -291,7 +292,7 @@ is-zero zero = inl refl
 is-zero (suc n) = inr (λ e. absurd (omega (arith, e)))
 
 pub fills_none : (s : Filler) → Fills s [] s
-fills_none s = record { room = record { numbers = refl; rings = refl; polygons = refl }; orderly = λ h. h; stays = λ n. refl; does = λ z e. refl; fails = λ z n. absurd (n z) }
+fills_none s = record { room = record { numbers = refl; rings = refl; polygons = refl }; places = refl; orderly = λ h. h; stays = λ n. refl; does = λ z e. refl; fails = λ z n. absurd (n z) }
 
 pub fills_more : (s t u : Filler) (es fs : List (Event ℤ)) → Fills s es t → Fills t fs u → Fills s (es ++ fs) u
 fills_more s t u es fs h k = record {
@@ -300,6 +301,7 @@ fills_more s t u es fs h k = record {
     rings = k.room.rings ∙ h.room.rings;
     polygons = k.room.polygons ∙ h.room.polygons;
   };
+  places = k.places ∙ h.places;
   orderly = λ o. k.orderly (h.orderly o);
   stays = λ n. k.stays (λ e. n (sym (h.stays n) ∙ e)) ∙ h.stays n;
   does = λ z e. elim (is-zero t.status) [
@@ -322,10 +324,12 @@ fills_more s t u es fs h k = record {
 abbrev pub filler_maker : Maker ℤ Filler
 filler_maker = record {
   makes = Fills;
+  reads = λ f. read_decimal 127 36 f.places;
   fits = λ f n. Unit {0};
-  takes = λ x. 0;
+  takes = λ f x. 0;
   none = fills_none;
   more = fills_more;
+  same = λ s t es h. (ap (read_decimal 127 36) h.places, refl);
   less = λ s m n order h. tt;
 }
 
@@ -339,7 +343,8 @@ pub record HasPlaces (r : Room) (f : Filler) : Type 0 where
   pub polygons : length f.polygons.now ≡ length r.polygons.now
 
 -- Nothing yet, unless there is no room.
-pub record FillerBegins (r : Room) (f : Filler) : Type 0 where
+pub record FillerBegins (given : ℕ) (r : Room) (f : Filler) : Type 0 where
+  pub places : f.places ≡ given
   pub room : HasPlaces r f
   pub orderly : IsOrderly f
   pub fresh : f.status ≡ 0 → view f ≡ unheaded

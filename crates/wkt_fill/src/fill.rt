@@ -4,7 +4,7 @@ ghost use Rattle.wkt_fill.specs.Filled.{FillsFrontIfAny};
 use crate::filler::{Filler, Room};
 use wkt_machine::drive::drive;
 use wkt_machine::{At, Bytes};
-use wkt_num::Decimal;
+use wkt_num::Places;
 
 /// Arrays, and where their geometry ends in the text.
 #[derive(Drop)]
@@ -15,11 +15,11 @@ pub struct Filled<'a> {
 
 /// The arrays of the geometry that the bytes begin with; `None` where they begin with none. That what follows the geometry
 /// is text isn't looked at. The status is 22 only where the room is too small for them.
-pub fn fill_arrays<'a, const D: u32>(text: &[u8], room: Room<'a>) -> Option<Filled<'a>>
-    ensures { FillsFrontIfAny D text.now room.entry result }
+pub fn fill_arrays<'a>(places: Places, text: &[u8], room: Room<'a>) -> Option<Filled<'a>>
+    ensures { FillsFrontIfAny places text.now room.entry result }
 {
     let source = Bytes::<'_, false>::new(text, 0);
-    match drive::<Decimal<D>, Bytes<'_, false>, Filler<'a>>(source, Filler::new(room)) {
+    match drive::<i128, Bytes<'_, false>, Filler<'a>>(source, Filler::new(places, room)) {
         Ok(over) => {
             let At {
                 source,

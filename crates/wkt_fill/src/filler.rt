@@ -7,8 +7,8 @@ ghost use Rattle.wkt_fill.specs.Filled.{is_collection, kind_of_part, end_ring, e
 
 use crate::status::{FILLER_NOT_FLAT, FILLER_TOO_LARGE, FULL};
 use wkt_events::number_there;
-use wkt_machine::{Axis, Builder, Part, read_at};
-use wkt_num::{Decimal, fast_units};
+use wkt_machine::{Axis, Builder, Part, read_by};
+use wkt_num::{Places, fast_units};
 use wkt_types::{Dimension, GeometryType};
 
 /// The places that arrays are written in.
@@ -29,6 +29,8 @@ pub struct Filler<'a> {
     coordinates: usize,
     ring_count: usize,
     polygon_count: usize,
+    // How numbers are read.
+    places: Places,
     // Before the kind, so that what isn't looked at for a number is of a width that stays where it is.
     pub dimension: Dimension,
     pub kind: GeometryType,
@@ -96,8 +98,8 @@ fn front<T>(items: &[T], count: usize) -> &[T]
 impl<'a> Filler<'a> {
     /// Arrays of nothing.
     #[inline(always)]
-    pub fn new(room: Room<'a>) -> Filler<'a>
-        ensures { FillerBegins room.entry result }
+    pub fn new(places: Places, room: Room<'a>) -> Filler<'a>
+        ensures { FillerBegins places room.entry result }
     {
         let Room {
             numbers,
@@ -114,6 +116,7 @@ impl<'a> Filler<'a> {
             coordinates: 0,
             ring_count: 0,
             polygon_count: 0,
+            places,
             kind: GeometryType::Point,
             dimension: Dimension::XY,
             status,
@@ -247,32 +250,27 @@ impl<'a> Filler<'a> {
     /// The slow path: the number that stands there, in any form. What it returns comes through memory, whose place is
     /// cleared here, away from the fast path, which returns in registers.
     #[inline(always)]
-    fn slow_number<const D: u32>(self, text: &[u8], at: usize, axis: Axis) -> (Self, Option<usize>)
+    fn slow_number(self, text: &[u8], at: usize, axis: Axis) -> (Self, Option<usize>)
         requires { at ≤ length text.now }
-        ensures some { IfSome result.1 (λ end. MakesNumber (read_decimal 127 36 D) filler_maker self.entry text.now at axis result.0 end) }
-        ensures none { IfNone result.1 (NoNumber (read_decimal 127 36 D) text.now at) }
+        ensures some { IfSome result.1 (λ end. MakesNumber (read_decimal 127 36 self.entry.places) filler_maker self.entry text.now at axis result.0 end) }
+        ensures none { IfNone result.1 (NoNumber (read_decimal 127 36 self.entry.places) text.now at) }
         ensures nothing { IfNone result.1 (result.0 ≡ self.entry) }
     {
-        self.slow_number_outlined::<D>(text, at, axis)
+        self.slow_number_outlined(text, at, axis)
     }
 
     #[cold]
     #[inline(never)]
-    fn slow_number_outlined<const D: u32>(
-        self,
-        text: &[u8],
-        at: usize,
-        axis: Axis,
-    ) -> (Self, Option<usize>)
+    fn slow_number_outlined(self, text: &[u8], at: usize, axis: Axis) -> (Self, Option<usize>)
         requires { at ≤ length text.now }
-        ensures some { IfSome result.1 (λ end. MakesNumber (read_decimal 127 36 D) filler_maker self.entry text.now at axis result.0 end) }
-        ensures none { IfNone result.1 (NoNumber (read_decimal 127 36 D) text.now at) }
+        ensures some { IfSome result.1 (λ end. MakesNumber (read_decimal 127 36 self.entry.places) filler_maker self.entry text.now at axis result.0 end) }
+        ensures none { IfNone result.1 (NoNumber (read_decimal 127 36 self.entry.places) text.now at) }
         ensures nothing { IfNone result.1 (result.0 ≡ self.entry) }
     {
         let mut made = self;
-        match number_there::<Decimal<D>>(text, at) {
+        match number_there(made.places, text, at) {
             Some((number, end)) => {
-                made.push(number.units(), axis);
+                made.push(number, axis);
                 (made, Some(end))
             }
             None => (made, None),
@@ -300,7 +298,7 @@ impl<'a> Filler<'a> {
     }
 }
 
-impl<const D: u32> Builder<Decimal<D>> for Filler<'_> {
+impl Builder<i128> for Filler<'_> {
     ghost use Rattle.wkt_fill.specs.Filled.{filler_maker};
 
     ghost maker = { filler_maker };
@@ -337,29 +335,29 @@ impl<const D: u32> Builder<Decimal<D>> for Filler<'_> {
     }
 
     #[inline(always)]
-    fn number(self, number: Decimal<D>, axis: Axis) -> Self {
+    fn number(self, number: i128, axis: Axis) -> Self {
         let mut made = self;
-        made.push(number.units(), axis);
+        made.push(number, axis);
         made
     }
 
     #[inline(always)]
     fn number_in(self, text: &[u8], at: usize, axis: Axis) -> (Self, Option<usize>) {
-        match fast_units(D, &text[at..]) {
+        match fast_units(self.places.places(), &text[at..]) {
             Some((units, end)) => {
                 let mut made = self;
                 made.put(units, axis);
                 (made, Some(at + end))
             }
-            None => self.slow_number::<D>(text, at, axis),
+            None => self.slow_number(text, at, axis),
         }
     }
 
     #[inline(always)]
     fn bare_in(self, text: &[u8], at: usize) -> (Self, Option<usize>) {
-        match read_at::<Decimal<D>>(text, at) {
+        match read_by(self.places, text, at) {
             Some((number, end)) => {
-                let opened = Builder::<Decimal<D>>::open(self, Part::Member);
+                let opened = self.open(Part::Member);
                 (opened.number(number, Axis::X), Some(end))
             }
             None => (self, None),

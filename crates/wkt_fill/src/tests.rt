@@ -2,10 +2,12 @@
 
 use crate::{Filler, Given, Room, are_arrays, fill_arrays, tell};
 use std::process::Abort;
+use wkt_num::Places;
 use wkt_types::{Dimension, GeometryType};
 
 /// Fills arrays from a text, and from the events of these arrays again.
 fn again(rt: &impl Abort, text: &str) {
+    let places = Places::new(6);
     let mut numbers = [0i64; 64];
     let mut rings = [0usize; 16];
     let mut polygons = [0usize; 16];
@@ -14,7 +16,7 @@ fn again(rt: &impl Abort, text: &str) {
         rings: &mut rings,
         polygons: &mut polygons,
     };
-    let Some(filled) = fill_arrays::<6>(text.as_bytes(), room) else {
+    let Some(filled) = fill_arrays(places, text.as_bytes(), room) else {
         panic!(rt; "no front");
     };
     assert_eq!(rt; filled.end, text.len());
@@ -35,7 +37,7 @@ fn again(rt: &impl Abort, text: &str) {
         rings: &mut more_rings,
         polygons: &mut more_polygons,
     };
-    let told = tell::<6, Filler<'_>>(given, Filler::new(more));
+    let told = tell::<Filler<'_>>(given, Filler::new(places, more));
     assert_eq!(rt; told.status, 0);
     assert!(rt; told.kind == given.kind && told.dimension == given.dimension);
     assert!(rt; told.numbers() == given.numbers);

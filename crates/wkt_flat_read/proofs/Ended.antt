@@ -1,18 +1,17 @@
 -- The whole geometry that a tree holds, as a flat value.
-use Rattle.std.proofs.Common.{◌≡◌, ◌+◌, List, [], ◌∷◌, ◌++◌, length, length-append, sym, refl, ap, ap₂, ◌∙◌, subst, append_assoc, arith, Option, Some, None, Bool, true, false, ◌||◌}
+use Rattle.std.proofs.Common.{◌≡◌, List, [], ◌∷◌, ◌++◌, length, length-append, sym, refl, ap, ap₂, ◌∙◌, subst, append_assoc, arith, Option, Some, None, Bool, true, false, ◌||◌}
 use Rattle.std.specs.Prelude.{map, option_to_list, codes, Vec}
 use Rattle.std.specs.declared.alloc.Global.{Global}
 use Rattle.wkt_access.specs.Values.{Value}
 use Rattle.wkt_flat.specs.Tree.{Flat, flats_of, more_flats, Flats, flat_trees, flat_members}
 use Rattle.wkt_flat.specs.declared.coord.Coord.{Coord}
 use Rattle.wkt_machine.specs.Growing.{numbers_by, members_of, Frame}
-use Rattle.wkt_flat_read.specs.Trees.{flat_coord, flat_line, flat_point, flat_points, plain, plains, is_empty, some_empty, holds_empty, hold_empty, flat_area, alone, coord_by, point_at, some_holds, found_of, members, FlatHoldsEnded, GivesCollection, GivesFlat, GivesOther, GivesMembers, FlatGives, IsLone}
+use Rattle.wkt_flat_read.specs.Trees.{flat_coord, flat_line, flat_point, flat_points, plain, plains, is_empty, some_empty, holds_empty, hold_empty, flat_area, alone, coord_by, point_at, some_holds, found_of, FlatHoldsEnded, GivesCollection, GivesFlat, GivesOther, GivesMembers, FlatGives, IsLone}
 use Rattle.wkt_access.specs.declared.dimensions.Dimension.{Dimension}
 use Rattle.wkt_types.specs.Held.{numbers_of, Held, HeldPoint}
 use Rattle.wkt_types.specs.Outcome.{xy, Outcome, value, refused, empty_point, mismatched}
 use Rattle.wkt_types.specs.Tree.{Tree, Trees}
 use Rattle.wkt_types.specs.Values.{value_of, values_of, point_numbers, line_string_numbers, polygon_numbers}
-use Rattle.wkt_flat.specs.declared.point.Point.{Point}
 use Rattle.wkt_convert.specs.Flatten.{sequence, first_outside, rings, points, point_or_none, flat, flat_all, flat_collection, outcome_map, outcome_both}
 use Rattle.wkt_convert.specs.Kinds.{found_name}
 use Rattle.wkt_convert.specs.declared.flattened.Found.{Found}

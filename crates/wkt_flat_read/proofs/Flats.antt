@@ -1,5 +1,5 @@
 -- What is read where a flat tree grows over a source is the flat value of the front.
-use Rattle.std.proofs.Common.{◌≡◌, ◌+◌, ℕ, List, [], ◌∷◌, length, refl, ap, ap₂, arith, Option, Some, None, ◌++◌, sym, ◌∙◌, subst, ◌⊎◌, inl, inr, Result, Ok, Err, IfOk, IfSome, Bool, true, false}
+use Rattle.std.proofs.Common.{◌≡◌, ℕ, List, [], ◌∷◌, length, refl, ap, ap₂, arith, Option, Some, None, ◌++◌, sym, ◌∙◌, subst, ◌⊎◌, inl, inr, Result, Ok, Err, IfOk, IfSome, Bool, true, false}
 use Rattle.std.specs.Prelude.{map}
 use Rattle.std.specs.List.{AllByRecursion}
 use Rattle.std.specs.Borrow.{MutBor}
@@ -119,7 +119,7 @@ module _ {N : Type 0} (is_value : N → Type 0) where
 
 -- What is read where a flat tree grows over a source.
 
-module _ {N S : Type 0} (is_value : N → Type 0) (read : List ℕ → Option N) (values : (bs : List ℕ) → IfSome (read bs) is_value) (E : Coord N → Coord N → Bool) (view : View S) where
+module _ {N S : Type 0} (is_value : N → Type 0) (read : List ℕ → Option N) (values : (bs : List ℕ) → IfSome (read bs) is_value) (E : Coord N → Coord N → Bool) (view : View N S) where
   fits : (s r : S) (v : Value N) → TakesValue read view s v r → IsWellFormed is_value v
   fits s r v h = geometry_fits is_value read values v (lexemes_of (h.given ++ (h.last ∷ []))) h.stands
 
@@ -160,13 +160,13 @@ lent {N} E b c w e h = subst (λ (b : MutBor (FlatTree N)). FlatHolds E b.now w)
 -- What is read from the place where a text begins is the flat value of its front.
 
 -- A tree that holds nothing yet grows over the source, and a value ends.
-module _ {N S : Type 0} (is_value : N → Type 0) (read : List ℕ → Option N) (values : (bs : List ℕ) → IfSome (read bs) is_value) (E : Coord N → Coord N → Bool) (view : View S)
+module _ {N S : Type 0} (is_value : N → Type 0) (read : List ℕ → Option N) (values : (bs : List ℕ) → IfSome (read bs) is_value) (E : Coord N → Coord N → Bool) (view : View N S)
     (text : List ℕ) (s : S) (begins : view.remaining s ≡ spanned text) (b : FlatGrower N) (to : At S (FlatGrower N))
-    (on : GoesFrom read view (tree_maker E) s b to) (over : is_over (state_of to.machine) ≡ true) (empty : FlatHolds E (tree_of b).now (rest [] None))
+    (on : GoesFrom read view (tree_maker E read) s b to) (over : is_over (state_of to.machine) ≡ true) (empty : FlatHolds E (tree_of b).now (rest [] None))
     (u : FlatTree N) (same : u ≡ (tree_of to.builder).now) where
   grew_by : (v : Value N) × TakesValue read view s v to.source × FlatGrew E (tree_of b).now (events v) u
   grew_by =
-      let (v, takes, grew) = taken read view (tree_maker E) s b to on over in
+      let (v, takes, grew) = taken read view (tree_maker E read) s b to on over in
       (v, takes, subst (FlatGrew E (tree_of b).now (events v)) (sym same) grew)
 
   pub answer_found : (a : Result (Flattened N) ReadError) → AnswersFlat E u a → IfOk a (IsFlatFront read E text)

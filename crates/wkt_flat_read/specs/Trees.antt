@@ -1,6 +1,6 @@
 -- What a flat tree holds of what has grown, also where it is lent, the flat value that it stands for, and what a source and
 -- a text are read as.
-use Rattle.std.proofs.Common.{sym, subst, inl, inr}
+use Rattle.std.proofs.Common.{refl, sym, subst, inl, inr}
 use Rattle.std.specs.Prelude.{List, [], ◌∷◌, ◌++◌, map, Option, Some, None, Bool, true, false, ◌||◌, ◌≡◌, ◌⊎◌, IfSome, Vec, ℕ, Result, Ok, Err}
 use Rattle.std.specs.declared.alloc.Global.{Global}
 use Rattle.std.specs.Borrow.{MutBor}
@@ -272,13 +272,15 @@ module _ {T : Type 0} (E : Coord T → Coord T → Bool) where
       first w two (inl h) = second w (b.holds (grow_all es w) h two)
       first w two (inr l) = inr (b.stays l)
 
-  abbrev pub tree_maker : Maker T (FlatGrower T)
-  tree_maker = record {
+  abbrev pub tree_maker : (List ℕ → Option T) → Maker T (FlatGrower T)
+  tree_maker read = record {
     makes = λ g es h. FlatGrew E (tree_of g).now es (tree_of h).now;
+    reads = λ g. read;
     fits = λ s n. Unit {0};
-    takes = λ x. 0;
+    takes = λ g x. 0;
     none = λ g. grew_none (tree_of g).now;
     more = λ g h i es fs. grew_more (tree_of g).now (tree_of h).now (tree_of i).now es fs;
+    same = λ g h es k. (refl, refl);
     less = λ s m n order h. tt;
   }
 
@@ -292,7 +294,7 @@ AnswersFlat E t (Err (Memory e)) = Unit {0}
 
 module _ {N : Type 0} (read : List ℕ → Option N) (E : Coord N → Coord N → Bool) where
   -- It is flat what the value is read as that the lexemes which are taken stand for.
-  abbrev pub IsFlatRead : {S : Type 0} → View S → S → Flattened N → S → Type 0
+  abbrev pub IsFlatRead : {S : Type 0} → View N S → S → Flattened N → S → Type 0
   IsFlatRead view s f t = (k : Tree N) × IsRead read view s k t × IsFlattened E k f
 
   -- It is the flat value of the text's front.

@@ -35,7 +35,7 @@ impl<T: WktNum> Builder<T> for FlatGrower<'_, T> {
     ghost use Rattle.wkt_flat.specs.Equal.{coord_eq};
     ghost use Rattle.wkt_flat_read.specs.Trees.{tree_maker};
 
-    ghost maker = { tree_maker (coord_eq T.eq) };
+    ghost maker = { tree_maker (coord_eq T.eq) T.read };
 
     #[inline(always)]
     fn begin(self, _whole: Part, _dim: Dimension) -> Self {

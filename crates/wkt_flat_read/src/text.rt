@@ -14,7 +14,7 @@ use wkt_convert::{Flattened, Found};
 use wkt_flat::{Geometry, Point};
 use wkt_machine::drive::drive;
 use wkt_machine::{Bytes, message_at};
-use wkt_num::WktNum;
+use wkt_num::{OfType, WktNum};
 use wkt_read::{Message, ReadError};
 
 /// What has grown.
@@ -83,7 +83,7 @@ fn front_of<T: WktNum>(alloc: Global, text: &str) -> Result<Flattened<T>, ReadEr
             answer(grown)
         }
         Err(stop) => {
-            let said = message_at::<T>(stop.machine, text, stop.source.at);
+            let said = message_at(OfType::<T>::new(), stop.machine, text, stop.source.at);
             Err(ReadError::Text(said.text()))
         }
     }

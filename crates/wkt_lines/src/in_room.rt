@@ -5,7 +5,7 @@ ghost use Rattle.wkt_lines.specs.Lines.{before_feed, after_feed};
 
 use crate::ends::{ends_there, line_end, text_end};
 use wkt_canonical::{NoRoom, write_front};
-use wkt_num::WktNum;
+use wkt_num::{Numbers, OfType, WktNum};
 
 /// How much of a block was answered, with its line feed, and how much is written then.
 #[derive(Clone, Copy)]
@@ -30,9 +30,32 @@ pub fn answer_line<T: WktNum>(rest: &[u8], out: &mut [u8], len: usize) -> Result
     ensures line { IfAnswered result (λ a. a.taken ≡ length (before_feed rest.now) + 1) }
     ensures within { IfAnswered result (λ a. a.taken ≤ length rest.now + 1) }
 {
-    match write_front::<T, true>(rest, out, len) {
+    answer_line_by(OfType::<T>::new(), rest, out, len)
+}
+
+/// The same, with numbers of any kind.
+///
+/// # Errors
+/// [`NoRoom`], as there.
+#[inline(always)]
+pub fn answer_line_by<N: Numbers>(
+    numbers: N,
+    rest: &[u8],
+    out: &mut [u8],
+    len: usize,
+) -> Result<Answer, NoRoom>
+    requires { len + 2 * length rest.now + 65 ≤ length out.old }
+    ensures answers { AnswersIfRoom (N.read numbers) (N.num numbers) rest.now len out.old out.new result }
+    ensures kept { take len out.new ≡ take len out.old }
+    ensures whole { length out.new ≡ length out.old }
+    ensures room { IfAnswered result (λ a. a.len ≤ length out.old) }
+    ensures some { IfAnswered result (λ a. 0 < a.taken) }
+    ensures line { IfAnswered result (λ a. a.taken ≡ length (before_feed rest.now) + 1) }
+    ensures within { IfAnswered result (λ a. a.taken ≤ length rest.now + 1) }
+{
+    match write_front::<N, true>(numbers, rest, out, len) {
         Ok(Some((end, n))) => {
-            let from = tests_from::<T>(end);
+            let from = tests_from(numbers, end);
             // Most lines end there. They are answered here, so that no `Option` is made for them.
             if ends_there(rest, from) {
                 out[n] = b'\n';
@@ -59,10 +82,10 @@ pub fn answer_line<T: WktNum>(rest: &[u8], out: &mut [u8], len: usize) -> Result
 
 /// From where on a line is to be tested for UTF-8, of which a front was read that ends there.
 #[inline(always)]
-fn tests_from<T: WktNum>(end: usize) -> usize
-    ensures { TestsFrom T.read end result }
+fn tests_from<N: Numbers>(numbers: N, end: usize) -> usize
+    ensures { TestsFrom (N.read numbers) end result }
 {
-    if T::reads_texts() { end } else { 0 }
+    if numbers.reads_texts() { end } else { 0 }
 }
 
 /// Writes that the first line is refused.

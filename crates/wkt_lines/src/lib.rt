@@ -31,7 +31,7 @@ mod streaming;
 pub use answer::AnswerError;
 pub use answers::write_answers;
 pub use ends::line_end;
-pub use in_room::{Answer, answer_line};
+pub use in_room::{Answer, answer_line, answer_line_by};
 pub use lines::{RunError, run, run_over};
 pub use reading::Lines;
 pub use reply::{Canonical, Reply, write_replies};

@@ -127,7 +127,7 @@ module _ {N B : Type 0} (read : List ℕ → Option N) (maker : Maker N B) {n : 
       go next.Geometry e = inner (λ i. let clash : next.Geometry ≡ next.Item = sym e ∙ i in cc)
 
   -- none is
-  pub number_stays : (m : Machine) (s t : Bytes n) (b c : B) (a : Axis) → m.state ≡ state_for a → Stays (bytes_view feed) s t → IsDark feed t.text.now t.at → NoNumber read t.text.now t.at → maker.makes b [] c
+  pub number_stays : (m : Machine) (s t : Bytes n) (b c : B) (a : Axis) → m.state ≡ state_for a → Stays {N = N} (bytes_view feed) s t → IsDark feed t.text.now t.at → NoNumber read t.text.now t.at → maker.makes b [] c
       → Refuses read (bytes_view feed) maker m s b (record { source = t; machine = m; builder = c })
   number_stays m s t b c a at_a stays dark none nothing = record {
     taken = [];
@@ -146,7 +146,7 @@ module _ {N B : Type 0} (read : List ℕ → Option N) (maker : Maker N B) {n : 
       → (Legible feed s.text.now s.at → Legible feed s.text.now start) → IsDark feed s.text.now start → NoNumber read s.text.now start → t.text ≡ s.text → t.at ≡ start → maker.makes b [] c
       → Refuses read (bytes_view feed) maker m s b (record { source = t; machine = m; builder = c })
   number_stays_at m s t b c a start at_a between further dark none text at nothing =
-      let stays : Stays (bytes_view {n = n} feed) s t = bytes.stays_on feed s t (sym text) (subst (IsBetween feed s.text.now s.at) (sym at) between)
+      let stays : Stays {N = N} (bytes_view {n = n} feed) s t = bytes.stays_on feed s t (sym text) (subst (IsBetween feed s.text.now s.at) (sym at) between)
       (λ k. subst (λ x. Legible feed x.now t.at) (sym text) (subst (Legible feed s.text.now) (sym at) (further k))) in
       number_stays m s t b c a at_a stays
       (subst (λ x. IsDark feed x.now t.at) (sym text) (subst (IsDark feed s.text.now) (sym at) dark))

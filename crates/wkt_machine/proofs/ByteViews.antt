@@ -186,9 +186,9 @@ between_more feed text from at to a b =
     }
 
 -- What bytes do as a source.
-module _ {n : ℕ} (feed : Bool) where
+module _ {N : Type 0} {n : ℕ} (feed : Bool) where
   -- no lexeme stands before
-  pub stays_on : (s t : Bytes n) → s.text ≡ t.text → IsBetween feed s.text.now s.at t.at → (Legible feed s.text.now s.at → Legible feed t.text.now t.at) → Stays (bytes_view feed) s t
+  pub stays_on : (s t : Bytes n) → s.text ≡ t.text → IsBetween feed s.text.now s.at t.at → (Legible feed s.text.now s.at → Legible feed t.text.now t.at) → Stays {N = N} (bytes_view feed) s t
   stays_on s t text between legible = record {
     remaining = ap (λ x. remaining_spanned feed x.now t.at) (sym text) ∙ sym between.same;
     behind = λ end k. subst (λ x. IsBetween feed x.now end t.at) text (between_more feed s.text.now end s.at t.at k between);
@@ -196,7 +196,7 @@ module _ {n : ℕ} (feed : Bool) where
   }
 
   -- a lexeme that stands there is taken
-  pub skips_lexeme : (s t : Bytes n) (l : Lexeme) → TakesOne feed s.text.now s.at l t.at → t.text ≡ s.text → Skips (bytes_view feed) s t
+  pub skips_lexeme : (s t : Bytes n) (l : Lexeme) → TakesOne feed s.text.now s.at l t.at → t.text ≡ s.text → Skips {N = N} (bytes_view feed) s t
   skips_lexeme s t l takes text = record {
     lexeme = record { lexeme = l; end = t.at };
     remaining = takes.next ∙ ap (λ x. record { lexeme = l; end = t.at } ∷ remaining_spanned feed x.now t.at) (sym text);
@@ -206,17 +206,17 @@ module _ {n : ℕ} (feed : Bool) where
 
   -- the lexeme that was looked at is taken
   pub skips_to : (s t : Bytes n) → IsLooked feed s.text.now s.at s.end → sight (remaining_spanned feed s.text.now s.at) ≢ seen.Other → sight (remaining_spanned feed s.text.now s.at) ≢ seen.Number
-      → t.text ≡ s.text → t.at ≡ s.end → Skips (bytes_view feed) s t
+      → t.text ≡ s.text → t.at ≡ s.end → Skips {N = N} (bytes_view feed) s t
   skips_to s t looked some word text at =
       let (l, takes) = looked.takes some word in
       skips_lexeme s t l (subst (TakesOne feed s.text.now s.at l) (sym at) takes) text
 
-  pub skips_mark : (s t : Bytes n) (l : Lexeme) → class_of (get_or s.text.now s.at 0) ≡ Mark l → t.text ≡ s.text → t.at ≡ s.at + 1 → Skips (bytes_view feed) s t
+  pub skips_mark : (s t : Bytes n) (l : Lexeme) → class_of (get_or s.text.now s.at 0) ≡ Mark l → t.text ≡ s.text → t.at ≡ s.at + 1 → Skips {N = N} (bytes_view feed) s t
   skips_mark s t l mark text at =
       skips_lexeme s t l (subst (TakesOne feed s.text.now s.at l) (sym at) (takes-mark feed s.text.now s.at l (classes.mark-in feed (get_or s.text.now s.at 0) l mark))) text
 
   -- A number is taken, and made. White space may stand before it.
-  pub numbers_after : {N B : Type 0} (read : List ℕ → Option N) (maker : Maker N B) (s t : Bytes n) (b c : B) (axis : Axis) (at : ℕ) → remaining_spanned feed s.text.now s.at ≡ remaining_spanned feed s.text.now at → (Legible feed s.text.now s.at → Legible feed s.text.now at)
+  pub numbers_after : {B : Type 0} (read : List ℕ → Option N) (maker : Maker N B) (s t : Bytes n) (b c : B) (axis : Axis) (at : ℕ) → remaining_spanned feed s.text.now s.at ≡ remaining_spanned feed s.text.now at → (Legible feed s.text.now s.at → Legible feed s.text.now at)
       → MakesNumber read maker b s.text.now at axis c t.at → t.text ≡ s.text → MakesOneNumber read (bytes_view feed) maker s b axis t c
   numbers_after read maker s t b c axis at same further h text =
       let takes = takes-number read feed s.text.now at t.at h.number h.there in

@@ -39,7 +39,6 @@ use Rattle.wkt_access.specs.declared.dimensions.Dimension.TheVariants.{XY}
 use Rattle.wkt_types.specs.Held.{numbers_of, HeldPoint}
 use Rattle.wkt_types.specs.Values.{HasDimIfAny, IsWktOf}
 use Rattle.wkt_types.specs.declared.coord.Coord.{Coord}
-use Rattle.wkt_read.specs.Stream.{remaining}
 use Rattle.wkt_read.specs.declared.error.ReadError.{ReadError}
 use Rattle.wkt_machine.specs.declared.tree.Grower.{Grower}
 use Rattle.wkt_machine.proofs.Reading.{front}
@@ -75,7 +74,7 @@ module _ {N : Type 0} (read : List ℕ → Option N) where
           let (q, r, first, later, cut) = front_run read (before ++ (fault ∷ [])) m start (at 0 place.Geometry, events v ++ []) whole in
           let clash : ◌≡◌ {A = Option (Move N)} None (Some q) = sym (stuck read before fault s es e o stops) ∙ first in cc
 
-  module _ {S B : Type 0} (view : View S) (maker : Maker N B) (text : List ℕ) (s : S) (b : B) (to : At S B) (begins : view.remaining s ≡ spanned text) where
+  module _ {S B : Type 0} (view : View N S) (maker : Maker N B) (text : List ℕ) (s : S) (b : B) (to : At S B) (begins : view.remaining s ≡ spanned text) where
     -- a front, and what was made of it
     pub front_made : (at : ℕ) → ((end : ℕ) → view.place to.source end → at ≡ end) → GoesFrom read view maker s b to → is_over (state_of to.machine) ≡ true → (v : Value N) × Front read text v at × maker.makes b (events v) to.builder
     front_made at ends (m, from, h) o =
@@ -128,7 +127,7 @@ free_lists (Value.multi_line_string d ls) h = ap (λ ls. lists_any (events (Valu
 free_lists (Value.multi_polygon d ys) h = ap (λ ys. lists_any (events (Value.multi_polygon d ys))) h
 free_lists (Value.collection d vs) h = ap (λ vs. lists_any (events (Value.collection d vs))) h
 
-module _ {N S B : Type 0} (read : List ℕ → Option N) (view : View S) (maker : Maker N B) (s : S) (b : B) (to : At S B) where
+module _ {N S B : Type 0} (read : List ℕ → Option N) (view : View N S) (maker : Maker N B) (s : S) (b : B) (to : At S B) where
   -- the value that stands there, whose events were made
   pub taken : GoesFrom read view maker s b to → is_over (state_of to.machine) ≡ true → (v : Value N) × TakesValue read view s v to.source × maker.makes b (events v) to.builder
   taken (m, from, h) o =
@@ -152,7 +151,7 @@ module _ {N S B : Type 0} (read : List ℕ → Option N) (view : View S) (maker 
     stuck = h.stuck;
   }
 
-module _ {N S : Type 0} (is_value : N → Type 0) (read : List ℕ → Option N) (values : (bs : List ℕ) → IfSome (read bs) is_value) (view : View S) where
+module _ {N S : Type 0} (is_value : N → Type 0) (read : List ℕ → Option N) (values : (bs : List ℕ) → IfSome (read bs) is_value) (view : View N S) where
   -- the value has grown, or it is lost
   grown : (t u : Tree N) (s r : S) (v : Value N) → TakesValue read view s v r → Holds t (rest [] None) → Grew t (events v) u → HoldsWhole u [] v ⊎ (IsLost u × (lists_any (events v) ≡ true))
   grown t u s r v h begins grew =
@@ -191,12 +190,12 @@ lent {N} b c w e h = subst (λ (b : MutBor (Tree N)). Holds b.now w) (sym e) h
 
 -- nothing is made
 abbrev made_none : {N : Type 0} → Maker N (Unit {0})
-made_none = record { makes = λ s es t. Unit {0}; fits = λ s n. Unit {0}; takes = λ x. 0; none = λ s. tt; more = λ s t u es fs h k. tt; less = λ s m n order h. tt }
+made_none = record { makes = λ s es t. Unit {0}; reads = λ s run. None; fits = λ s n. Unit {0}; takes = λ s x. 0; same = λ s t es h. (refl, refl); none = λ s. tt; more = λ s t u es fs h k. tt; less = λ s m n order h. tt }
 
 abbrev begin : Machine
 begin = record { state = state.Kind; part = part.Point; dim = XY; depth = 0 }
 
-module _ {N S : Type 0} (read : List ℕ → Option N) (view : View S) (text : List ℕ) (s : S) (begins : view.remaining s ≡ spanned text) where
+module _ {N S : Type 0} (read : List ℕ → Option N) (view : View N S) (text : List ℕ) (s : S) (begins : view.remaining s ≡ spanned text) where
   -- the front that was taken
   pub front_whole : (v : Value N) (t : S) (h : TakesValue read view s v t) → Front read text v h.last.end
   front_whole v t h =
@@ -274,13 +273,13 @@ pair_made t x y is p coord dim =
     (tree_point p ∙ ap (λ o. Kept.point (record { coord = o; dim = p.dim })) coord ∙ ap (λ d. Kept.point (record { coord = Some (record { x = x; y = y; z = None; m = None }); dim = d })) dim)
 
 -- A tree that holds nothing yet grows over the source, and a value ends.
-module _ {N S : Type 0} (is_value : N → Type 0) (read : List ℕ → Option N) (values : (bs : List ℕ) → IfSome (read bs) is_value) (view : View S)
+module _ {N S : Type 0} (is_value : N → Type 0) (read : List ℕ → Option N) (values : (bs : List ℕ) → IfSome (read bs) is_value) (view : View N S)
     (text : List ℕ) (s : S) (begins : view.remaining s ≡ spanned text) (b : Grower N) (to : At S (Grower N))
-    (on : GoesFrom read view tree_maker s b to) (over : is_over (state_of to.machine) ≡ true) (empty : Holds (tree_of b).now (rest [] None))
+    (on : GoesFrom read view (tree_maker read) s b to) (over : is_over (state_of to.machine) ≡ true) (empty : Holds (tree_of b).now (rest [] None))
     (u : Tree N) (same : u ≡ (tree_of to.builder).now) (upto : ℕ) (ends : (end : ℕ) → view.place to.source end → upto ≡ end) where
   grew_driven : (v : Value N) × TakesValue read view s v to.source × Grew (tree_of b).now (events v) u
   grew_driven =
-      let (v, takes, grew) = taken read view tree_maker s b to on over in
+      let (v, takes, grew) = taken read view (tree_maker read) s b to on over in
       (v, takes, subst (Grew (tree_of b).now (events v)) (sym same) grew)
 
   pub ended_found_to : (w : Wkt N) → AnswersTree u (Ok w) → IsFrontTo read text (tree w) upto

@@ -272,7 +272,7 @@ numbered Close e = let never : ⊥ = cc in absurd never
 numbered Comma e = let never : ⊥ = cc in absurd never
 numbered (Word w) e = absurd (no_word (kind_word w) w e)
 
-module _ {N S B : Type 0} (read : List ℕ → Option N) (view : View S) (maker : Maker N B) where
+module _ {N S B : Type 0} (read : List ℕ → Option N) (view : View N S) (maker : Maker N B) where
   never_moves : (o : Option (State × Action)) (run : List ℕ) → read run ≡ None → moved read o (said read (read run)) ≡ None
   never_moves (Some s) run e = ap (λ o. moved read (Some s) (said read o)) e
   never_moves None run e = refl

@@ -107,19 +107,19 @@ rest-append : (s : Standing) (given more : List Spanned) → remaining s ≡ giv
 rest-append s given more e = rest-is s (given ++ more) e ∙ lexemes_append given more
 
 module _ {T : Type 0} (read : List ℕ → Option T) (a b : OneByOne T) where
-  takes_begins : (v : Value T) → TakesValue read tokens_view a v b → Begins read (rest a.tokens.now) v (rest b.tokens.now)
+  takes_begins : (v : Value T) → TakesValue read (tokens_view read) a v b → Begins read (rest a.tokens.now) v (rest b.tokens.now)
   takes_begins v h =
       let given : List Spanned = h.given ++ (h.last ∷ []) in
       (lexemes_of given, rest-append a.tokens.now given (remaining b.tokens.now) (h.split ∙ sym (append_assoc h.given (h.last ∷ []) (remaining b.tokens.now))) ∙ ap (λ l. lexemes_of given ++ l) (sym (rest-is b.tokens.now (remaining b.tokens.now) refl)), h.stands)
 
   -- what is read
-  pub read_found : (w : Tree T) → IsRead read tokens_view a w b → IsReadOff read (rest a.tokens.now) w (rest b.tokens.now)
+  pub read_found : (w : Tree T) → IsRead read (tokens_view read) a w b → IsReadOff read (rest a.tokens.now) w (rest b.tokens.now)
   read_found w (v, takes, is) = (v, takes_begins v takes, is)
 
-  pub read_taken : (w : Tree T) → IsRead read tokens_view a w b → length (rest b.tokens.now) < length (rest a.tokens.now)
+  pub read_taken : (w : Tree T) → IsRead read (tokens_view read) a w b → length (rest b.tokens.now) < length (rest a.tokens.now)
   read_taken w (v, takes, is) = some-taken read (rest a.tokens.now) v (rest b.tokens.now) (takes_begins v takes)
 
-  pub takes_advances : (v : Value T) → TakesValue read tokens_view a v b → Advances a.tokens.now b.tokens.now
+  pub takes_advances : (v : Value T) → TakesValue read (tokens_view read) a v b → Advances a.tokens.now b.tokens.now
   takes_advances v h = record {
     given = h.given ++ (h.last ∷ []);
     split = h.split ∙ sym (append_assoc h.given (h.last ∷ []) (remaining b.tokens.now));
@@ -127,18 +127,18 @@ module _ {T : Type 0} (read : List ℕ → Option T) (a b : OneByOne T) where
     grows = h.keeps (taken_of a.tokens.now) (omega arith);
   }
 
-  pub read_near : (w : Tree T) → IsRead read tokens_view a w b → IsNear b.tokens.now
+  pub read_near : (w : Tree T) → IsRead read (tokens_view read) a w b → IsNear b.tokens.now
   read_near w (v, takes, is) = takes.place.1
 
   -- there is no memory
-  pub wants_free : WantsMemory read tokens_view a b → (v : Value T) (after : List Lexeme) → Begins read (rest a.tokens.now) v after → NeedsNoMemory v → ⊥
+  pub wants_free : WantsMemory read (tokens_view read) a b → (v : Value T) (after : List Lexeme) → Begins read (rest a.tokens.now) v after → NeedsNoMemory v → ⊥
   wants_free (w, takes, wants) v after (f, split, g) free =
       let (k, split2, stands) = takes_begins w takes in
       let one = geometry_one read v w f k after (rest b.tokens.now) g stands (sym split ∙ split2) in
       wants (subst NeedsNoMemory one.value free)
 
   -- no geometry comes next
-  module _ (m : Machine) (h : MachineRefuses read tokens_view a m b) where
+  module _ (m : Machine) (h : MachineRefuses read (tokens_view read) a m b) where
     pub refused_advances : Advances a.tokens.now b.tokens.now
     refused_advances = record { given = h.taken; split = h.split; end = h.behind (end_of a.tokens.now) refl; grows = h.keeps (taken_of a.tokens.now) (omega arith) }
 
@@ -180,9 +180,9 @@ module _ {T : Type 0} (read : List ℕ → Option T) (a b : OneByOne T) (s t : S
   there : (P : Standing → Standing → Type 0) → P a.tokens.now b.tokens.now → P s t
   there P h = subst (λ s. P s t) before (subst (P a.tokens.now) (sym behind) h)
 
-  module _ (w : Wkt T) (is : r ≡ Ok w) (h : IfOk r (λ w. IsRead read tokens_view a (tree w) b)) where
-    off : IsRead read tokens_view a (tree w) b
-    off = off_ok (λ w. IsRead read tokens_view a (tree w) b) w r is h
+  module _ (w : Wkt T) (is : r ≡ Ok w) (h : IfOk r (λ w. IsRead read (tokens_view read) a (tree w) b)) where
+    off : IsRead read (tokens_view read) a (tree w) b
+    off = off_ok (λ w. IsRead read (tokens_view read) a (tree w) b) w r is h
 
     pub ok_found : IsReadOff read (rest s) (tree w) (rest t)
     ok_found = there (λ s t. IsReadOff read (rest s) (tree w) (rest t)) (read_found read a b (tree w) off)
@@ -197,9 +197,9 @@ module _ {T : Type 0} (read : List ℕ → Option T) (a b : OneByOne T) (s t : S
     ok_near = there (λ s t. IsNear t) (read_near read a b (tree w) off)
 
   module _ (u : Unread) (is : r ≡ Err u) where
-    module _ (x : AllocError) (unmade : u ≡ Unmade x) (h : OnMemory r (WantsMemory read tokens_view a b)) where
-      wants : WantsMemory read tokens_view a b
-      wants = off_memory (WantsMemory read tokens_view a b) x u r is unmade h
+    module _ (x : AllocError) (unmade : u ≡ Unmade x) (h : OnMemory r (WantsMemory read (tokens_view read) a b)) where
+      wants : WantsMemory read (tokens_view read) a b
+      wants = off_memory (WantsMemory read (tokens_view read) a b) x u r is unmade h
 
       pub memory_free : (v : Value T) (after : List Lexeme) → Begins read (rest s) v after → NeedsNoMemory v → ⊥
       memory_free = there (λ s t. (v : Value T) (after : List Lexeme) → Begins read (rest s) v after → NeedsNoMemory v → ⊥) (wants_free read a b wants)
@@ -207,9 +207,9 @@ module _ {T : Type 0} (read : List ℕ → Option T) (a b : OneByOne T) (s t : S
       pub memory_advances : Advances s t
       memory_advances = let (v, takes, needs) = wants in there Advances (takes_advances read a b v takes)
 
-    module _ (m : Machine) (stuck : u ≡ Refused m) (h : OnRefused r (λ m. MachineRefuses read tokens_view a m b)) where
-      at_stuck : MachineRefuses read tokens_view a m b
-      at_stuck = off_refused (λ m. MachineRefuses read tokens_view a m b) m u r is stuck h
+    module _ (m : Machine) (stuck : u ≡ Refused m) (h : OnRefused r (λ m. MachineRefuses read (tokens_view read) a m b)) where
+      at_stuck : MachineRefuses read (tokens_view read) a m b
+      at_stuck = off_refused (λ m. MachineRefuses read (tokens_view read) a m b) m u r is stuck h
 
       pub stuck_next : IsStuck read m (remaining t)
       stuck_next = let low : 0 ≤ taken_of a.tokens.now = omega arith in subst (λ (t : Standing). IsStuck read m (remaining t)) (sym behind) (at_stuck.stuck 0 low)

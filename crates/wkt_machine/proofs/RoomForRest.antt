@@ -291,7 +291,7 @@ after_owes axis.M d p n = refl
 pub no_room : {S B : Type 0} (P : At S B → Type 0) (r : Result (At S B) (At S B)) (to : At S B) → r ≡ Err to → IfOk r P
 no_room P r to is = subst (λ r. IfOk r P) (sym is) tt
 
-module _ {N S B : Type 0} (view : View S) (maker : Maker N B) where
+module _ {N S B : Type 0} (view : View N S) (maker : Maker N B) where
   -- no call takes no room
   pub leaves_none : (b : B) → Leaves maker b 0 b
   leaves_none b m h = maker.less b m (m + 0) (omega arith) h
@@ -301,11 +301,11 @@ module _ {N S B : Type 0} (view : View S) (maker : Maker N B) where
   leaves_both j k b c d one two m h = two m (one (m + k) (maker.less b (m + k + j) (m + (k + j)) (omega arith) h))
 
   pub stays_room : (n : ℕ) (s t : S) (b : B) → Stays view s t → HasRoom view maker n s b → HasRoom view maker n t b
-  stays_room n s t b stays h = record { fits = subst (λ ps. maker.fits b (n + need ps)) (sym stays.remaining) h.fits; values = h.values }
+  stays_room n s t b stays h = record { fits = subst (λ ps. maker.fits b (n + need ps)) (sym stays.remaining) h.fits; values = h.values; reads = h.reads }
 
   -- room for less
   pub less_room : (m n : ℕ) (s : S) (b : B) → m ≤ n → HasRoom view maker n s b → HasRoom view maker m s b
-  less_room m n s b order h = record { fits = maker.less b (m + need (view.remaining s)) (n + need (view.remaining s)) (omega (arith, order)) h.fits; values = h.values }
+  less_room m n s b order h = record { fits = maker.less b (m + need (view.remaining s)) (n + need (view.remaining s)) (omega (arith, order)) h.fits; values = h.values; reads = h.reads }
 
   -- There is room for what the lexeme makes that is seen.
   pub fits_seen : (n spent : ℕ) (k : Seen) (s : S) (b : B) → k ≡ sight (view.remaining s) → spent ≤ n + seen_cost k → HasRoom view maker n s b → maker.fits b spent
@@ -320,6 +320,7 @@ module _ {N S B : Type 0} (view : View S) (maker : Maker N B) where
       record {
         fits = leaves (after + need (view.remaining t)) (maker.less b (after + need (view.remaining t) + spent) (n + need (view.remaining s)) (omega (arith, order, least)) h.fits);
         values = h.values;
+        reads = h.reads;
       }
 
   -- The same where the code has it: the next place owes so much.
@@ -334,6 +335,7 @@ module _ {N S B : Type 0} (view : View S) (maker : Maker N B) where
   made_room n after spent s b c order leaves h = record {
     fits = leaves (after + need (view.remaining s)) (maker.less b (after + need (view.remaining s) + spent) (n + need (view.remaining s)) (omega (arith, order)) h.fits);
     values = h.values;
+    reads = h.reads;
   }
 
   pub fits_so_much : (n : ℕ) (s : S) (b : B) → HasRoom view maker n s b → maker.fits b n
@@ -356,34 +358,34 @@ module _ {N S B : Type 0} (view : View S) (maker : Maker N B) where
   x_room m s b e h = owed_room m next.X s b e h
 
   -- what makes no use of room
-  pub free_room : (s : S) (b : B) → ((n : ℕ) → maker.fits b n) → ((x : N) → maker.takes x ≡ 0) → HasRoom view maker 0 s b
-  free_room s b fits takes = record { fits = fits (0 + need (view.remaining s)); values = λ by. takes }
+  pub free_room : (s : S) (b : B) → ((n : ℕ) → maker.fits b n) → ((c : B) (x : N) → maker.takes c x ≡ 0) → (view.by_value → (c : B) → maker.reads c ≡ view.number) → HasRoom view maker 0 s b
+  free_room s b fits takes reads = record { fits = fits (0 + need (view.remaining s)); values = λ by. takes; reads = reads }
 
   -- Room for a number.
   pub number_room : (s : S) (b : B) → HasRoom view maker 0 s b → HasNumberRoom view maker s b
-  number_room s b h = record { fits = maker.less b (need (view.remaining s) - 1) (0 + need (view.remaining s)) (omega arith) h.fits; values = h.values }
+  number_room s b h = record { fits = maker.less b (need (view.remaining s) - 1) (0 + need (view.remaining s)) (omega arith) h.fits; values = h.values; reads = h.reads }
 
   -- the first of a point without parentheses
   pub bare_room : (s : S) (b o : B) → seen.Number ≡ sight (view.remaining s) → Leaves maker b 1 o → HasRoom view maker 0 s b → HasNumberRoom view maker s o
   bare_room s b o sees leaves h =
       let least : 1 ≤ need (view.remaining s) = seen_need (view.remaining s) seen.Number sees in
-      record { fits = leaves (need (view.remaining s) - 1) (maker.less b (need (view.remaining s) - 1 + 1) (0 + need (view.remaining s)) (omega (arith, least)) h.fits); values = h.values }
+      record { fits = leaves (need (view.remaining s) - 1) (maker.less b (need (view.remaining s) - 1 + 1) (0 + need (view.remaining s)) (omega (arith, least)) h.fits); values = h.values; reads = h.reads }
 
   pub bare_after : (s t : S) (o c : B) → HasNumberRoom view maker s o → LeavesNumber view maker s o t c → HasRoom view maker 0 t c
-  bare_after s t o c h leaves = record { fits = leaves 0 (omega arith) (maker.less o (0 + (need (view.remaining s) - 1)) (need (view.remaining s) - 1) (omega arith) h.fits); values = h.values }
+  bare_after s t o c h leaves = record { fits = leaves 0 (omega arith) (maker.less o (0 + (need (view.remaining s) - 1)) (need (view.remaining s) - 1) (omega arith) h.fits); values = h.values; reads = h.reads }
 
   -- another, with room for the parenthesis that isn't there
   pub number_after : (s t : S) (b c : B) → seen.Number ≡ sight (view.remaining s) → HasRoom view maker 0 s b → LeavesNumber view maker s b t c → HasRoom view maker 1 t c
   number_after s t b c sees h leaves =
       let least : 1 ≤ need (view.remaining s) = seen_need (view.remaining s) seen.Number sees in
-      record { fits = leaves 1 (omega arith) (maker.less b (1 + (need (view.remaining s) - 1)) (0 + need (view.remaining s)) (omega (arith, least)) h.fits); values = h.values }
+      record { fits = leaves 1 (omega arith) (maker.less b (1 + (need (view.remaining s) - 1)) (0 + need (view.remaining s)) (omega (arith, least)) h.fits); values = h.values; reads = h.reads }
 
   -- Numbers that are given by value take no room.
-  pub value_fits : (s : S) (b : B) (x : N) → view.by_value → HasNumberRoom view maker s b → maker.fits b (maker.takes x)
-  value_fits s b x by h = let none = h.values by x in maker.less b (maker.takes x) (need (view.remaining s) - 1) (omega (arith, none)) h.fits
+  pub value_fits : (s : S) (b : B) (x : N) → view.by_value → HasNumberRoom view maker s b → maker.fits b (maker.takes b x)
+  value_fits s b x by h = let none = h.values by b x in maker.less b (maker.takes b x) (need (view.remaining s) - 1) (omega (arith, none)) h.fits
 
-  pub value_leaves : (s t : S) (b c : B) (x : N) (run : List ℕ) (end : ℕ) → view.by_value → HasNumberRoom view maker s b → view.remaining s ≡ record { lexeme = Num run; end = end } ∷ view.remaining t → Leaves maker b (maker.takes x) c → LeavesNumber view maker s b t c
+  pub value_leaves : (s t : S) (b c : B) (x : N) (run : List ℕ) (end : ℕ) → view.by_value → HasNumberRoom view maker s b → view.remaining s ≡ record { lexeme = Num run; end = end } ∷ view.remaining t → Leaves maker b (maker.takes b x) c → LeavesNumber view maker s b t c
   value_leaves s t b c x run end by room remaining leaves k one h =
-      let none = room.values by x in
+      let none = room.values by b x in
       let all : need (view.remaining s) ≡ number_cost run + 1 + need (view.remaining t) = ap need remaining in
-      leaves (k + need (view.remaining t)) (maker.less b (k + need (view.remaining t) + maker.takes x) (k + (need (view.remaining s) - 1)) (omega (arith, none, all)) h)
+      leaves (k + need (view.remaining t)) (maker.less b (k + need (view.remaining t) + maker.takes b x) (k + (need (view.remaining s) - 1)) (omega (arith, none, all)) h)

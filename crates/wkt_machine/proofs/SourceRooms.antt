@@ -1,14 +1,12 @@
 -- Room for headers and numbers of bytes.
-use Rattle.std.proofs.Common.{◌≡◌, ℕ, ◌+◌, ◌*◌, ◌≤◌, List, length, get_or, Bool, Option, Some, refl, ap, ◌∙◌, arith, ◌-◌, ◌<◌, slice_range, IsTrue}
+use Rattle.std.proofs.Common.{◌≡◌, ℕ, ◌+◌, ◌*◌, List, length, get_or, Bool, Option, Some, refl, ap, ◌∙◌, arith, ◌-◌, ◌<◌, slice_range, IsTrue}
 use Rattle.wkt_num.specs.Bytes.{Lexeme, Mark, class_of, Num}
 use Rattle.wkt_events.specs.Remaining.{remaining_spanned, IsRunEnd, TakesOne}
 use Rattle.wkt_machine.specs.View.{bytes_view, seen_of, sight}
-use Rattle.wkt_machine.specs.Machine.{part_of}
 use Rattle.wkt_machine.specs.Makers.{Maker, MakesNumber}
-use Rattle.wkt_machine.specs.Room.{header_cost, need, Leaves, HasRoom, number_cost, FitsBare, FitsNumber, LeavesBehind, LeavesBehindBare, HasNumberRoom, LeavesNumber}
+use Rattle.wkt_machine.specs.Room.{need, Leaves, HasRoom, number_cost, FitsBare, FitsNumber, LeavesBehind, LeavesBehindBare, HasNumberRoom, LeavesNumber}
 use Rattle.wkt_machine.specs.declared.bytes.Bytes.{Bytes}
-use Rattle.wkt_machine.specs.declared.part.Part.{Part}
-use Rattle.wkt_machine.proofs.RoomForRest.{kind_cost, marks_one, need_most, need_stops, leaves_both, fits_seen, spent_room}
+use Rattle.wkt_machine.proofs.RoomForRest.{marks_one, need_most, need_stops, fits_seen, spent_room}
 use Rattle.wkt_machine.proofs.ByteViews as bytes
 use Rattle.wkt_read.specs.Lexemes.{starts_number, without_plus}
 use Rattle.wkt_events.proofs.RemainingLexemes.{takes-number}
@@ -62,13 +60,14 @@ module _ {N B : Type 0} (maker : Maker N B) {n : ℕ} (feed : Bool) where
         fits = leaves (0 + need (remaining_spanned feed t.text.now t.at)) (omega (arith, most, there))
             (maker.less b (0 + need (remaining_spanned feed t.text.now t.at) + number_cost (without_plus (slice_range s.text.now s.at t.at)) + 1) (0 + need (remaining_spanned feed s.text.now s.at)) (omega (arith, all, there)) h.fits);
         values = h.values;
+        reads = h.reads;
       }
 
   -- Twice the text and one more is room to begin.
   pub start_room : (s : Bytes n) (b : B) → maker.fits b (2 * (length s.text.now - s.at) + 1) → HasRoom (bytes_view feed) maker 0 s b
   start_room s b h =
       let most = need_most feed s.text.now s.at in
-      record { fits = maker.less b (0 + need (remaining_spanned feed s.text.now s.at)) (2 * (length s.text.now - s.at) + 1) (omega (arith, most)) h; values = λ never. absurd never }
+      record { fits = maker.less b (0 + need (remaining_spanned feed s.text.now s.at)) (2 * (length s.text.now - s.at) + 1) (omega (arith, most)) h; values = λ never. absurd never; reads = λ never. absurd never }
 
 module _ {N B : Type 0} (maker : Maker N B) {n : ℕ} (feed : Bool) where
   -- A mark that stands right there.

@@ -227,7 +227,7 @@ pub some_left : (ps : List Spanned) (k : Seen) → k ≡ sight ps → (k ≡ see
 some_left [] k e never = absurd (never e)
 some_left (p ∷ ps) k e never = omega arith
 
-module _ {N S B : Type 0} (read : List ℕ → Option N) (view : View S) (maker : Maker N B) where
+module _ {N S B : Type 0} (read : List ℕ → Option N) (view : View N S) (maker : Maker N B) where
   -- what isn't seen as a number has none
   no_number : (l : Lexeme) → seen_of l ≢ seen.Number → number_of read l ≡ Some None
   no_number (Num run) never = absurd (never refl)

@@ -35,7 +35,7 @@ pub end_last : (at : ℕ) (xs : List Spanned) (x : Spanned) → end_after at (xs
 end_last at [] x = refl
 end_last at (y ∷ xs) x = end_last y.end xs x
 
-module _ {N S B : Type 0} (read : List ℕ → Option N) (view : View S) (maker : Maker N B) where
+module _ {N S B : Type 0} (read : List ℕ → Option N) (view : View N S) (maker : Maker N B) where
   pub runs : (xs ys : List Spanned) (s t u : State) (es fs : List (Event N)) → run read s (lexemes_of xs) ≡ Some (t, es) → run read t (lexemes_of ys) ≡ Some (u, fs) → run read s (lexemes_of (xs ++ ys)) ≡ Some (u, es ++ fs)
   runs xs ys s t u es fs h k = ap (run read s) (lexemes_append xs ys) ∙ run_append read (lexemes_of xs) (lexemes_of ys) s (t, es) h ∙ ap (after es) k
 
@@ -68,23 +68,40 @@ module _ {N S B : Type 0} (read : List ℕ → Option N) (view : View S) (maker 
     stuck = λ j l. k.stuck j (h.keeps j l);
   }
 
-  pub from_start : (s : S) (b : B) (a c : At S B) → GoesFrom read view maker s b a → Goes read view maker a.machine a.source a.builder c → GoesFrom read view maker s b c
-  from_start s b a c (m, is, h) k = (m, is, goes_on_to m s b a c h k)
+-- Each way's numbers are read as what is made before it says, which is as the way before reads them.
 
-  pub started_if : (s : S) (b : B) (a : At S B) (r : Result (At S B) (At S B)) → GoesFrom read view maker s b a → IfOk r (Goes read view maker a.machine a.source a.builder) → IfOk r (GoesFrom read view maker s b)
-  started_if s b a (Ok c) h k = from_start s b a c h k
-  started_if s b a (Err c) h k = tt
+module _ {N S B : Type 0} (view : View N S) (maker : Maker N B) where
+  -- numbers are read as before
+  read_so : (b c : B) (es : List (Event N)) (P : (List ℕ → Option N) → Type 0) → maker.makes b es c → P (maker.reads c) → P (maker.reads b)
+  read_so b c es P makes h = subst P (maker.same b c es makes).0 h
 
-  pub refused_from : (s : S) (b : B) (a c : At S B) → GoesFrom read view maker s b a → Refuses read view maker a.machine a.source a.builder c → RefusesFrom read view maker s b c
-  refused_from s b a c (m, is, h) k = (m, is, refuses_after m s b a c h k)
+  abbrev Goes_from : Machine → S → B → At S B → Type 0
+  Goes_from m s b to = Goes (maker.reads b) view maker m s b to
 
-  pub refused_if : (s : S) (b : B) (a : At S B) (r : Result (At S B) (At S B)) → GoesFrom read view maker s b a → IfErr r (Refuses read view maker a.machine a.source a.builder) → IfErr r (RefusesFrom read view maker s b)
+  abbrev Refuses_from : Machine → S → B → At S B → Type 0
+  Refuses_from m s b to = Refuses (maker.reads b) view maker m s b to
+
+  pub goes_then : (m : Machine) (s : S) (b : B) (a c : At S B) → Goes_from m s b a → Goes_from a.machine a.source a.builder c → Goes_from m s b c
+  goes_then m s b a c h k = goes_on_to (maker.reads b) view maker m s b a c h
+      (read_so b a.builder h.events (λ read. Goes read view maker a.machine a.source a.builder c) h.makes k)
+
+  pub refuses_then : (m : Machine) (s : S) (b : B) (a c : At S B) → Goes_from m s b a → Refuses_from a.machine a.source a.builder c → Refuses_from m s b c
+  refuses_then m s b a c h k = refuses_after (maker.reads b) view maker m s b a c h
+      (read_so b a.builder h.events (λ read. Refuses read view maker a.machine a.source a.builder c) h.makes k)
+
+  pub from_start : (s : S) (b : B) (a c : At S B) → GoesFrom (maker.reads b) view maker s b a → Goes_from a.machine a.source a.builder c → GoesFrom (maker.reads b) view maker s b c
+  from_start s b a c (m, is, h) k = (m, is, goes_then m s b a c h k)
+
+  pub refused_from : (s : S) (b : B) (a c : At S B) → GoesFrom (maker.reads b) view maker s b a → Refuses_from a.machine a.source a.builder c → RefusesFrom (maker.reads b) view maker s b c
+  refused_from s b a c (m, is, h) k = (m, is, refuses_then m s b a c h k)
+
+  pub refused_if : (s : S) (b : B) (a : At S B) (r : Result (At S B) (At S B)) → GoesFrom (maker.reads b) view maker s b a → IfErr r (Refuses_from a.machine a.source a.builder) → IfErr r (RefusesFrom (maker.reads b) view maker s b)
   refused_if s b a (Ok c) h k = tt
   refused_if s b a (Err c) h k = refused_from s b a c h k
 
 -- A way that may be none, and another after it.
 
-module _ {N S B : Type 0} (read : List ℕ → Option N) (view : View S) (maker : Maker N B) where
+module _ {N S B : Type 0} (read : List ℕ → Option N) (view : View N S) (maker : Maker N B) where
   pub leads_none : (m : Machine) (s : S) (b : B) → Leads read view maker m s b m s b
   leads_none m s b = record {
     taken = [];
@@ -107,53 +124,58 @@ module _ {N S B : Type 0} (read : List ℕ → Option N) (view : View S) (maker 
     keeps = h.keeps;
   }
 
-  pub leads_goes : (m : Machine) (s : S) (b : B) (n : Machine) (t : S) (c : B) (to : At S B) → Leads read view maker m s b n t c → Goes read view maker n t c to → Goes read view maker m s b to
-  leads_goes m s b n t c to l h = record {
-    given = l.taken ++ h.given;
-    last = h.last;
-    events = l.events ++ h.events;
-    split = l.split ∙ ap (λ ps. l.taken ++ ps) h.split ∙ sym (append_assoc l.taken h.given (h.last ∷ view.remaining to.source));
-    place = h.place;
-    ran = ap (λ ps. run read (state_of m) (lexemes_of ps)) (append_assoc l.taken h.given (h.last ∷ []))
-        ∙ runs read view maker l.taken (h.given ++ (h.last ∷ [])) (state_of m) (state_of n) (state_of to.machine) l.events h.events l.ran h.ran;
-    makes = maker.more b c to.builder l.events h.events l.makes h.makes;
-    sound = h.sound;
-    keeps = λ j k. h.keeps j (l.keeps j k);
-  }
+module _ {N S B : Type 0} (view : View N S) (maker : Maker N B) where
+  pub leads_goes : (m : Machine) (s : S) (b : B) (n : Machine) (t : S) (c : B) (to : At S B) → Leads (maker.reads b) view maker m s b n t c → Goes_from view maker n t c to → Goes_from view maker m s b to
+  leads_goes m s b n t c to l g =
+      let h = read_so view maker b c l.events (λ read. Goes read view maker n t c to) l.makes g in
+      record {
+        given = l.taken ++ h.given;
+        last = h.last;
+        events = l.events ++ h.events;
+        split = l.split ∙ ap (λ ps. l.taken ++ ps) h.split ∙ sym (append_assoc l.taken h.given (h.last ∷ view.remaining to.source));
+        place = h.place;
+        ran = ap (λ ps. run (maker.reads b) (state_of m) (lexemes_of ps)) (append_assoc l.taken h.given (h.last ∷ []))
+            ∙ runs (maker.reads b) view maker l.taken (h.given ++ (h.last ∷ [])) (state_of m) (state_of n) (state_of to.machine) l.events h.events l.ran h.ran;
+        makes = maker.more b c to.builder l.events h.events l.makes h.makes;
+        sound = h.sound;
+        keeps = λ j k. h.keeps j (l.keeps j k);
+      }
 
-  pub leads_refuses : (m : Machine) (s : S) (b : B) (n : Machine) (t : S) (c : B) (to : At S B) → Leads read view maker m s b n t c → Refuses read view maker n t c to → Refuses read view maker m s b to
-  leads_refuses m s b n t c to l h = record {
-    taken = l.taken ++ h.taken;
-    events = l.events ++ h.events;
-    split = l.split ∙ ap (λ ps. l.taken ++ ps) h.split ∙ sym (append_assoc l.taken h.taken (view.remaining to.source));
-    behind = λ end k. subst (view.behind to.source) (sym (end_append end l.taken h.taken)) (h.behind (end_after end l.taken) (l.behind end k));
-    ran = runs read view maker l.taken h.taken (state_of m) (state_of n) (state_of to.machine) l.events h.events l.ran h.ran;
-    makes = maker.more b c to.builder l.events h.events l.makes h.makes;
-    is_open = h.is_open;
-    keeps = λ j k. h.keeps j (l.keeps j k);
-    stuck = λ j k. h.stuck j (l.keeps j k);
-  }
+  pub leads_refuses : (m : Machine) (s : S) (b : B) (n : Machine) (t : S) (c : B) (to : At S B) → Leads (maker.reads b) view maker m s b n t c → Refuses_from view maker n t c to → Refuses_from view maker m s b to
+  leads_refuses m s b n t c to l g =
+      let h = read_so view maker b c l.events (λ read. Refuses read view maker n t c to) l.makes g in
+      record {
+        taken = l.taken ++ h.taken;
+        events = l.events ++ h.events;
+        split = l.split ∙ ap (λ ps. l.taken ++ ps) h.split ∙ sym (append_assoc l.taken h.taken (view.remaining to.source));
+        behind = λ end k. subst (view.behind to.source) (sym (end_append end l.taken h.taken)) (h.behind (end_after end l.taken) (l.behind end k));
+        ran = runs (maker.reads b) view maker l.taken h.taken (state_of m) (state_of n) (state_of to.machine) l.events h.events l.ran h.ran;
+        makes = maker.more b c to.builder l.events h.events l.makes h.makes;
+        is_open = h.is_open;
+        keeps = λ j k. h.keeps j (l.keeps j k);
+        stuck = λ j k. h.stuck j (l.keeps j k);
+      }
 
-  pub leads_ok : (m : Machine) (s : S) (b : B) (n : Machine) (t : S) (c : B) (r : Result (At S B) (At S B)) → Leads read view maker m s b n t c → IfOk r (Goes read view maker n t c) → IfOk r (Goes read view maker m s b)
+  pub leads_ok : (m : Machine) (s : S) (b : B) (n : Machine) (t : S) (c : B) (r : Result (At S B) (At S B)) → Leads (maker.reads b) view maker m s b n t c → IfOk r (Goes_from view maker n t c) → IfOk r (Goes_from view maker m s b)
   leads_ok m s b n t c (Ok to) l h = leads_goes m s b n t c to l h
   leads_ok m s b n t c (Err to) l h = tt
 
-  pub leads_refused : (m : Machine) (s : S) (b : B) (n : Machine) (t : S) (c : B) (r : Result (At S B) (At S B)) → Leads read view maker m s b n t c → IfErr r (Refuses read view maker n t c) → IfErr r (Refuses read view maker m s b)
+  pub leads_refused : (m : Machine) (s : S) (b : B) (n : Machine) (t : S) (c : B) (r : Result (At S B) (At S B)) → Leads (maker.reads b) view maker m s b n t c → IfErr r (Refuses_from view maker n t c) → IfErr r (Refuses_from view maker m s b)
   leads_refused m s b n t c (Ok to) l h = tt
   leads_refused m s b n t c (Err to) l h = leads_refuses m s b n t c to l h
 
   -- A way goes on with another, or is refused there.
-  pub goes_if : (m : Machine) (s : S) (b : B) (a : At S B) (r : Result (At S B) (At S B)) → Goes read view maker m s b a → IfOk r (Goes read view maker a.machine a.source a.builder) → IfOk r (Goes read view maker m s b)
-  goes_if m s b a (Ok to) h k = goes_on_to read view maker m s b a to h k
+  pub goes_if : (m : Machine) (s : S) (b : B) (a : At S B) (r : Result (At S B) (At S B)) → Goes_from view maker m s b a → IfOk r (Goes_from view maker a.machine a.source a.builder) → IfOk r (Goes_from view maker m s b)
+  goes_if m s b a (Ok to) h k = goes_then view maker m s b a to h k
   goes_if m s b a (Err to) h k = tt
 
-  pub refuses_if : (m : Machine) (s : S) (b : B) (a : At S B) (r : Result (At S B) (At S B)) → Goes read view maker m s b a → IfErr r (Refuses read view maker a.machine a.source a.builder) → IfErr r (Refuses read view maker m s b)
+  pub refuses_if : (m : Machine) (s : S) (b : B) (a : At S B) (r : Result (At S B) (At S B)) → Goes_from view maker m s b a → IfErr r (Refuses_from view maker a.machine a.source a.builder) → IfErr r (Refuses_from view maker m s b)
   refuses_if m s b a (Ok to) h k = tt
-  refuses_if m s b a (Err to) h k = refuses_after read view maker m s b a to h k
+  refuses_if m s b a (Err to) h k = refuses_then view maker m s b a to h k
 
 -- What is refused where the source was only looked at is refused before.
 
-module _ {N S B : Type 0} (read : List ℕ → Option N) (view : View S) (maker : Maker N B) where
+module _ {N S B : Type 0} (read : List ℕ → Option N) (view : View N S) (maker : Maker N B) where
   pub stays_refused : (m : Machine) (s t : S) (b : B) (r : Result (At S B) (At S B)) → Stays view s t → IfErr r (Refuses read view maker m t b) → IfErr r (Refuses read view maker m s b)
   stays_refused m s t b (Ok to) stays h = tt
   stays_refused m s t b (Err to) stays h = from_refuses read view maker m s t b to stays h
@@ -165,14 +187,14 @@ known_machine m x p at_x in_p =
     let in_part : record { state = x; part = p; dim = m.dim; depth = m.depth } ≡ record { state = x; part = m.part; dim = m.dim; depth = m.depth } = ap (λ (p : Part). record { state = x; part = p; dim = m.dim; depth = m.depth }) (sym in_p) in
     in_part ∙ ap (λ (x : Next). standing m x) (sym at_x)
 
-module _ {N S B : Type 0} (read : List ℕ → Option N) (view : View S) (maker : Maker N B) where
-  pub looked_goes : (m n : Machine) (s t : S) (b : B) (a : At S B) (r : Result (At S B) (At S B)) → Goes read view maker m s b a → n ≡ a.machine → Stays view a.source t → IfOk r (Goes read view maker n t a.builder) → IfOk r (Goes read view maker m s b)
-  looked_goes m n s t b a (Ok to) h same stays k = goes_on_to read view maker m s b a to h (subst (λ x. Goes read view maker x a.source a.builder to) same (from_goes read view maker n a.source t a.builder to stays k))
+module _ {N S B : Type 0} (view : View N S) (maker : Maker N B) where
+  pub looked_goes : (m n : Machine) (s t : S) (b : B) (a : At S B) (r : Result (At S B) (At S B)) → Goes_from view maker m s b a → n ≡ a.machine → Stays view a.source t → IfOk r (Goes_from view maker n t a.builder) → IfOk r (Goes_from view maker m s b)
+  looked_goes m n s t b a (Ok to) h same stays k = goes_then view maker m s b a to h (subst (λ x. Goes_from view maker x a.source a.builder to) same (from_goes (maker.reads a.builder) view maker n a.source t a.builder to stays k))
   looked_goes m n s t b a (Err to) h same stays k = tt
 
-  pub looked_refuses : (m n : Machine) (s t : S) (b : B) (a : At S B) (r : Result (At S B) (At S B)) → Goes read view maker m s b a → n ≡ a.machine → Stays view a.source t → IfErr r (Refuses read view maker n t a.builder) → IfErr r (Refuses read view maker m s b)
+  pub looked_refuses : (m n : Machine) (s t : S) (b : B) (a : At S B) (r : Result (At S B) (At S B)) → Goes_from view maker m s b a → n ≡ a.machine → Stays view a.source t → IfErr r (Refuses_from view maker n t a.builder) → IfErr r (Refuses_from view maker m s b)
   looked_refuses m n s t b a (Ok to) h same stays k = tt
-  looked_refuses m n s t b a (Err to) h same stays k = refuses_after read view maker m s b a to h (subst (λ x. Refuses read view maker x a.source a.builder to) same (from_refuses read view maker n a.source t a.builder to stays k))
+  looked_refuses m n s t b a (Err to) h same stays k = refuses_then view maker m s b a to h (subst (λ x. Refuses_from view maker x a.source a.builder to) same (from_refuses (maker.reads a.builder) view maker n a.source t a.builder to stays k))
 
 -- Ways between the states of one part.
 
@@ -184,24 +206,24 @@ pub on_false : {P Q : Type 0} (b : Bool) → (P → Q) → OnFalse b P → OnFal
 on_false true f h = tt
 on_false false f h = f h
 
-module _ {N S B : Type 0} (read : List ℕ → Option N) (view : View S) (maker : Maker N B) (m : Machine) where
+module _ {N S B : Type 0} (view : View N S) (maker : Maker N B) (m : Machine) where
   abbrev pub Way : Next → S → B → Next → S → B → Type 0
-  Way p s b q t c = Goes read view maker (standing m p) s b (reached m q t c)
+  Way p s b q t c = Goes_from view maker (standing m p) s b (reached m q t c)
 
   abbrev pub Stop : Next → S → B → Next → S → B → Type 0
-  Stop p s b q t c = Refuses read view maker (standing m p) s b (reached m q t c)
+  Stop p s b q t c = Refuses_from view maker (standing m p) s b (reached m q t c)
 
   pub way_on : (p q r : Next) (s t u : S) (b c d : B) → Way p s b q t c → Way q t c r u d → Way p s b r u d
-  way_on p q r s t u b c d h k = goes_on_to read view maker (standing m p) s b (reached m q t c) (reached m r u d) h k
+  way_on p q r s t u b c d h k = goes_then view maker (standing m p) s b (reached m q t c) (reached m r u d) h k
 
   pub way_stops : (p q r : Next) (s t u : S) (b c d : B) → Way p s b q t c → Stop q t c r u d → Stop p s b r u d
-  way_stops p q r s t u b c d h k = refuses_after read view maker (standing m p) s b (reached m q t c) (reached m r u d) h k
+  way_stops p q r s t u b c d h k = refuses_then view maker (standing m p) s b (reached m q t c) (reached m r u d) h k
 
   same : (p : Next) → m.state ≡ p → standing m p ≡ m
   same p e = ap (λ (s : Next). standing m s) (sym e)
 
-  pub way_from : (p : Next) (s : S) (b : B) (to : At S B) → m.state ≡ p → Goes read view maker (standing m p) s b to → Goes read view maker m s b to
-  way_from p s b to e h = subst (λ x. Goes read view maker x s b to) (same p e) h
+  pub way_from : (p : Next) (s : S) (b : B) (to : At S B) → m.state ≡ p → Goes_from view maker (standing m p) s b to → Goes_from view maker m s b to
+  way_from p s b to e h = subst (λ x. Goes_from view maker x s b to) (same p e) h
 
-  pub stop_from : (p : Next) (s : S) (b : B) (to : At S B) → m.state ≡ p → Refuses read view maker (standing m p) s b to → Refuses read view maker m s b to
-  stop_from p s b to e h = subst (λ x. Refuses read view maker x s b to) (same p e) h
+  pub stop_from : (p : Next) (s : S) (b : B) (to : At S B) → m.state ≡ p → Refuses_from view maker (standing m p) s b to → Refuses_from view maker m s b to
+  stop_from p s b to e h = subst (λ x. Refuses_from view maker x s b to) (same p e) h

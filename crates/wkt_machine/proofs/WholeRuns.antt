@@ -309,7 +309,7 @@ many [] = refl
 many (p ∷ ps) = ap suc (many ps)
 
 -- There is as much room after a way as before.
-pub goes_room : {N S B : Type 0} (read : List ℕ → Option N) (view : View S) (maker : Maker N B) (m : Machine) (s : S) (b : B) (to : SourceAt S B) → Goes read view maker m s b to
+pub goes_room : {N S B : Type 0} (read : List ℕ → Option N) (view : View N S) (maker : Maker N B) (m : Machine) (s : S) (b : B) (to : SourceAt S B) → Goes read view maker m s b to
     → to.machine.depth + length (view.remaining to.source) ≤ m.depth + length (view.remaining s)
 goes_room read view maker m s b to h =
     let deep = deeper_by read (lexemes_of (h.given ++ (h.last ∷ []))) (state_of m) (state_of to.machine, h.events) h.ran in
@@ -318,6 +318,6 @@ goes_room read view maker m s b to h =
     omega (arith, deep, count, all, length-append h.given (h.last ∷ []), length-append h.given (h.last ∷ view.remaining to.source))
 
 -- Less is left after a way.
-pub goes_less : {N S B : Type 0} (read : List ℕ → Option N) (view : View S) (maker : Maker N B) (m : Machine) (s : S) (b : B) (to : SourceAt S B) → Goes read view maker m s b to
+pub goes_less : {N S B : Type 0} (read : List ℕ → Option N) (view : View N S) (maker : Maker N B) (m : Machine) (s : S) (b : B) (to : SourceAt S B) → Goes read view maker m s b to
     → suc (length (view.remaining to.source)) ≤ length (view.remaining s)
 goes_less read view maker m s b to h = omega (arith, ap length h.split, length-append h.given (h.last ∷ view.remaining to.source))

@@ -20,13 +20,13 @@ use Rattle.wkt_events.specs.Remaining.{remaining_spanned}
 -- How a machine goes over what a source gives.
 
 -- The source is where it was, but for what was looked at.
-pub record Stays {S : Type 0} (view : View S) (s t : S) : Type 0 where
+pub record Stays {N S : Type 0} (view : View N S) (s t : S) : Type 0 where
   pub remaining : view.remaining t ≡ view.remaining s
   pub behind : (end : ℕ) → view.behind s end → view.behind t end
   pub keeps : (k : view.Known) → view.keeps s k → view.keeps t k
 
 -- A lexeme is taken.
-pub record Skips {S : Type 0} (view : View S) (s t : S) : Type 0 where
+pub record Skips {N S : Type 0} (view : View N S) (s t : S) : Type 0 where
   pub lexeme : Spanned
   pub remaining : view.remaining s ≡ lexeme ∷ view.remaining t
   pub place : view.place t lexeme.end
@@ -41,7 +41,7 @@ IsStuck read m (p ∷ ps) = move read (state_of m) p.lexeme ≡ None
 abbrev pub IsUnread : {N : Type 0} → (List ℕ → Option N) → List Spanned → Type 0
 IsUnread read ps = (run : List ℕ) (end : ℕ) (more : List Spanned) → ps ≡ record { lexeme = lex.Num run; end = end } ∷ more → read run ≡ None
 
-module _ {N S B : Type 0} (read : List ℕ → Option N) (view : View S) (maker : Maker N B) where
+module _ {N S B : Type 0} (read : List ℕ → Option N) (view : View N S) (maker : Maker N B) where
   -- A number is taken, and made.
   pub record MakesOneNumber (s : S) (b : B) (axis : Axis) (t : S) (c : B) : Type 0 where
     pub run : List ℕ
@@ -109,7 +109,7 @@ standing m s = record { state = s; part = m.part; dim = m.dim; depth = m.depth }
 abbrev pub reached : {S B : Type 0} → Machine → Next → S → B → At S B
 reached m s source builder = record { source = source; machine = standing m s; builder = builder }
 
-pub record Leads {N S B : Type 0} (read : List ℕ → Option N) (view : View S) (maker : Maker N B) (m : Machine) (s : S) (b : B) (n : Machine) (t : S) (c : B) : Type 0 where
+pub record Leads {N S B : Type 0} (read : List ℕ → Option N) (view : View N S) (maker : Maker N B) (m : Machine) (s : S) (b : B) (n : Machine) (t : S) (c : B) : Type 0 where
   pub taken : List Spanned
   pub events : List (Event N)
   pub split : view.remaining s ≡ taken ++ view.remaining t

@@ -1,5 +1,6 @@
 -- What is known of what is made, also where nothing is kept.
-use Rattle.std.specs.Prelude.{ℕ, ◌≤◌, List, [], ◌∷◌, ◌++◌, Option}
+use Rattle.std.proofs.Common.{refl, ◌∙◌, ap}
+use Rattle.std.specs.Prelude.{◌≡◌, ℕ, ◌≤◌, List, [], ◌∷◌, ◌++◌, Option}
 use Rattle.wkt_events.specs.Remaining.{IsNumberAt}
 use Rattle.wkt_machine.specs.Events.{Event}
 use Rattle.wkt_machine.specs.declared.part.Axis.{Axis}
@@ -13,14 +14,18 @@ use Rattle.wkt_machine.specs.declared.part.Part.TheVariants as part
 pub record Maker (N S : Type 0) : Type 1 where
   -- The second was made from the first by these events.
   pub makes : S → List (Event N) → S → Type 0
+  -- What a number run is read as.
+  pub reads : S → List ℕ → Option N
   -- There is room for so much.
   pub fits : S → ℕ → Type 0
   -- How much a number takes that is given by value.
-  pub takes : N → ℕ
+  pub takes : S → N → ℕ
   -- No event makes nothing.
   pub none : (s : S) → makes s [] s
   -- Some events, and then others.
   pub more : (s t u : S) (es fs : List (Event N)) → makes s es t → makes t fs u → makes s (es ++ fs) u
+  -- Numbers are read as they were, and take what they took.
+  pub same : (s t : S) (es : List (Event N)) → makes s es t → (reads t ≡ reads s) × (takes t ≡ takes s)
   -- Where there is room for more there is for less.
   pub less : (s : S) (m n : ℕ) → m ≤ n → fits s n → fits s m
 
@@ -38,13 +43,15 @@ pub record MakesBareNumber {N S : Type 0} (read : List ℕ → Option N) (maker 
 
 -- What is made where nothing is kept.
 
--- Any events make nothing.
-abbrev pub nothing_maker : {N : Type 0} → Maker N Nothing
-nothing_maker = record {
-  makes = λ s es t. Unit {0};
+-- Any events make nothing. How numbers are read stays.
+abbrev pub nothing_maker : {P N : Type 0} → (P → List ℕ → Option N) → Maker N (Nothing P)
+nothing_maker read = record {
+  makes = λ s es t. t.numbers ≡ s.numbers;
+  reads = λ s. read s.numbers;
   fits = λ s n. Unit {0};
-  takes = λ x. 0;
-  none = λ s. tt;
-  more = λ s t u es fs h k. tt;
+  takes = λ s x. 0;
+  none = λ s. refl;
+  more = λ s t u es fs h k. k ∙ h;
+  same = λ s t es h. (ap read h, refl);
   less = λ s m n order h. tt;
 }

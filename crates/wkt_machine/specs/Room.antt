@@ -81,11 +81,12 @@ module _ {N B : Type 0} (maker : Maker N B) where
   abbrev pub LeavesBehindBare : B → List ℕ → ℕ → B → ℕ → Type 0
   LeavesBehindBare b text at c end = (m : ℕ) → m ≤ 2 * (length text - end) + 1 → maker.fits b (m + number_cost (without_plus (slice_range text at end)) + 1) → maker.fits c m
 
-module _ {N S B : Type 0} (view : View S) (maker : Maker N B) where
-  -- There is room for so much, and for the lexemes that are left. Numbers that are given by value take none.
+module _ {N S B : Type 0} (view : View N S) (maker : Maker N B) where
+  -- There is room for so much, and for the lexemes that are left. Numbers that are given by value take none, and are read as whatever is made reads them.
   pub record HasRoom (more : ℕ) (s : S) (b : B) : Type 0 where
     pub fits : maker.fits b (more + need (view.remaining s))
-    pub values : view.by_value → (x : N) → maker.takes x ≡ 0
+    pub values : view.by_value → (c : B) (x : N) → maker.takes c x ≡ 0
+    pub reads : view.by_value → (c : B) → maker.reads c ≡ view.number
 
   -- There is room at a place for the lexemes that are left.
   abbrev pub RoomAt : At S B → Type 0
@@ -94,7 +95,8 @@ module _ {N S B : Type 0} (view : View S) (maker : Maker N B) where
   -- The next lexeme is a number: there is room for it and for those behind it.
   pub record HasNumberRoom (s : S) (b : B) : Type 0 where
     pub fits : maker.fits b (need (view.remaining s) - 1)
-    pub values : view.by_value → (x : N) → maker.takes x ≡ 0
+    pub values : view.by_value → (c : B) (x : N) → maker.takes c x ≡ 0
+    pub reads : view.by_value → (c : B) → maker.reads c ≡ view.number
 
   -- The number was made. It may be the last before a parenthesis that isn't there.
   abbrev pub LeavesNumber : S → B → S → B → Type 0

@@ -1,6 +1,6 @@
 -- What a tree holds of what has grown, also where it is lent.
 use Rattle.std.proofs.Common.{refl, sym, subst, ap, ◌∙◌, inl, inr}
-use Rattle.std.specs.Prelude.{◌≡◌, ◌⊎◌, List, [], ◌∷◌, ◌++◌, map, Option, Some, None, option_map, Bool, true, false, ◌||◌}
+use Rattle.std.specs.Prelude.{ℕ, ◌≡◌, ◌⊎◌, List, [], ◌∷◌, ◌++◌, map, Option, Some, None, option_map, Bool, true, false, ◌||◌}
 use Rattle.std.specs.List.{AllByRecursion}
 use Rattle.std.specs.Borrow.{MutBor}
 use Rattle.wkt_access.specs.Values.{Value, Values}
@@ -180,12 +180,14 @@ module _ {T : Type 0} where
       first w one two (inl h) = second w (b.holds (grow_all es w) h two)
       first w one two (inr (l, e)) = inr (b.stays l, lists_append es fs ∙ or_left (lists_any es) (lists_any fs) e)
 
-abbrev pub tree_maker : {T : Type 0} → Maker T (Grower T)
-tree_maker = record {
+abbrev pub tree_maker : {T : Type 0} → (List ℕ → Option T) → Maker T (Grower T)
+tree_maker read = record {
   makes = λ g es h. Grew (tree_of g).now es (tree_of h).now;
+  reads = λ g. read;
   fits = λ s n. Unit {0};
-  takes = λ x. 0;
+  takes = λ g x. 0;
   none = λ g. grew_none (tree_of g).now;
   more = λ g h i es fs. grew_more (tree_of g).now (tree_of h).now (tree_of i).now es fs;
+  same = λ g h es k. (refl, refl);
   less = λ s m n order h. tt;
 }

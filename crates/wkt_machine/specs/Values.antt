@@ -46,7 +46,7 @@ AnswersReader {T} t (Ok w) = (t.is_lost ≡ false) × ((v : Value T) → HoldsWh
 AnswersReader t (Err (reader.Text m)) = ⊥
 AnswersReader t (Err (reader.Memory e)) = IsLost t
 
-module _ {N S : Type 0} (read : List ℕ → Option N) (view : View S) where
+module _ {N S : Type 0} (read : List ℕ → Option N) (view : View N S) where
   -- Lexemes are taken that stand for a value.
   pub record TakesValue (s : S) (v : Value N) (t : S) : Type 0 where
     pub given : List Spanned

@@ -47,7 +47,7 @@ sight (p ∷ ps) = seen_of p.lexeme
 
 -- What is known of a source of lexemes.
 
-pub record View (S : Type 0) : Type 1 where
+pub record View (N S : Type 0) : Type 1 where
   -- The lexemes that are left, each with its end.
   pub remaining : S → List Spanned
   -- The source stands right behind a lexeme that ends there, and nothing was looked at since.
@@ -61,6 +61,8 @@ pub record View (S : Type 0) : Type 1 where
   pub keeps : S → Known → Type 0
   -- Numbers are given by value, and not as bytes.
   pub by_value : Type 0
+  -- What a number run is read as then.
+  pub number : List ℕ → Option N
   -- The lexeme that comes next was looked at.
   pub looked : S → Type 0
 
@@ -96,7 +98,7 @@ pub between_none : (feed : Bool) (text : List ℕ) (at : ℕ) → IsBetween feed
 between_none feed text at = record { order = le_refl at; same = refl; white = λ k low high. absurd (omega (arith, low, high)) }
 
 -- It stays the same text. A number that is left is a text where the text's line is.
-abbrev pub bytes_view : {n : ℕ} → Bool → View (Bytes n)
+abbrev pub bytes_view : {N : Type 0} {n : ℕ} → Bool → View N (Bytes n)
 bytes_view feed = record {
   remaining = λ s. remaining_spanned feed s.text.now s.at;
   place = λ s end. s.at ≡ end;
@@ -105,6 +107,7 @@ bytes_view feed = record {
   Known = List ℕ;
   keeps = λ s text. (s.text.now ≡ text) × Legible feed s.text.now s.at;
   by_value = ⊥;
+  number = λ run. None;
   looked = λ s. IsLooked feed s.text.now s.at s.end;
 }
 
@@ -130,8 +133,8 @@ abbrev pub tokens_of : {T : Type 0} → OneByOne T → MutBor Standing
 tokens_of s = s.tokens
 
 -- No byte is passed that isn't a part of a lexeme that was taken, but for one.
-abbrev pub tokens_view : {T : Type 0} → View (OneByOne T)
-tokens_view = record {
+abbrev pub tokens_view : {T : Type 0} → (List ℕ → Option T) → View T (OneByOne T)
+tokens_view read = record {
   remaining = λ s. ahead.remaining s.tokens.now;
   place = λ s end. (ahead.end_of s.tokens.now ≡ end) × ahead.IsNear s.tokens.now;
   behind = λ s end. ahead.end_of s.tokens.now ≡ end;
@@ -139,5 +142,6 @@ tokens_view = record {
   Known = ℕ;
   keeps = λ s n. n ≤ ahead.taken_of s.tokens.now;
   by_value = Unit {0};
+  number = read;
   looked = λ s. Unit {0};
 }

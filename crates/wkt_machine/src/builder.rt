@@ -43,9 +43,9 @@ pub trait Builder<T: WktNum>: Sized + Drop {
 
     /// A number of a coordinate.
     fn number(self, number: T, axis: Axis) -> Self
-        requires room { maker.fits self (maker.takes number) }
+        requires room { maker.fits self (maker.takes self number) }
         ensures makes { maker.makes self (Event.Number axis number ∷ []) result }
-        ensures leaves { Leaves maker self (maker.takes number) result };
+        ensures leaves { Leaves maker self (maker.takes self number) result };
 
     /// The number of a coordinate that stands there in the bytes, and where its run ends; `None` where none is read.
     ///
@@ -53,8 +53,8 @@ pub trait Builder<T: WktNum>: Sized + Drop {
     fn number_in(self, text: &[u8], at: usize, axis: Axis) -> (Self, Option<usize>)
         requires inside { at ≤ length text.now }
         requires room { FitsNumber maker self text.now at }
-        ensures some { IfSome result.1 (λ end. MakesNumber T.read maker self text.now at axis result.0 end) }
-        ensures none { IfNone result.1 (NoNumber T.read text.now at) }
+        ensures some { IfSome result.1 (λ end. MakesNumber (maker.reads self) maker self text.now at axis result.0 end) }
+        ensures none { IfNone result.1 (NoNumber (maker.reads self) text.now at) }
         ensures leaves { IfSome result.1 (LeavesBehind maker self text.now at result.0) }
         ensures nothing { IfNone result.1 (maker.makes self [] result.0) };
 
@@ -62,8 +62,8 @@ pub trait Builder<T: WktNum>: Sized + Drop {
     fn bare_in(self, text: &[u8], at: usize) -> (Self, Option<usize>)
         requires inside { at ≤ length text.now }
         requires room { FitsBare maker self text.now at }
-        ensures some { IfSome result.1 (λ end. MakesBareNumber T.read maker self text.now at result.0 end) }
-        ensures none { IfNone result.1 (NoNumber T.read text.now at) }
+        ensures some { IfSome result.1 (λ end. MakesBareNumber (maker.reads self) maker self text.now at result.0 end) }
+        ensures none { IfNone result.1 (NoNumber (maker.reads self) text.now at) }
         ensures leaves { IfSome result.1 (LeavesBehindBare maker self text.now at result.0) }
         ensures nothing { IfNone result.1 (maker.makes self [] result.0) };
 }

@@ -91,6 +91,8 @@ impl<'a, T: WktNum, const FEED_ENDS: bool> Source<T> for Bytes<'a, FEED_ENDS> {
 
     ghost view = { bytes_view FEED_ENDS };
 
+    ghost by_type = { λ never. absurd never };
+
     #[inline(always)]
     fn look(self) -> (Seen, Self) {
         let text = self.text;

@@ -41,9 +41,9 @@ pub(crate) fn coordinates<'a, T: WktNum, B: Builder<T>, const FEED_ENDS: bool>(
     requires part { has_coordinates machine.part ≡ true }
     requires inside { source.at ≤ length source.text.now }
     requires room { HasRoom (bytes_view FEED_ENDS) B.maker 0 source builder }
-    ensures on { IfOk result (Goes T.read (bytes_view FEED_ENDS) B.maker machine source.entry builder) }
+    ensures on { IfOk result (Goes (B.maker.reads builder) (bytes_view FEED_ENDS) B.maker machine source.entry builder) }
     ensures room { IfOk result (RoomAt (bytes_view FEED_ENDS) B.maker) }
-    ensures refused { IfErr result (Refuses T.read (bytes_view FEED_ENDS) B.maker machine source.entry builder) }
+    ensures refused { IfErr result (Refuses (B.maker.reads builder) (bytes_view FEED_ENDS) B.maker machine source.entry builder) }
 {
     match machine.dim {
         Dimension::XY => flat_coordinates::<T, B, FEED_ENDS>(machine, source, builder),
@@ -63,9 +63,9 @@ fn flat_coordinates<'a, T: WktNum, B: Builder<T>, const FEED_ENDS: bool>(
     requires flat { machine.dim ≡ dim_of.XY }
     requires inside { source.at ≤ length source.text.now }
     requires room { HasRoom (bytes_view FEED_ENDS) B.maker 0 source builder }
-    ensures on { IfOk result (Goes T.read (bytes_view FEED_ENDS) B.maker machine source.entry builder) }
+    ensures on { IfOk result (Goes (B.maker.reads builder) (bytes_view FEED_ENDS) B.maker machine source.entry builder) }
     ensures room { IfOk result (RoomAt (bytes_view FEED_ENDS) B.maker) }
-    ensures refused { IfErr result (Refuses T.read (bytes_view FEED_ENDS) B.maker machine source.entry builder) }
+    ensures refused { IfErr result (Refuses (B.maker.reads builder) (bytes_view FEED_ENDS) B.maker machine source.entry builder) }
 {
     let single = is_single(machine.part);
     let (mut source, mut builder) = (source, builder);
@@ -107,9 +107,9 @@ fn deep_coordinates<'a, T: WktNum, B: Builder<T>, const FEED_ENDS: bool>(
     requires more { machine.dim ≢ dim_of.XY }
     requires inside { source.at ≤ length source.text.now }
     requires room { HasRoom (bytes_view FEED_ENDS) B.maker 0 source builder }
-    ensures on { IfOk result (Goes T.read (bytes_view FEED_ENDS) B.maker machine source.entry builder) }
+    ensures on { IfOk result (Goes (B.maker.reads builder) (bytes_view FEED_ENDS) B.maker machine source.entry builder) }
     ensures room { IfOk result (RoomAt (bytes_view FEED_ENDS) B.maker) }
-    ensures refused { IfErr result (Refuses T.read (bytes_view FEED_ENDS) B.maker machine source.entry builder) }
+    ensures refused { IfErr result (Refuses (B.maker.reads builder) (bytes_view FEED_ENDS) B.maker machine source.entry builder) }
 {
     deep_coordinates_outlined::<T, B, FEED_ENDS>(machine, source, builder)
 }
@@ -125,9 +125,9 @@ fn deep_coordinates_outlined<'a, T: WktNum, B: Builder<T>, const FEED_ENDS: bool
     requires more { machine.dim ≢ dim_of.XY }
     requires inside { source.at ≤ length source.text.now }
     requires room { HasRoom (bytes_view FEED_ENDS) B.maker 0 source builder }
-    ensures on { IfOk result (Goes T.read (bytes_view FEED_ENDS) B.maker machine source.entry builder) }
+    ensures on { IfOk result (Goes (B.maker.reads builder) (bytes_view FEED_ENDS) B.maker machine source.entry builder) }
     ensures room { IfOk result (RoomAt (bytes_view FEED_ENDS) B.maker) }
-    ensures refused { IfErr result (Refuses T.read (bytes_view FEED_ENDS) B.maker machine source.entry builder) }
+    ensures refused { IfErr result (Refuses (B.maker.reads builder) (bytes_view FEED_ENDS) B.maker machine source.entry builder) }
 {
     let single = is_single(machine.part);
     let (mut source, mut builder) = (source, builder);
@@ -169,10 +169,10 @@ fn flat_coordinate<'a, T: WktNum, B: Builder<T>, const FEED_ENDS: bool>(
     requires flat { machine.dim ≡ dim_of.XY }
     requires inside { source.at ≤ length source.text.now }
     requires room { HasRoom (bytes_view FEED_ENDS) B.maker 0 source builder }
-    ensures on { OnTrue result.0 (Goes T.read (bytes_view FEED_ENDS) B.maker machine source.entry builder (reached machine next.Item result.2 result.3)) }
+    ensures on { OnTrue result.0 (Goes (B.maker.reads builder) (bytes_view FEED_ENDS) B.maker machine source.entry builder (reached machine next.Item result.2 result.3)) }
     ensures inside { OnTrue result.0 (result.2.at ≤ length result.2.text.now) }
     ensures room { OnTrue result.0 (HasRoom (bytes_view FEED_ENDS) B.maker 0 result.2 result.3) }
-    ensures refused { OnFalse result.0 (Refuses T.read (bytes_view FEED_ENDS) B.maker machine source.entry builder (reached machine result.1 result.2 result.3)) }
+    ensures refused { OnFalse result.0 (Refuses (B.maker.reads builder) (bytes_view FEED_ENDS) B.maker machine source.entry builder (reached machine result.1 result.2 result.3)) }
 {
     let (has_x, source, made) = number::<T, B, FEED_ENDS>(Axis::X, machine, source, builder);
     if !has_x {
@@ -197,10 +197,10 @@ fn deep_coordinate<'a, T: WktNum, B: Builder<T>, const FEED_ENDS: bool>(
     requires more { machine.dim ≢ dim_of.XY }
     requires inside { source.at ≤ length source.text.now }
     requires room { HasRoom (bytes_view FEED_ENDS) B.maker 0 source builder }
-    ensures on { OnTrue result.0 (Goes T.read (bytes_view FEED_ENDS) B.maker machine source.entry builder (reached machine next.Item result.2 result.3)) }
+    ensures on { OnTrue result.0 (Goes (B.maker.reads builder) (bytes_view FEED_ENDS) B.maker machine source.entry builder (reached machine next.Item result.2 result.3)) }
     ensures inside { OnTrue result.0 (result.2.at ≤ length result.2.text.now) }
     ensures room { OnTrue result.0 (HasRoom (bytes_view FEED_ENDS) B.maker 0 result.2 result.3) }
-    ensures refused { OnFalse result.0 (Refuses T.read (bytes_view FEED_ENDS) B.maker machine source.entry builder (reached machine result.1 result.2 result.3)) }
+    ensures refused { OnFalse result.0 (Refuses (B.maker.reads builder) (bytes_view FEED_ENDS) B.maker machine source.entry builder (reached machine result.1 result.2 result.3)) }
 {
     let (has_x, source, made) = number::<T, B, FEED_ENDS>(Axis::X, machine, source, builder);
     if !has_x {
@@ -224,10 +224,10 @@ fn z_and_m<'a, T: WktNum, B: Builder<T>, const FEED_ENDS: bool>(
     requires more { machine.dim ≢ dim_of.XY }
     requires inside { source.at ≤ length source.text.now }
     requires room { HasRoom (bytes_view FEED_ENDS) B.maker 0 source builder }
-    ensures on { OnTrue result.0 (Goes T.read (bytes_view FEED_ENDS) B.maker (standing machine (next_after axis.Y machine.dim)) source.entry builder (reached machine next.Item result.2 result.3)) }
+    ensures on { OnTrue result.0 (Goes (B.maker.reads builder) (bytes_view FEED_ENDS) B.maker (standing machine (next_after axis.Y machine.dim)) source.entry builder (reached machine next.Item result.2 result.3)) }
     ensures inside { OnTrue result.0 (result.2.at ≤ length result.2.text.now) }
     ensures room { OnTrue result.0 (HasRoom (bytes_view FEED_ENDS) B.maker 0 result.2 result.3) }
-    ensures refused { OnFalse result.0 (Refuses T.read (bytes_view FEED_ENDS) B.maker (standing machine (next_after axis.Y machine.dim)) source.entry builder (reached machine result.1 result.2 result.3)) }
+    ensures refused { OnFalse result.0 (Refuses (B.maker.reads builder) (bytes_view FEED_ENDS) B.maker (standing machine (next_after axis.Y machine.dim)) source.entry builder (reached machine result.1 result.2 result.3)) }
 {
     match machine.dim {
         // Not asked for.
@@ -278,10 +278,10 @@ fn number<'a, T: WktNum, B: Builder<T>, const FEED_ENDS: bool>(
     requires part { has_coordinates machine.part ≡ true }
     requires inside { source.at ≤ length source.text.now }
     requires room { HasRoom (bytes_view FEED_ENDS) B.maker 0 source builder }
-    ensures on { OnTrue result.0 (Goes T.read (bytes_view FEED_ENDS) B.maker (standing machine (state_for axis)) source.entry builder (reached machine (next_after axis machine.dim) result.1 result.2)) }
+    ensures on { OnTrue result.0 (Goes (B.maker.reads builder) (bytes_view FEED_ENDS) B.maker (standing machine (state_for axis)) source.entry builder (reached machine (next_after axis machine.dim) result.1 result.2)) }
     ensures inside { OnTrue result.0 (result.1.at ≤ length result.1.text.now) }
     ensures room { OnTrue result.0 (HasRoom (bytes_view FEED_ENDS) B.maker 0 result.1 result.2) }
-    ensures refused { OnFalse result.0 (Refuses T.read (bytes_view FEED_ENDS) B.maker (standing machine (state_for axis)) source.entry builder (reached machine (state_for axis) result.1 result.2)) }
+    ensures refused { OnFalse result.0 (Refuses (B.maker.reads builder) (bytes_view FEED_ENDS) B.maker (standing machine (state_for axis)) source.entry builder (reached machine (state_for axis) result.1 result.2)) }
 {
     // No effect at run time. What is ensured names the machine.
     let _ = machine;

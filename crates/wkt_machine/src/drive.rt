@@ -23,9 +23,9 @@ fn further<T: WktNum, S: Walk<T>, B: Builder<T>>(
     requires open { is_over (state_of machine) ≡ false }
     requires depth { machine.depth + length (S.view.remaining source) ≤ usize.MAX }
     requires room { HasRoom S.view B.maker (owed (state_of machine)) source builder }
-    ensures on { IfOk result (Goes T.read S.view B.maker machine source builder) }
+    ensures on { IfOk result (Goes (B.maker.reads builder) S.view B.maker machine source builder) }
     ensures room { IfOk result (RoomAt S.view B.maker) }
-    ensures refused { IfErr result (Refuses T.read S.view B.maker machine source builder) }
+    ensures refused { IfErr result (Refuses (B.maker.reads builder) S.view B.maker machine source builder) }
 {
     match machine.state {
         State::Kind => source.header(machine, builder),
@@ -46,10 +46,10 @@ fn further<T: WktNum, S: Walk<T>, B: Builder<T>>(
 pub fn drive<T: WktNum, S: Walk<T>, B: Builder<T>>(source: S, builder: B) -> Walked<S, B>
     requires depth { length (S.view.remaining source) ≤ usize.MAX }
     requires room { HasRoom S.view B.maker 0 source builder }
-    ensures on { IfOk result (GoesFrom T.read S.view B.maker source builder) }
+    ensures on { IfOk result (GoesFrom (B.maker.reads builder) S.view B.maker source builder) }
     ensures over { IfOk result (λ to. is_over (state_of to.machine) ≡ true) }
     ensures room { IfOk result (RoomAt S.view B.maker) }
-    ensures refused { IfErr result (RefusesFrom T.read S.view B.maker source builder) }
+    ensures refused { IfErr result (RefusesFrom (B.maker.reads builder) S.view B.maker source builder) }
 {
     let At {
         source: begun,

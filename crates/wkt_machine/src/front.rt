@@ -8,7 +8,7 @@ use crate::bytes::Bytes;
 use crate::drive::drive;
 use crate::nothing::Nothing;
 use crate::tokens::OneByOne;
-use wkt_num::WktNum;
+use wkt_num::{OfType, WktNum};
 use wkt_read::{PeekableTokens, Tokens};
 
 /// Where the geometry at the front of the text ends, in bytes; `None` where the text has none there. What follows it
@@ -19,7 +19,11 @@ pub fn front_end<T: WktNum>(text: &str) -> Option<usize>
     ensures within { IfSome result (λ end. end ≤ length text.now) }
     ensures boundary { IfSome result (λ end. IsCharBoundary text.now end) }
 {
-    match drive::<T, Bytes<'_, false>, Nothing>(Bytes::new(text.as_bytes(), 0), Nothing) {
+    let source = Bytes::<'_, false>::new(text.as_bytes(), 0);
+    let nothing = Nothing {
+        numbers: OfType::<T>::new(),
+    };
+    match drive::<T, Bytes<'_, false>, Nothing<OfType<T>>>(source, nothing) {
         Ok(over) => Some(over.source.at),
         Err(_) => None,
     }
@@ -33,7 +37,11 @@ pub fn front_end_by_tokens<T: WktNum>(text: &str) -> Option<usize>
     ensures boundary { IfSome result (λ end. IsCharBoundary text.now end) }
 {
     let mut tokens = PeekableTokens::<T>::new(Tokens::<T>::from_str(text));
-    match drive::<T, OneByOne<'_, '_, T>, Nothing>(OneByOne::new(&mut tokens), Nothing) {
+    let source = OneByOne::<'_, '_, T>::new(&mut tokens);
+    let nothing = Nothing {
+        numbers: OfType::<T>::new(),
+    };
+    match drive::<T, OneByOne<'_, '_, T>, Nothing<OfType<T>>>(source, nothing) {
         Ok(over) => Some(over.source.into_tokens().end()),
         Err(_) => None,
     }

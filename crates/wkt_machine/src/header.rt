@@ -66,9 +66,9 @@ pub(crate) fn header<'a, T: WktNum, B: Builder<T>, const FEED_ENDS: bool, const 
     requires depth { machine.depth + length (remaining_spanned FEED_ENDS source.text.now source.at) ≤ usize.MAX }
     requires inside { source.at ≤ length source.text.now }
     requires room { HasRoom (bytes_view FEED_ENDS) B.maker 0 source builder }
-    ensures on { IfOk result (Goes T.read (bytes_view FEED_ENDS) B.maker machine source.entry builder) }
+    ensures on { IfOk result (Goes (B.maker.reads builder) (bytes_view FEED_ENDS) B.maker machine source.entry builder) }
     ensures room { IfOk result (RoomAt (bytes_view FEED_ENDS) B.maker) }
-    ensures refused { IfErr result (Refuses T.read (bytes_view FEED_ENDS) B.maker machine source.entry builder) }
+    ensures refused { IfErr result (Refuses (B.maker.reads builder) (bytes_view FEED_ENDS) B.maker machine source.entry builder) }
 {
     let text = source.text;
     let at = skip_white::<FEED_ENDS>(text, source.at);
@@ -219,7 +219,7 @@ pub(crate) fn behind<'a, T: WktNum, B: Builder<T>, const FEED_ENDS: bool>(
     requires line { Legible FEED_ENDS source.text.now source.at → Legible FEED_ENDS source.text.now at }
     requires head { StandsHeader FEED_ENDS source.text.now at head.part head.dim head.then head.end }
     requires room { HasRoom (bytes_view FEED_ENDS) B.maker 0 source builder }
-    ensures on { Goes T.read (bytes_view FEED_ENDS) B.maker machine source.entry builder result }
+    ensures on { Goes (B.maker.reads builder) (bytes_view FEED_ENDS) B.maker machine source.entry builder result }
     ensures stands { RoomAt (bytes_view FEED_ENDS) B.maker result }
     ensures text { result.source.text ≡ source.entry.text }
     ensures at { result.source.at ≡ head.end }

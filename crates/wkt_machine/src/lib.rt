@@ -34,7 +34,7 @@ pub use front::{front_end, front_end_by_tokens};
 pub use machine::{Machine, Seen, State};
 pub use message::message_at;
 pub use nothing::Nothing;
-pub use numbers::{pad, read_at};
+pub use numbers::{pad, read_at, read_by};
 pub use part::{Axis, Part};
 pub use points::{FastPoint, fast_point};
 pub use source::{At, Source, Walk, Walked};

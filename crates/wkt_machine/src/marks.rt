@@ -31,9 +31,9 @@ pub(crate) fn marks<T: WktNum, S: Source<T>, B: Builder<T>>(
     requires open { is_over (state_of machine) ≡ false }
     requires depth { machine.depth + length (S.view.remaining source) ≤ usize.MAX }
     requires room { HasRoom S.view B.maker (owed (state_of machine)) source builder }
-    ensures on { IfOk result (Goes T.read S.view B.maker machine source builder) }
+    ensures on { IfOk result (Goes (B.maker.reads builder) S.view B.maker machine source builder) }
     ensures room { IfOk result (RoomAt S.view B.maker) }
-    ensures refused { IfErr result (Refuses T.read S.view B.maker machine source builder) }
+    ensures refused { IfErr result (Refuses (B.maker.reads builder) S.view B.maker machine source builder) }
 {
     let (mut source, mut builder) = (source, builder);
     let (mut state, mut part, mut dim, mut depth) = (
@@ -118,9 +118,9 @@ fn mark<T: WktNum, S: Source<T>, B: Builder<T>>(
     requires seen { seen ≡ sight (S.view.remaining source) }
     requires depth { machine.depth + length (S.view.remaining source) ≤ usize.MAX }
     requires room { HasRoom S.view B.maker (owed (state_of machine)) source builder }
-    ensures on { IfOk result (Goes T.read S.view B.maker machine source builder) }
+    ensures on { IfOk result (Goes (B.maker.reads builder) S.view B.maker machine source builder) }
     ensures room { IfOk result (RoomAt S.view B.maker) }
-    ensures refused { IfErr result (Refuses T.read S.view B.maker machine source builder) }
+    ensures refused { IfErr result (Refuses (B.maker.reads builder) S.view B.maker machine source builder) }
 {
     match machine.state {
         State::Item => machine.at_item(seen, source, builder),
@@ -147,9 +147,9 @@ pub(crate) fn members<T: WktNum, S: Walk<T>, B: Builder<T>>(
     requires part { machine.part ≡ member.Member }
     requires depth { machine.depth + length (S.view.remaining source) ≤ usize.MAX }
     requires room { HasRoom S.view B.maker 0 source builder }
-    ensures on { IfOk result (Goes T.read S.view B.maker machine source builder) }
+    ensures on { IfOk result (Goes (B.maker.reads builder) S.view B.maker machine source builder) }
     ensures room { IfOk result (RoomAt S.view B.maker) }
-    ensures refused { IfErr result (Refuses T.read S.view B.maker machine source builder) }
+    ensures refused { IfErr result (Refuses (B.maker.reads builder) S.view B.maker machine source builder) }
 {
     members_outlined(machine, source, builder)
 }
@@ -164,9 +164,9 @@ fn members_outlined<T: WktNum, S: Walk<T>, B: Builder<T>>(
     requires part { machine.part ≡ member.Member }
     requires depth { machine.depth + length (S.view.remaining source) ≤ usize.MAX }
     requires room { HasRoom S.view B.maker 0 source builder }
-    ensures on { IfOk result (Goes T.read S.view B.maker machine source builder) }
+    ensures on { IfOk result (Goes (B.maker.reads builder) S.view B.maker machine source builder) }
     ensures room { IfOk result (RoomAt S.view B.maker) }
-    ensures refused { IfErr result (Refuses T.read S.view B.maker machine source builder) }
+    ensures refused { IfErr result (Refuses (B.maker.reads builder) S.view B.maker machine source builder) }
 {
     let (mut source, mut builder) = (source, builder);
     let (mut dim, mut depth) = (machine.dim, machine.depth);
@@ -220,9 +220,9 @@ fn member_and_mark<T: WktNum, S: Walk<T>, B: Builder<T>>(
     requires part { machine.part ≡ member.Member }
     requires depth { machine.depth + length (S.view.remaining source) ≤ usize.MAX }
     requires room { HasRoom S.view B.maker 0 source builder }
-    ensures on { IfOk result (Goes T.read S.view B.maker machine source builder) }
+    ensures on { IfOk result (Goes (B.maker.reads builder) S.view B.maker machine source builder) }
     ensures room { IfOk result (RoomAt S.view B.maker) }
-    ensures refused { IfErr result (Refuses T.read S.view B.maker machine source builder) }
+    ensures refused { IfErr result (Refuses (B.maker.reads builder) S.view B.maker machine source builder) }
 {
     let At {
         source: behind,
@@ -253,9 +253,9 @@ fn member<T: WktNum, S: Walk<T>, B: Builder<T>>(
     requires part { machine.part ≡ member.Member }
     requires depth { machine.depth + length (S.view.remaining source) ≤ usize.MAX }
     requires room { HasRoom S.view B.maker 0 source builder }
-    ensures on { IfOk result (Goes T.read S.view B.maker machine source builder) }
+    ensures on { IfOk result (Goes (B.maker.reads builder) S.view B.maker machine source builder) }
     ensures room { IfOk result (RoomAt S.view B.maker) }
-    ensures refused { IfErr result (Refuses T.read S.view B.maker machine source builder) }
+    ensures refused { IfErr result (Refuses (B.maker.reads builder) S.view B.maker machine source builder) }
 {
     let (seen, looked) = source.look();
     match seen {
@@ -288,9 +288,9 @@ fn bare<T: WktNum, S: Walk<T>, B: Builder<T>>(
     requires looked { S.view.looked source }
     requires seen { sees.Number ≡ sight (S.view.remaining source) }
     requires room { HasRoom S.view B.maker 0 source builder }
-    ensures on { IfOk result (Goes T.read S.view B.maker machine source builder) }
+    ensures on { IfOk result (Goes (B.maker.reads builder) S.view B.maker machine source builder) }
     ensures room { IfOk result (RoomAt S.view B.maker) }
-    ensures refused { IfErr result (Refuses T.read S.view B.maker machine source builder) }
+    ensures refused { IfErr result (Refuses (B.maker.reads builder) S.view B.maker machine source builder) }
 {
     let At {
         source: behind,

@@ -10,11 +10,11 @@ ghost use Rattle.wkt_machine.specs.Machines.{state_of};
 ghost use Rattle.wkt_read.specs.Table.{at_place, closing, closings, stays};
 
 use crate::machine::{Machine, State};
-use crate::numbers::read_at;
+use crate::numbers::read_by;
 use crate::part::Part;
 use wkt_access::Dimension;
 use wkt_events::{begins_number, byte_at, run_end, skip_white};
-use wkt_num::WktNum;
+use wkt_num::Numbers;
 use wkt_read::table::{at_bad, at_end, at_other, at_word};
 use wkt_read::{Expected, Message};
 
@@ -43,15 +43,15 @@ fn between<'a>(text: &'a [u8], from: usize, to: usize) -> &'a [u8]
 
 /// The lexeme that stands there, and where it ends, if it is no mark.
 #[inline(always)]
-fn run_given<'a, T: WktNum>(text: &'a [u8], at: usize) -> Option<(Given<'a>, usize)>
+fn run_given<'a, N: Numbers>(numbers: N, text: &'a [u8], at: usize) -> Option<(Given<'a>, usize)>
     requires inside { at ≤ length text.now }
     requires utf8 { IsUtf8 text.now }
     requires dark { IsDark false text.now at }
     requires unmarked { IsUnmarked false text.now at }
-    ensures { GivesNext T.read text.now at result }
+    ensures { GivesNext (N.read numbers) text.now at result }
 {
     if begins_number(byte_at(text, at)) {
-        return match read_at::<T>(text, at) {
+        return match read_by(numbers, text, at) {
             Some((_, end)) => Some((Given::Number, end)),
             None => Some((Given::Unread, run_end(text, at))),
         };
@@ -65,10 +65,10 @@ fn run_given<'a, T: WktNum>(text: &'a [u8], at: usize) -> Option<(Given<'a>, usi
 
 /// The lexeme that comes next, and where it ends; `None` at the text's end.
 #[inline(always)]
-fn next_given<'a, T: WktNum>(text: &'a [u8], from: usize) -> Option<(Given<'a>, usize)>
+fn next_given<'a, N: Numbers>(numbers: N, text: &'a [u8], from: usize) -> Option<(Given<'a>, usize)>
     requires inside { from ≤ length text.now }
     requires utf8 { IsUtf8 text.now }
-    ensures { GivesNext T.read text.now from result }
+    ensures { GivesNext (N.read numbers) text.now from result }
 {
     // Most texts that end too early end right here.
     if byte_at(text, from) == 0 {
@@ -85,12 +85,12 @@ fn next_given<'a, T: WktNum>(text: &'a [u8], from: usize) -> Option<(Given<'a>, 
     if byte == b',' {
         return Some((Given::Comma, at + 1));
     }
-    run_given::<T>(text, at)
+    run_given(numbers, text, at)
 }
 
 /// The message of the place alone.
-fn at_place<T: WktNum>(expected: Expected, given: Given<'_>) -> Message
-    ensures { (l : Lexeme) (r : List Lexeme) → ShowsLexeme T.read given.entry l → result ≡ at_place T.read expected (l ∷ r) }
+fn at_place<N: Numbers>(numbers: N, expected: Expected, given: Given<'_>) -> Message
+    ensures { (l : Lexeme) (r : List Lexeme) → ShowsLexeme (N.read numbers) given.entry l → result ≡ at_place (N.read numbers) expected (l ∷ r) }
 {
     match given {
         Given::Word(word) => at_word(expected, word),
@@ -101,8 +101,8 @@ fn at_place<T: WktNum>(expected: Expected, given: Given<'_>) -> Message
 
 /// Whether the lexeme isn't taken where it is refused.
 #[inline(always)]
-fn stays<T: WktNum>(expected: Expected, given: Given<'_>) -> bool
-    ensures { (l : Lexeme) → ShowsLexeme T.read given.entry l → result ≡ stays T.read expected l }
+fn stays<N: Numbers>(numbers: N, expected: Expected, given: Given<'_>) -> bool
+    ensures { (l : Lexeme) → ShowsLexeme (N.read numbers) given.entry l → result ≡ stays (N.read numbers) expected l }
 {
     match expected {
         Expected::More | Expected::Closing => true,
@@ -113,8 +113,8 @@ fn stays<T: WktNum>(expected: Expected, given: Given<'_>) -> bool
 
 /// The message behind the lexeme that stands where a parenthesis has to close.
 #[inline(always)]
-fn closing<T: WktNum>(message: Message, given: Given<'_>) -> Message
-    ensures { (l : Lexeme) (r : List Lexeme) → ShowsLexeme T.read given.entry l → closing T.read message (l ∷ r) ≡ (result, r) }
+fn closing<N: Numbers>(numbers: N, message: Message, given: Given<'_>) -> Message
+    ensures { (l : Lexeme) (r : List Lexeme) → ShowsLexeme (N.read numbers) given.entry l → closing (N.read numbers) message (l ∷ r) ≡ (result, r) }
 {
     match given {
         Given::Close => message,
@@ -137,11 +137,11 @@ pub(crate) fn takes_number(machine: Machine) -> bool
 
 /// The message of the place alone, and where the lexemes are left behind it.
 #[inline(always)]
-fn blame<T: WktNum>(machine: Machine, text: &[u8], at: usize) -> (Message, usize)
+fn blame<N: Numbers>(numbers: N, machine: Machine, text: &[u8], at: usize) -> (Message, usize)
     requires inside { at ≤ length text.now }
     requires utf8 { IsUtf8 text.now }
-    requires stuck { IsStuck T.read machine (remaining_spanned false text.now at) }
-    ensures message { (result.0, remaining false text.now result.1) ≡ blamed T.read (expected_at (state_of machine).place machine.depth) (remaining false text.now at) }
+    requires stuck { IsStuck (N.read numbers) machine (remaining_spanned false text.now at) }
+    ensures message { (result.0, remaining false text.now result.1) ≡ blamed (N.read numbers) (expected_at (state_of machine).place machine.depth) (remaining false text.now at) }
     ensures inside { result.1 ≤ length text.now }
 {
     if takes_number(machine) {
@@ -152,11 +152,11 @@ fn blame<T: WktNum>(machine: Machine, text: &[u8], at: usize) -> (Message, usize
         }
     }
     let expected = machine.expected();
-    match next_given::<T>(text, at) {
+    match next_given(numbers, text, at) {
         None => (at_end(expected), at),
         Some((given, end)) => {
-            let message = at_place::<T>(expected, given);
-            if stays::<T>(expected, given) {
+            let message = at_place(numbers, expected, given);
+            if stays(numbers, expected, given) {
                 return (message, at);
             }
             (message, end)
@@ -166,20 +166,26 @@ fn blame<T: WktNum>(machine: Machine, text: &[u8], at: usize) -> (Message, usize
 
 /// The message after so many parentheses had to close, and where the lexemes are left behind them.
 #[inline(always)]
-fn close<T: WktNum>(message: Message, parens: usize, text: &[u8], at: usize) -> (Message, usize)
+fn close<N: Numbers>(
+    numbers: N,
+    message: Message,
+    parens: usize,
+    text: &[u8],
+    at: usize,
+) -> (Message, usize)
     requires inside { at ≤ length text.now }
     requires utf8 { IsUtf8 text.now }
-    ensures message { (result.0, remaining false text.now result.1) ≡ closings T.read parens message (remaining false text.now at) }
+    ensures message { (result.0, remaining false text.now result.1) ≡ closings (N.read numbers) parens message (remaining false text.now at) }
     ensures inside { result.1 ≤ length text.now }
 {
     let mut reported = message;
     let mut open = parens;
     let mut from = at;
     'parens: while open > 0 {
-        match next_given::<T>(text, from) {
+        match next_given(numbers, text, from) {
             None => return (Message::Close, from),
             Some((given, end)) => {
-                reported = closing::<T>(reported, given);
+                reported = closing(numbers, reported, given);
                 from = end;
             }
         }
@@ -191,12 +197,13 @@ fn close<T: WktNum>(message: Message, parens: usize, text: &[u8], at: usize) -> 
 /// The message of a text that is refused, by the table of `docs/GRAMMAR.md`: the machine stops at this place, with the
 /// lexeme that comes next.
 #[inline(always)]
-pub fn message_at<T: WktNum>(machine: Machine, text: &str, at: usize) -> Message
+pub fn message_at<N: Numbers>(numbers: N, machine: Machine, text: &str, at: usize) -> Message
     requires inside { at ≤ length text.now }
-    requires stuck { IsStuck T.read machine (remaining_spanned false text.now at) }
-    ensures { result ≡ (refused T.read (state_of machine) (remaining false text.now at)).0 }
+    requires stuck { IsStuck (N.read numbers) machine (remaining_spanned false text.now at) }
+    ensures { result ≡ (refused (N.read numbers) (state_of machine) (remaining false text.now at)).0 }
 {
-    message_outlined::<T>(
+    message_outlined(
+        numbers,
         machine.state,
         machine.part,
         machine.dim,
@@ -208,7 +215,8 @@ pub fn message_at<T: WktNum>(machine: Machine, text: &str, at: usize) -> Message
 
 /// The same. The parts of the place come one by one, so that what fills it up isn't carried along.
 #[inline(never)]
-fn message_outlined<T: WktNum>(
+fn message_outlined<N: Numbers>(
+    numbers: N,
     state: State,
     part: Part,
     dim: Dimension,
@@ -217,8 +225,8 @@ fn message_outlined<T: WktNum>(
     at: usize,
 ) -> Message
     requires inside { at ≤ length text.now }
-    requires stuck { IsStuck T.read (record { state = state; part = part; dim = dim; depth = depth }) (remaining_spanned false text.now at) }
-    ensures { result ≡ (refused T.read (state_of (record { state = state; part = part; dim = dim; depth = depth })) (remaining false text.now at)).0 }
+    requires stuck { IsStuck (N.read numbers) (record { state = state; part = part; dim = dim; depth = depth }) (remaining_spanned false text.now at) }
+    ensures { result ≡ (refused (N.read numbers) (state_of (record { state = state; part = part; dim = dim; depth = depth })) (remaining false text.now at)).0 }
 {
     let machine = Machine {
         state,
@@ -227,7 +235,7 @@ fn message_outlined<T: WktNum>(
         depth,
     };
     let bytes = text.as_bytes();
-    let (blamed, behind) = blame::<T>(machine, bytes, at);
-    let (message, from) = close::<T>(blamed, machine.own(), bytes, behind);
-    close::<T>(message, depth, bytes, from).0
+    let (blamed, behind) = blame(numbers, machine, bytes, at);
+    let (message, from) = close(numbers, blamed, machine.own(), bytes, behind);
+    close(numbers, message, depth, bytes, from).0
 }

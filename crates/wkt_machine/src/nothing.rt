@@ -4,16 +4,19 @@ use crate::builder::Builder;
 use crate::numbers::end_at;
 use crate::part::{Axis, Part};
 use wkt_access::Dimension;
-use wkt_num::WktNum;
+use wkt_num::Numbers;
 
-/// Keeps nothing of what comes.
+/// Keeps nothing of what comes but how numbers are read.
 #[derive(Drop)]
-pub struct Nothing;
+pub struct Nothing<N> {
+    /// How numbers are read.
+    pub numbers: N,
+}
 
-impl<T: WktNum> Builder<T> for Nothing {
+impl<N: Numbers> Builder<N::Number> for Nothing<N> {
     ghost use Rattle.wkt_machine.specs.Makers.{nothing_maker};
 
-    ghost maker = { nothing_maker };
+    ghost maker = { nothing_maker N.read };
 
     #[inline(always)]
     fn begin(self, _whole: Part, _dim: Dimension) -> Self {
@@ -41,17 +44,19 @@ impl<T: WktNum> Builder<T> for Nothing {
     }
 
     #[inline(always)]
-    fn number(self, _number: T, _axis: Axis) -> Self {
+    fn number(self, _number: N::Number, _axis: Axis) -> Self {
         self
     }
 
     #[inline(always)]
     fn number_in(self, text: &[u8], at: usize, _axis: Axis) -> (Self, Option<usize>) {
-        (self, end_at::<T>(text, at))
+        let end = end_at(self.numbers, text, at);
+        (self, end)
     }
 
     #[inline(always)]
     fn bare_in(self, text: &[u8], at: usize) -> (Self, Option<usize>) {
-        (self, end_at::<T>(text, at))
+        let end = end_at(self.numbers, text, at);
+        (self, end)
     }
 }

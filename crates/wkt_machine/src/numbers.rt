@@ -3,7 +3,7 @@ ghost use Rattle.std.specs.Prelude.{◌≡◌, ◌<◌, ◌≤◌, ℕ, length, 
 ghost use Rattle.wkt_events.specs.Remaining.{IsNumberAt, EndsNumber, NoNumber};
 
 use wkt_events::{byte_at, is_of_run, number_there};
-use wkt_num::WktNum;
+use wkt_num::{Numbers, OfType, WktNum};
 
 /// How many bytes a window has.
 const NUMBER_WINDOW: usize = 32;
@@ -15,31 +15,41 @@ pub fn read_at<T: WktNum>(text: &[u8], at: usize) -> Option<(T, usize)>
     ensures some { IfSome result (λ p. IsNumberAt T.read text.now at p.1 p.0) }
     ensures none { IfNone result (NoNumber T.read text.now at) }
 {
+    read_by(OfType::<T>::new(), text, at)
+}
+
+/// The same, with numbers of any kind.
+#[inline(always)]
+pub fn read_by<N: Numbers>(numbers: N, text: &[u8], at: usize) -> Option<(N::Number, usize)>
+    requires { at ≤ length text.now }
+    ensures some { IfSome result (λ p. IsNumberAt (N.read numbers) text.now at p.1 p.0) }
+    ensures none { IfNone result (NoNumber (N.read numbers) text.now at) }
+{
     let rest = &text[at..];
     if rest.len() >= NUMBER_WINDOW {
-        if let Some((number, count)) = T::read_in_window(rest) {
+        if let Some((number, count)) = numbers.read_in_window(rest) {
             return Some((number, at + count));
         }
     }
-    slow_read(text, at)
+    slow_read(numbers, text, at)
 }
 
 /// The slow path, for a number that no window shows whole. What it returns comes through memory, whose place is cleared
 /// here.
 #[inline(always)]
-fn slow_read<T: WktNum>(text: &[u8], at: usize) -> Option<(T, usize)>
+fn slow_read<N: Numbers>(numbers: N, text: &[u8], at: usize) -> Option<(N::Number, usize)>
     requires { at ≤ length text.now }
-    ensures some { IfSome result (λ p. IsNumberAt T.read text.now at p.1 p.0) }
-    ensures none { IfNone result (NoNumber T.read text.now at) }
+    ensures some { IfSome result (λ p. IsNumberAt (N.read numbers) text.now at p.1 p.0) }
+    ensures none { IfNone result (NoNumber (N.read numbers) text.now at) }
 {
-    slow_read_outlined(text, at)
+    slow_read_outlined(numbers, text, at)
 }
 
 #[inline(never)]
-fn slow_read_outlined<T: WktNum>(text: &[u8], at: usize) -> Option<(T, usize)>
+fn slow_read_outlined<N: Numbers>(numbers: N, text: &[u8], at: usize) -> Option<(N::Number, usize)>
     requires { at ≤ length text.now }
-    ensures some { IfSome result (λ p. IsNumberAt T.read text.now at p.1 p.0) }
-    ensures none { IfNone result (NoNumber T.read text.now at) }
+    ensures some { IfSome result (λ p. IsNumberAt (N.read numbers) text.now at p.1 p.0) }
+    ensures none { IfNone result (NoNumber (N.read numbers) text.now at) }
 {
     // No number stands where a parenthesis closes, or the text ends.
     if !is_of_run(byte_at(text, at)) {
@@ -49,35 +59,35 @@ fn slow_read_outlined<T: WktNum>(text: &[u8], at: usize) -> Option<(T, usize)>
     if rest.len() < NUMBER_WINDOW {
         let mut window = [0; NUMBER_WINDOW];
         pad(&mut window, rest);
-        if let Some((number, count)) = T::read_in_window(&window) {
+        if let Some((number, count)) = numbers.read_in_window(&window) {
             return Some((number, at + count));
         }
     }
-    number_there(text, at)
+    number_there(numbers, text, at)
 }
 
 /// Where the number ends that stands there, whose value isn't asked for.
 #[inline(always)]
-pub(crate) fn end_at<T: WktNum>(text: &[u8], at: usize) -> Option<usize>
+pub(crate) fn end_at<N: Numbers>(numbers: N, text: &[u8], at: usize) -> Option<usize>
     requires { at ≤ length text.now }
-    ensures some { IfSome result (λ end. EndsNumber T.read text.now at end) }
-    ensures none { IfNone result (NoNumber T.read text.now at) }
+    ensures some { IfSome result (λ end. EndsNumber (N.read numbers) text.now at end) }
+    ensures none { IfNone result (NoNumber (N.read numbers) text.now at) }
 {
     let rest = &text[at..];
     if rest.len() >= NUMBER_WINDOW {
-        if let Some((end, _)) = T::canonical_prefix_simd(rest) {
+        if let Some((end, _)) = numbers.canonical_prefix_simd(rest) {
             return Some(at + end);
         }
     }
-    slow_end::<T>(text, at)
+    slow_end(numbers, text, at)
 }
 
 /// The slow path, for a number that no window shows as it is printed.
 #[inline(never)]
-fn slow_end<T: WktNum>(text: &[u8], at: usize) -> Option<usize>
+fn slow_end<N: Numbers>(numbers: N, text: &[u8], at: usize) -> Option<usize>
     requires { at ≤ length text.now }
-    ensures some { IfSome result (λ end. EndsNumber T.read text.now at end) }
-    ensures none { IfNone result (NoNumber T.read text.now at) }
+    ensures some { IfSome result (λ end. EndsNumber (N.read numbers) text.now at end) }
+    ensures none { IfNone result (NoNumber (N.read numbers) text.now at) }
 {
     // No number stands where a parenthesis closes, or the text ends.
     if !is_of_run(byte_at(text, at)) {
@@ -87,11 +97,11 @@ fn slow_end<T: WktNum>(text: &[u8], at: usize) -> Option<usize>
     if rest.len() < NUMBER_WINDOW {
         let mut window = [0; NUMBER_WINDOW];
         pad(&mut window, rest);
-        if let Some((end, _)) = T::canonical_prefix_simd(&window) {
+        if let Some((end, _)) = numbers.canonical_prefix_simd(&window) {
             return Some(at + end);
         }
     }
-    match number_there::<T>(text, at) {
+    match number_there(numbers, text, at) {
         Some((_, end)) => Some(end),
         None => None,
     }

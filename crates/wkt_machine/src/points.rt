@@ -23,12 +23,12 @@ pub struct FastPoint {
 /// numbers.
 /// `None` doesn't imply that they begin with no geometry.
 #[inline(always)]
-pub fn fast_point<const D: u32>(text: &[u8]) -> Option<FastPoint>
-    ensures { IfSome result (λ p. IsPointFront D text.now p.x p.y p.end) }
+pub fn fast_point(places: u32, text: &[u8]) -> Option<FastPoint>
+    ensures { IfSome result (λ p. IsPointFront places text.now p.x p.y p.end) }
 {
     let opened = plain::<5, false>(Part::Point, b"POINT", is_point(text), text, 0)?.end;
-    let (x, between) = fast_number::<D>(text, opened)?;
-    let (y, behind) = fast_number::<D>(text, between)?;
+    let (x, between) = fast_number(places, text, opened)?;
+    let (y, behind) = fast_number(places, text, between)?;
     let close = skip_white::<false>(text, behind);
     if byte_at(text, close) != b')' {
         return None;
@@ -43,13 +43,13 @@ pub fn fast_point<const D: u32>(text: &[u8]) -> Option<FastPoint>
 /// The number that comes next, and where it ends. `None` doesn't imply that none comes.
 #[inline(always)]
 #[tactic(auto, using(crate::proofs::ByteSteps::number_fast))]
-fn fast_number<const D: u32>(text: &[u8], at: usize) -> Option<(i64, usize)>
+fn fast_number(places: u32, text: &[u8], at: usize) -> Option<(i64, usize)>
     requires { at ≤ length text.now }
     ensures { IfSome result (λ r. (run : List ℕ) × TakesOne false text.now at (Num run) r.1
-        × (read_decimal 127 36 D run ≡ Some r.0) × IsSigned 63 r.0) }
+        × (read_decimal 127 36 places run ≡ Some r.0) × IsSigned 63 r.0) }
 {
     let start = skip_white::<false>(text, at);
-    match fast_units(D, &text[start..]) {
+    match fast_units(places, &text[start..]) {
         Some((units, count)) => Some((units, start + count)),
         None => None,
     }

@@ -26,7 +26,7 @@ pub type Walked<S, B> = Result<At<S, B>, At<S, B>>;
 /// A place in a text.
 pub trait Source<T: WktNum>: Sized + Drop {
     /// What is left.
-    ghost view: { View Self };
+    ghost view: { View T Self };
 
     /// The lexeme that comes next, which stays.
     fn look(self) -> (Seen, Self)
@@ -46,10 +46,10 @@ pub trait Source<T: WktNum>: Sized + Drop {
         requires looked { view.looked self }
         requires seen { sight (view.remaining self) ≡ seen.Number }
         requires room { HasNumberRoom view B.maker self builder }
-        ensures takes { IfOk result (λ r. MakesOneNumber T.read view B.maker self builder axis r.0 r.1) }
+        ensures takes { IfOk result (λ r. MakesOneNumber (B.maker.reads builder) view B.maker self builder axis r.0 r.1) }
         ensures leaves { IfOk result (λ r. LeavesNumber view B.maker self builder r.0 r.1) }
         ensures stays { IfErr result (λ r. Stays view self r.0) }
-        ensures unread { IfErr result (λ r. (k : view.Known) → view.keeps self k → IsUnread T.read (view.remaining self)) }
+        ensures unread { IfErr result (λ r. (k : view.Known) → view.keeps self k → IsUnread (B.maker.reads builder) (view.remaining self)) }
         ensures nothing { IfErr result (λ r. B.maker.makes builder [] r.1) };
 
     /// The same of the first number of a point without parentheses: the parenthesis is opened before it, if it is read.
@@ -57,11 +57,14 @@ pub trait Source<T: WktNum>: Sized + Drop {
         requires looked { view.looked self }
         requires seen { sight (view.remaining self) ≡ seen.Number }
         requires room { HasRoom view B.maker 0 self builder }
-        ensures takes { IfOk result (λ r. MakesBare T.read view B.maker self builder r.0 r.1) }
+        ensures takes { IfOk result (λ r. MakesBare (B.maker.reads builder) view B.maker self builder r.0 r.1) }
         ensures room { IfOk result (λ r. HasRoom view B.maker 0 r.0 r.1) }
         ensures stays { IfErr result (λ r. Stays view self r.0) }
-        ensures unread { IfErr result (λ r. (k : view.Known) → view.keeps self k → IsUnread T.read (view.remaining self)) }
+        ensures unread { IfErr result (λ r. (k : view.Known) → view.keeps self k → IsUnread (B.maker.reads builder) (view.remaining self)) }
         ensures nothing { IfErr result (λ r. B.maker.makes builder [] r.1) };
+
+    /// Numbers that are given by value are read as their type reads them.
+    ghost by_type: { view.by_value → view.number ≡ T.read };
 }
 
 /// A source that takes in one go what begins in it.
@@ -71,25 +74,25 @@ pub trait Walk<T: WktNum>: Source<T> {
         requires state { machine.state ≡ next.Kind }
         requires depth { machine.depth + length (Self.view.remaining self) ≤ usize.MAX }
         requires room { HasRoom Self.view B.maker 0 self builder }
-        ensures on { IfOk result (Goes T.read Self.view B.maker machine self builder) }
+        ensures on { IfOk result (Goes (B.maker.reads builder) Self.view B.maker machine self builder) }
         ensures room { IfOk result (RoomAt Self.view B.maker) }
-        ensures refused { IfErr result (Refuses T.read Self.view B.maker machine self builder) };
+        ensures refused { IfErr result (Refuses (B.maker.reads builder) Self.view B.maker machine self builder) };
 
     /// Before the first lexeme: the geometry begins here. Each of the two has one caller, and is built into it.
     fn first<B: Builder<T>>(self, machine: Machine, builder: B) -> Walked<Self, B>
         requires state { machine.state ≡ next.Kind }
         requires depth { machine.depth + length (Self.view.remaining self) ≤ usize.MAX }
         requires room { HasRoom Self.view B.maker 0 self builder }
-        ensures on { IfOk result (Goes T.read Self.view B.maker machine self builder) }
+        ensures on { IfOk result (Goes (B.maker.reads builder) Self.view B.maker machine self builder) }
         ensures room { IfOk result (RoomAt Self.view B.maker) }
-        ensures refused { IfErr result (Refuses T.read Self.view B.maker machine self builder) };
+        ensures refused { IfErr result (Refuses (B.maker.reads builder) Self.view B.maker machine self builder) };
 
     /// After one lexeme or more: a coordinate begins here.
     fn coordinates<B: Builder<T>>(self, machine: Machine, builder: B) -> Walked<Self, B>
         requires state { machine.state ≡ next.X }
         requires depth { machine.depth + length (Self.view.remaining self) ≤ usize.MAX }
         requires room { HasRoom Self.view B.maker 0 self builder }
-        ensures on { IfOk result (Goes T.read Self.view B.maker machine self builder) }
+        ensures on { IfOk result (Goes (B.maker.reads builder) Self.view B.maker machine self builder) }
         ensures room { IfOk result (RoomAt Self.view B.maker) }
-        ensures refused { IfErr result (Refuses T.read Self.view B.maker machine self builder) };
+        ensures refused { IfErr result (Refuses (B.maker.reads builder) Self.view B.maker machine self builder) };
 }

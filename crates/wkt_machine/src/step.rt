@@ -27,9 +27,9 @@ impl Machine {
         requires open { is_over (state_of self) ≡ false }
         requires depth { self.depth + length (S.view.remaining source) ≤ usize.MAX }
         requires room { HasRoom S.view B.maker (owed (state_of self)) source builder }
-        ensures on { IfOk result (Goes T.read S.view B.maker self source builder) }
+        ensures on { IfOk result (Goes (B.maker.reads builder) S.view B.maker self source builder) }
         ensures room { IfOk result (RoomAt S.view B.maker) }
-        ensures refused { IfErr result (Refuses T.read S.view B.maker self source builder) }
+        ensures refused { IfErr result (Refuses (B.maker.reads builder) S.view B.maker self source builder) }
     {
         self.step_outlined(source, builder)
     }
@@ -44,9 +44,9 @@ impl Machine {
         requires open { is_over (state_of self) ≡ false }
         requires depth { self.depth + length (S.view.remaining source) ≤ usize.MAX }
         requires room { HasRoom S.view B.maker (owed (state_of self)) source builder }
-        ensures on { IfOk result (Goes T.read S.view B.maker self source builder) }
+        ensures on { IfOk result (Goes (B.maker.reads builder) S.view B.maker self source builder) }
         ensures room { IfOk result (RoomAt S.view B.maker) }
-        ensures refused { IfErr result (Refuses T.read S.view B.maker self source builder) }
+        ensures refused { IfErr result (Refuses (B.maker.reads builder) S.view B.maker self source builder) }
     {
         let (seen, source) = source.look();
         match self.state {
@@ -74,9 +74,9 @@ impl Machine {
         requires looked { S.view.looked source }
         requires seen { seen ≡ sight (S.view.remaining source) }
         requires room { HasRoom S.view B.maker 0 source builder }
-        ensures on { IfOk result (Goes T.read S.view B.maker self source builder) }
+        ensures on { IfOk result (Goes (B.maker.reads builder) S.view B.maker self source builder) }
         ensures room { IfOk result (RoomAt S.view B.maker) }
-        ensures refused { IfErr result (Refuses T.read S.view B.maker self source builder) }
+        ensures refused { IfErr result (Refuses (B.maker.reads builder) S.view B.maker self source builder) }
     {
         match seen {
             Seen::Kind(kind, joined) => self.after_kind(kind, joined, source, builder),
@@ -97,9 +97,9 @@ impl Machine {
         requires looked { S.view.looked source }
         requires seen { sees.Kind kind joined ≡ sight (S.view.remaining source) }
         requires room { HasRoom S.view B.maker 0 source builder }
-        ensures on { IfOk result (Goes T.read S.view B.maker self source builder) }
+        ensures on { IfOk result (Goes (B.maker.reads builder) S.view B.maker self source builder) }
         ensures room { IfOk result (RoomAt S.view B.maker) }
-        ensures refused { IfErr result (Refuses T.read S.view B.maker self source builder) }
+        ensures refused { IfErr result (Refuses (B.maker.reads builder) S.view B.maker self source builder) }
     {
         let part = part_of(kind);
         match joined {
@@ -129,9 +129,9 @@ impl Machine {
         requires seen { seen ≡ sight (S.view.remaining source) }
         requires depth { self.depth + length (S.view.remaining source) ≤ usize.MAX }
         requires room { HasRoom S.view B.maker (header_cost self.part) source builder }
-        ensures on { IfOk result (Goes T.read S.view B.maker self source builder) }
+        ensures on { IfOk result (Goes (B.maker.reads builder) S.view B.maker self source builder) }
         ensures room { IfOk result (RoomAt S.view B.maker) }
-        ensures refused { IfErr result (Refuses T.read S.view B.maker self source builder) }
+        ensures refused { IfErr result (Refuses (B.maker.reads builder) S.view B.maker self source builder) }
     {
         let part = self.part;
         match seen {
@@ -167,9 +167,9 @@ impl Machine {
         requires seen { seen ≡ sight (S.view.remaining source) }
         requires depth { self.depth + length (S.view.remaining source) ≤ usize.MAX }
         requires room { HasRoom S.view B.maker 0 source builder }
-        ensures on { IfOk result (Goes T.read S.view B.maker self source builder) }
+        ensures on { IfOk result (Goes (B.maker.reads builder) S.view B.maker self source builder) }
         ensures room { IfOk result (RoomAt S.view B.maker) }
-        ensures refused { IfErr result (Refuses T.read S.view B.maker self source builder) }
+        ensures refused { IfErr result (Refuses (B.maker.reads builder) S.view B.maker self source builder) }
     {
         match seen {
             Seen::Open => self.at_open(source, builder),
@@ -191,9 +191,9 @@ impl Machine {
         requires seen { sees.Open ≡ sight (S.view.remaining source) }
         requires depth { self.depth + length (S.view.remaining source) ≤ usize.MAX }
         requires room { HasRoom S.view B.maker 0 source builder }
-        ensures on { IfOk result (Goes T.read S.view B.maker self source builder) }
+        ensures on { IfOk result (Goes (B.maker.reads builder) S.view B.maker self source builder) }
         ensures room { IfOk result (RoomAt S.view B.maker) }
-        ensures refused { IfErr result (Refuses T.read S.view B.maker self source builder) }
+        ensures refused { IfErr result (Refuses (B.maker.reads builder) S.view B.maker self source builder) }
     {
         on(source.skip(), self.inside(), builder.open(self.part))
     }
@@ -209,9 +209,9 @@ impl Machine {
         requires looked { S.view.looked source }
         requires seen { sees.Empty ≡ sight (S.view.remaining source) }
         requires room { HasRoom S.view B.maker 0 source builder }
-        ensures on { IfOk result (Goes T.read S.view B.maker self source builder) }
+        ensures on { IfOk result (Goes (B.maker.reads builder) S.view B.maker self source builder) }
         ensures room { IfOk result (RoomAt S.view B.maker) }
-        ensures refused { IfErr result (Refuses T.read S.view B.maker self source builder) }
+        ensures refused { IfErr result (Refuses (B.maker.reads builder) S.view B.maker self source builder) }
     {
         on(source.skip(), self.outside(), builder.empty(self.part))
     }
@@ -227,9 +227,9 @@ impl Machine {
         requires looked { S.view.looked source }
         requires seen { sees.Number ≡ sight (S.view.remaining source) }
         requires room { HasRoom S.view B.maker 0 source builder }
-        ensures on { IfOk result (Goes T.read S.view B.maker self source builder) }
+        ensures on { IfOk result (Goes (B.maker.reads builder) S.view B.maker self source builder) }
         ensures room { IfOk result (RoomAt S.view B.maker) }
-        ensures refused { IfErr result (Refuses T.read S.view B.maker self source builder) }
+        ensures refused { IfErr result (Refuses (B.maker.reads builder) S.view B.maker self source builder) }
     {
         match self.part {
             Part::Member => self.bare(source, builder),
@@ -249,10 +249,10 @@ impl Machine {
         requires looked { S.view.looked source }
         requires seen { sees.Number ≡ sight (S.view.remaining source) }
         requires room { HasRoom S.view B.maker 0 source builder }
-        ensures on { IfOk result (Goes T.read S.view B.maker self source builder) }
+        ensures on { IfOk result (Goes (B.maker.reads builder) S.view B.maker self source builder) }
         ensures machine { IfOk result (λ to. to.machine ≡ record { state = next.Y; part = member.Bare; dim = self.dim; depth = self.depth }) }
         ensures room { IfOk result (RoomAt S.view B.maker) }
-        ensures refused { IfErr result (Refuses T.read S.view B.maker self source builder) }
+        ensures refused { IfErr result (Refuses (B.maker.reads builder) S.view B.maker self source builder) }
     {
         match source.bare(builder) {
             Ok((behind, made)) => on(behind, self.begun(State::Y, Part::Bare, self.dim), made),
@@ -274,9 +274,9 @@ impl Machine {
         requires looked { S.view.looked source }
         requires seen { seen ≡ sight (S.view.remaining source) }
         requires room { HasRoom S.view B.maker 0 source builder }
-        ensures on { IfOk result (Goes T.read S.view B.maker self source builder) }
+        ensures on { IfOk result (Goes (B.maker.reads builder) S.view B.maker self source builder) }
         ensures room { IfOk result (RoomAt S.view B.maker) }
-        ensures refused { IfErr result (Refuses T.read S.view B.maker self source builder) }
+        ensures refused { IfErr result (Refuses (B.maker.reads builder) S.view B.maker self source builder) }
     {
         match seen {
             Seen::Number => self.number(axis, source, builder),
@@ -297,9 +297,9 @@ impl Machine {
         requires looked { S.view.looked source }
         requires seen { sees.Number ≡ sight (S.view.remaining source) }
         requires room { HasRoom S.view B.maker 0 source builder }
-        ensures on { IfOk result (Goes T.read S.view B.maker self source builder) }
+        ensures on { IfOk result (Goes (B.maker.reads builder) S.view B.maker self source builder) }
         ensures room { IfOk result (RoomAt S.view B.maker) }
-        ensures refused { IfErr result (Refuses T.read S.view B.maker self source builder) }
+        ensures refused { IfErr result (Refuses (B.maker.reads builder) S.view B.maker self source builder) }
     {
         let state = after(axis, self.dim);
         match source.number(builder, axis) {
@@ -341,9 +341,9 @@ impl Machine {
         requires seen { seen ≡ sight (S.view.remaining source) }
         requires depth { self.depth + length (S.view.remaining source) ≤ usize.MAX }
         requires room { HasRoom S.view B.maker 0 source builder }
-        ensures on { IfOk result (Goes T.read S.view B.maker self source builder) }
+        ensures on { IfOk result (Goes (B.maker.reads builder) S.view B.maker self source builder) }
         ensures room { IfOk result (RoomAt S.view B.maker) }
-        ensures refused { IfErr result (Refuses T.read S.view B.maker self source builder) }
+        ensures refused { IfErr result (Refuses (B.maker.reads builder) S.view B.maker self source builder) }
     {
         if is_close(seen) {
             on(source.skip(), self.outside(), builder.close(self.part))
@@ -362,9 +362,9 @@ impl Machine {
         requires seen { sees.Comma ≡ sight (S.view.remaining source) }
         requires depth { self.depth + length (S.view.remaining source) ≤ usize.MAX }
         requires room { HasRoom S.view B.maker 0 source builder }
-        ensures on { IfOk result (Goes T.read S.view B.maker self source builder) }
+        ensures on { IfOk result (Goes (B.maker.reads builder) S.view B.maker self source builder) }
         ensures room { IfOk result (RoomAt S.view B.maker) }
-        ensures refused { IfErr result (Refuses T.read S.view B.maker self source builder) }
+        ensures refused { IfErr result (Refuses (B.maker.reads builder) S.view B.maker self source builder) }
     {
         if is_single(self.part) {
             refused(source, self, builder)
@@ -386,9 +386,9 @@ impl Machine {
         requires seen { seen ≡ sight (S.view.remaining source) }
         requires inner { 0 < self.depth }
         requires room { HasRoom S.view B.maker 0 source builder }
-        ensures on { IfOk result (Goes T.read S.view B.maker self source builder) }
+        ensures on { IfOk result (Goes (B.maker.reads builder) S.view B.maker self source builder) }
         ensures room { IfOk result (RoomAt S.view B.maker) }
-        ensures refused { IfErr result (Refuses T.read S.view B.maker self source builder) }
+        ensures refused { IfErr result (Refuses (B.maker.reads builder) S.view B.maker self source builder) }
     {
         if is_close(seen) {
             on(

@@ -14,7 +14,7 @@ use crate::drive::drive;
 use crate::message::message_at;
 use crate::tree::{Grower, Tree};
 use std::alloc::{AllocError, Global};
-use wkt_num::WktNum;
+use wkt_num::{OfType, WktNum};
 use wkt_read::{Message, ReadError};
 use wkt_types::{Coord, Point, Wkt};
 
@@ -80,7 +80,7 @@ fn front_of<T: WktNum>(alloc: Global, text: &str) -> Result<(Wkt<T>, usize), Rea
             }
         }
         Err(stop) => {
-            let said = message_at::<T>(stop.machine, text, stop.source.at);
+            let said = message_at(OfType::<T>::new(), stop.machine, text, stop.source.at);
             Err(ReadError::Text(said.text()))
         }
     }

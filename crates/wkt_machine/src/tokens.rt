@@ -1,5 +1,5 @@
 //! Tokens as a source.
-ghost use Rattle.std.specs.Prelude.{◌≡◌};
+ghost use Rattle.std.specs.Prelude.{◌≡◌, refl};
 ghost use Rattle.wkt_read.specs.Grammar.{kind_word};
 ghost use Rattle.wkt_read.specs.Peeks.{found};
 ghost use Rattle.wkt_machine.specs.View.{seen_word, seen_found, tokens_of};
@@ -69,7 +69,9 @@ fn seen(lexeme: Lexeme<'_>) -> Seen
 impl<'t, 'a, T: WktNum> Source<T> for OneByOne<'t, 'a, T> {
     ghost use Rattle.wkt_machine.specs.View.{tokens_view};
 
-    ghost view = { tokens_view };
+    ghost view = { tokens_view T.read };
+
+    ghost by_type = { λ by. refl };
 
     #[inline(always)]
     fn look(self) -> (Seen, Self) {

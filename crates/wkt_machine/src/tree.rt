@@ -374,7 +374,7 @@ impl<'a, T: WktNum> Grower<'a, T> {
 impl<T: WktNum> Builder<T> for Grower<'_, T> {
     ghost use Rattle.wkt_machine.specs.Trees.{tree_maker};
 
-    ghost maker = { tree_maker };
+    ghost maker = { tree_maker T.read };
 
     #[inline(always)]
     #[tactic(auto, using(crate::proofs::TreeHolds::header_grew))]

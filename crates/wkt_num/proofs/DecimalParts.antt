@@ -81,7 +81,7 @@ text-run false ws rest h run = number_first ws rest h run
 
 -- ---- the whole part
 
-module _ (D : ℕ) (bs : List ℕ) (first point : ℕ) (few : D ≤ 18) (sign : take first bs ≡ sign_text (first == 1)) (whole : IsWholePart bs first point) where
+module _ (D : ℕ) (bs : List ℕ) (first point : ℕ) (sign : take first bs ≡ sign_text (first == 1)) (whole : IsWholePart D bs first point) where
   abbrev ws : List ℕ
   ws = slice_range bs first point
 
@@ -109,8 +109,10 @@ module _ (D : ℕ) (bs : List ℕ) (first point : ℕ) (few : D ≤ 18) (sign : 
   -- the units fit
   fits : (g : ℕ) → g < 10 ^ D → w * 10 ^ D + g < 2 ^ 127
   fits g less =
-      let one : (w + 1) * 10 ^ D ≤ 10 ^ 20 * 10 ^ 18 = mul-le-mul {n₁ = w + 1} {m₁ = 10 ^ D} {n₂ = 10 ^ 20} {m₂ = 10 ^ 18} (omega (arith, small)) (pow-le-pow_right {n = 10} (omega arith) {i = D} {j = 18} few) in
-      omega (arith, one, less)
+      let below : w < 10 ^ length ws = digits_value-lt 10 ws whole.digits in
+      let one : (w + 1) * 10 ^ D ≤ 10 ^ length ws * 10 ^ D = mul-le-mul_right {m = w + 1} {n = 10 ^ length ws} (10 ^ D) (omega (arith, below)) in
+      let two : 10 ^ (length ws + D) ≤ 10 ^ 38 = pow-le-pow_right {n = 10} (omega arith) {i = length ws + D} {j = 38} (omega (arith, long, whole.some, whole.fits)) in
+      omega (arith, one, pow-add 10 (length ws) D, two, less)
 
   -- the number is not 0
   whole-some : (first ≡ 1 → get_or bs first 0 ≡ 48 → ⊥) → (g : ℕ) → negative ≡ true → 0 < w * 10 ^ D + g
@@ -123,7 +125,7 @@ module _ (D : ℕ) (bs : List ℕ) (first point : ℕ) (few : D ≤ 18) (sign : 
       → AllRun rest → read_magnitude (2 ^ 127) D (ws ++ rest) ≡ Some (w * 10 ^ D + g) → (negative ≡ true → 0 < w * 10 ^ D + g) → (end < length bs → class_of (get_or bs end 0) ≡ Run → ⊥)
       → KeepsText (read_decimal 127 36 D) (decimal_text D) bs end kept
   keeps end kept g rest less within shorter text shows run reads some stops =
-      let s : Shown D (sign_text negative ++ (ws ++ rest)) (magnitude_text D negative (w * 10 ^ D + g)) = signed D (w * 10 ^ D + g) negative (ws ++ rest) (omega (arith, few)) (fits g less) some (first_of ws rest numeral) reads in
+      let s : Shown D (sign_text negative ++ (ws ++ rest)) (magnitude_text D negative (w * 10 ^ D + g)) = signed D (w * 10 ^ D + g) negative (ws ++ rest) whole.places (fits g less) some (first_of ws rest numeral) reads in
       record {
         number = s.number;
         within = within;
@@ -238,11 +240,11 @@ module _ (D : ℕ) (bs : List ℕ) (first point : ℕ) (few : D ≤ 18) (sign : 
         }
 
 -- digits around a point of which no zero stands first or last
-pub keeps-plain : (D : ℕ) (bs : List ℕ) (first point end : ℕ) → D ≤ 18 → take first bs ≡ sign_text (first == 1) → first ≤ point → AllDigits 10 (slice_range bs first point)
+pub keeps-plain : (D : ℕ) (bs : List ℕ) (first point end : ℕ) → take first bs ≡ sign_text (first == 1) → first ≤ point → AllDigits 10 (slice_range bs first point)
     → point < end → end ≤ length bs → get_or bs point 0 ≡ 46 → AllDigits 10 (slice_range bs (point + 1) end) → (end < length bs → class_of (get_or bs end 0) ≡ Run → ⊥) → IsPlainDecimal D bs first end
     → KeepsText (read_decimal 127 36 D) (decimal_text D) bs end end
-keeps-plain D bs first point end few sign order whole after within is digits stops plain =
-    keeps-all D bs first point few sign part end after within is stops digits plain.last (omega (arith, plain.short, some))
+keeps-plain D bs first point end sign order whole after within is digits stops plain =
+    keeps-all D bs first point sign part end after within is stops digits plain.last (omega (arith, plain.short, some))
   where
     some : first < point
     some = elim (cases_eq first point) [
@@ -250,10 +252,19 @@ keeps-plain D bs first point end few sign order whole after within is digits sto
       | inr ne ↦ omega (arith, order, ne)
     ]
 
-    part : IsWholePart bs first point
+    -- the last digit stands behind the point
+    past : point + 1 < end
+    past = elim (cases_eq end (point + 1)) [
+      | inl e ↦ absurd (omega (arith, plain.last, is, ap (λ (n : ℕ). get_or bs n 0) {x = end - 1} {y = point} (omega (arith, e))))
+      | inr ne ↦ omega (arith, after, ne)
+    ]
+
+    part : IsWholePart D bs first point
     part = record {
       some = some;
-      few = omega (arith, plain.short, after, few);
+      places = plain.places;
+      few = omega (arith, plain.short, plain.fits, after);
+      fits = omega (arith, plain.fits, past);
       within = omega (arith, after, within);
       digits = whole;
       plain = λ e. absurd (omega (arith, plain.starts, e));

@@ -28,10 +28,12 @@ module _ (D n : ℕ) (negative : Bool) (bs : List ℕ) (few : D ≤ 18) (small :
   wide : n < 10 ^ 64
   wide = omega (arith, small)
 
-  whole-part : (tail : List ℕ) (s : StandsFirst (sign_text negative ++ (decimal n ++ tail)) bs) → IsWholePart bs (length (sign_text negative)) (length (sign_text negative) + length (decimal n))
+  whole-part : (tail : List ℕ) (s : StandsFirst (sign_text negative ++ (decimal n ++ tail)) bs) → IsWholePart D bs (length (sign_text negative)) (length (sign_text negative) + length (decimal n))
   whole-part tail s = record {
     some = is-some n 20 negative tail bs small (omega arith) wide s;
+    places = omega (arith, few);
     few = is-few n 20 negative tail bs small (omega arith) wide s;
+    fits = omega (arith, few, is-few n 20 negative tail bs small (omega arith) wide s);
     within = omega (arith, within n 20 negative tail bs small (omega arith) wide s, end-is n 20 negative tail bs small (omega arith) wide s);
     digits = digits n 20 negative tail bs small (omega arith) wide s;
     plain = λ z. (zero-alone n 20 negative tail bs small (omega arith) wide s z).1;
@@ -39,7 +41,6 @@ module _ (D n : ℕ) (negative : Bool) (bs : List ℕ) (few : D ≤ 18) (small :
 
   whole-only : (negative ≡ true → 0 < n) → StandsFirst (sign_text negative ++ (decimal n ++ [])) bs → IsDecimalText D bs (length (sign_text negative ++ (decimal n ++ [])))
   whole-only other s = record {
-    few = few;
     first = length (sign_text negative);
     point = length (sign_text negative) + length (decimal n);
     minus = minus n 20 negative [] bs small (omega arith) wide s;
@@ -107,7 +108,6 @@ module _ (D n : ℕ) (negative : Bool) (bs : List ℕ) (few : D ≤ 18) (small :
 
     with-fraction : IsDecimalText D bs e
     with-fraction = record {
-      few = few;
       first = length (sign_text negative);
       point = p;
       minus = minus n 20 negative (46 ∷ fs) bs small (omega arith) wide s;
@@ -154,8 +154,8 @@ module _ (D : ℕ) (bs : List ℕ) (end first : ℕ) (t : IsDecimalText D bs end
   first-is : t.first ≡ first
   first-is = sym (one-first bs first t.first minus sign none t.minus t.sign (digit-in bs t.first t.point t.first t.whole.digits t.whole.within (omega arith) t.whole.some))
 
-  pub whole-is : IsWholePart bs first t.point
-  whole-is = subst (λ (k : ℕ). IsWholePart bs k t.point) first-is t.whole
+  pub whole-is : IsWholePart D bs first t.point
+  whole-is = subst (λ (k : ℕ). IsWholePart D bs k t.point) first-is t.whole
 
   -- the byte behind the whole part
   point-stops : t.point < length bs → is_ascii_digit (get_or bs t.point 0) ≡ false
@@ -204,7 +204,7 @@ module _ (D : ℕ) (bs : List ℕ) (end first : ℕ) (t : IsDecimalText D bs end
   -- what is known where the digits after the sign end at a place
   pub record Met (at : ℕ) : Type 0 where
     pub same : at ≡ t.point
-    pub whole : IsWholePart bs first at
+    pub whole : IsWholePart D bs first at
     pub alone : (at < length bs → get_or bs at 0 ≡ 46 → ⊥) → (at ≡ end) × (first ≡ 1 → get_or bs first 0 ≢ 48)
 
   pub met : (at : ℕ) → first ≤ at → at ≤ length bs → AllDigits 10 (slice_range bs first at) → (at < length bs → is_ascii_digit (get_or bs at 0) ≡ false) → Met at
@@ -212,7 +212,7 @@ module _ (D : ℕ) (bs : List ℕ) (end first : ℕ) (t : IsDecimalText D bs end
       let same : at ≡ t.point = point-is at low high digits stops in
       record {
         same = same;
-        whole = subst (IsWholePart bs first) (sym same) whole-is;
+        whole = subst (IsWholePart D bs first) (sym same) whole-is;
         alone = λ other. let all = all-whole (subst (λ (n : ℕ). n < length bs → get_or bs n 0 ≡ 46 → ⊥) same other) in (same ∙ sym all.0, all.1);
       }
 

@@ -66,12 +66,22 @@ lowest lanes bits = if bits == 0 then lanes else count_trailing_zeros 64 bits
 -- The parts of a decimal's text, by their places in the bytes. Only private contracts cite this file.
 
 -- The digits before the point, as they are printed, and few enough that the units fit.
-pub record IsWholePart (bs : List ℕ) (first point : ℕ) : Type 0 where
+pub record IsWholePart (D : ℕ) (bs : List ℕ) (first point : ℕ) : Type 0 where
   pub some : first < point
+  pub places : D ≤ 36
   pub few : point ≤ first + 20
+  pub fits : point + D ≤ first + 38
   pub within : point ≤ length bs
   pub digits : AllDigits 10 (slice_range bs first point)
   pub plain : slice_index bs first ≡ 48 → point ≡ first + 1
+
+-- how many digits may stand before the point
+abbrev pub most_whole : ℕ → ℕ
+most_whole D = if nat_lt 18 D then 38 - D else 20
+
+-- how many bytes a number may have of which neither the first digit nor the last is a zero, nor the point
+abbrev pub most_plain : ℕ → ℕ
+most_plain D = if nat_lt 18 D then 40 - D else D + 2
 
 -- A point, and then digits of which the last isn't 0, at most D.
 pub record IsFraction (D : ℕ) (bs : List ℕ) (point end : ℕ) : Type 0 where
@@ -83,12 +93,11 @@ pub record IsFraction (D : ℕ) (bs : List ℕ) (point end : ℕ) : Type 0 where
 
 -- The bytes begin with a decimal's text whose whole part is short, and no run goes on behind it.
 pub record IsDecimalText (D : ℕ) (bs : List ℕ) (end : ℕ) : Type 0 where
-  pub few : D ≤ 18
   pub first : ℕ
   pub point : ℕ
   pub minus : first ≤ 1
   pub sign : take first bs ≡ sign_text (first == 1)
-  pub whole : IsWholePart bs first point
+  pub whole : IsWholePart D bs first point
   pub fraction : ((end ≡ point) × (first ≡ 1 → slice_index bs first ≢ 48)) ⊎ IsFraction D bs point end
   pub within : end ≤ length bs
   pub stops : end < length bs → class_of (slice_index bs end) ≢ Run
@@ -129,7 +138,9 @@ pub record SpellsAll (most : ℕ) (bs : List ℕ) (first number : ℕ) : Type 0 
 pub record IsPlainDecimal (D : ℕ) (bs : List ℕ) (first end : ℕ) : Type 0 where
   pub starts : 48 < slice_index bs first
   pub last : 48 < slice_index bs (end - 1)
+  pub places : D ≤ 36
   pub short : end ≤ D + 2
+  pub fits : end + D ≤ 40
 
 -- From `kept` on the bytes are zeros, and none stands before it.
 pub record HasZeros (bs : List ℕ) (kept end : ℕ) : Type 0 where

@@ -11,8 +11,8 @@ use crate::formatted::FormatterText;
 use crate::in_window::units_in_window;
 use crate::kept::canonical_prefix_simd;
 use crate::number::WktNum;
+use crate::numbers::{Numbers, Places};
 use crate::printing::write_units;
-use crate::reading::{read_signed, split_sign};
 use crate::sink::TextSink;
 use std::cmp::Ordering;
 use std::fmt;
@@ -140,13 +140,12 @@ impl<const D: u32> WktNum for Decimal<D> {
     ghost same = { decimal_same };
 
     #[inline(always)]
-    #[tactic(auto, using(crate::proofs::ReadNumbers::read_far, std::proofs::lemmas::Int::ints))]
+    #[tactic(auto, using(crate::proofs::ReadNumbers::read_far))]
     fn read_number(text: &str) -> Option<Decimal<D>> {
         if D > MOST_PLACES {
             return None;
         }
-        let (negative, body) = split_sign(text.as_bytes());
-        let units = read_signed(D, negative, body)?;
+        let units = Places::new(D).read_number(text)?;
         Some(Decimal::from_units(units))
     }
 
@@ -164,7 +163,10 @@ impl<const D: u32> WktNum for Decimal<D> {
         ensures within { IfSome result (λ r. r.0 < 32) }
         ensures finds { FindsShort (decimal_text D) (IsShortDecimal D) bytes.now result }
     {
-        canonical_prefix_simd(D, bytes)
+        if D > MOST_PLACES {
+            return None;
+        }
+        canonical_prefix_simd(Places::new(D), bytes)
     }
 
     #[inline(always)]

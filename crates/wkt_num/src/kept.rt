@@ -9,31 +9,25 @@ ghost use Rattle.wkt_num.specs.Decimal.{read_decimal, decimal_text};
 ghost use Rattle.wkt_num.specs.Number.{KeepsText};
 ghost use Rattle.wkt_num.specs.DigitParts.{IsWholePart, IsDecimalText, IsPlainDecimal, HasZeros, IsFirstOther, others_mask};
 
-use crate::powers::SHORT_PLACES;
+use crate::numbers::Places;
 use std::simd::prelude::*;
 
-/// The most digits before the point with which the units surely fit.
-const MOST_WHOLE: usize = 20;
-
 /// Where the number run that the bytes begin with ends, and where its number's text does, if the run ends in a window. Each
-/// text that is printed and ends there is found, if it has at most 18 places and at most 20 digits before the point.
+/// text that is printed and ends there is found, if so few digits stand before its point that all such units fit.
 #[inline(always)]
-pub fn canonical_prefix_simd(places: u32, bytes: &[u8]) -> Option<(usize, usize)>
+pub fn canonical_prefix_simd(places: Places, bytes: &[u8]) -> Option<(usize, usize)>
     requires { 32 ≤ length bytes.now }
     ensures keeps { IfSome result (λ r. KeepsText (read_decimal 127 36 places) (decimal_text places) bytes.now r.0 r.1) }
     ensures within { IfSome result (λ r. r.0 < 32) }
     ensures finds { (end : ℕ) → IsDecimalText places bytes.now end → end < 32 → result ≡ Some (end, end) }
 {
-    if places > SHORT_PLACES {
-        return None;
-    }
     let first = after_minus(bytes);
     let others = others_from(bytes, first);
     let Some(point) = first_other(bytes, first, others) else {
         return None;
     };
     if bytes[point] != b'.' {
-        if !is_whole_number(bytes, first, point) || is_of_run(bytes[point]) {
+        if !is_whole_number(places, bytes, first, point) || is_of_run(bytes[point]) {
             return None;
         }
         return Some((point, point));
@@ -47,7 +41,7 @@ pub fn canonical_prefix_simd(places: u32, bytes: &[u8]) -> Option<(usize, usize)
     if is_plain(places, bytes, first, end) {
         return Some((end, end));
     }
-    if !is_whole_part(bytes, first, point) {
+    if !is_whole_part(places, bytes, first, point) {
         return None;
     }
     kept_fraction(places, bytes, first, point, end)
@@ -95,15 +89,14 @@ pub(crate) fn first_other(bytes: &[u8], from: usize, others: u64) -> Option<usiz
 /// What it answers of digits around a point, where the run ends with them.
 #[inline(always)]
 fn kept_fraction(
-    places: u32,
+    places: Places,
     bytes: &[u8],
     first: usize,
     point: usize,
     end: usize,
 ) -> Option<(usize, usize)>
-    requires few { places ≤ 18 }
     requires sign { take first bytes.now ≡ sign_text (first == 1) }
-    requires whole { IsWholePart bytes.now first point }
+    requires whole { IsWholePart places bytes.now first point }
     requires after { point < end }
     requires within { end ≤ length bytes.now }
     requires point { slice_index bytes.now point ≡ 46 }
@@ -121,7 +114,7 @@ fn kept_fraction(
             Some((end, point))
         };
     }
-    if kept - point - 1 > places as usize {
+    if kept - point - 1 > places.places() as usize {
         return None;
     }
     Some((end, kept))
@@ -144,17 +137,17 @@ pub(crate) fn after_minus(bytes: &[u8]) -> usize
 /// Whether these digits, behind a minus or none, are a whole number as it is printed, with which the units fit. A zero that
 /// stands first is the whole of it, so it ends behind one byte.
 #[inline(always)]
-fn is_whole_number(bytes: &[u8], first: usize, end: usize) -> bool
+fn is_whole_number(places: Places, bytes: &[u8], first: usize, end: usize) -> bool
     requires order { first ≤ end }
     requires within { end ≤ length bytes.now }
     requires minus { first ≤ 1 }
     requires digits { AllDigits 10 (slice_range bytes.now first end) }
-    ensures whole { OnTrue result (IsWholePart bytes.now first end) }
+    ensures whole { OnTrue result (IsWholePart places bytes.now first end) }
     ensures zero { OnTrue result (first ≡ 1 → slice_index bytes.now first ≢ 48) }
-    ensures other { OnFalse result (IsWholePart bytes.now first end → (first ≡ 1) × (slice_index bytes.now first ≡ 48)) }
+    ensures other { OnFalse result (IsWholePart places bytes.now first end → (first ≡ 1) × (slice_index bytes.now first ≡ 48)) }
 {
     let count = end - first;
-    if count == 0 || count > MOST_WHOLE {
+    if count == 0 || count > places.most_whole() {
         return false;
     }
     bytes[first] != b'0' || end == 1
@@ -162,14 +155,14 @@ fn is_whole_number(bytes: &[u8], first: usize, end: usize) -> bool
 
 /// Whether these digits are a whole part as it is printed, with which the units fit.
 #[inline(always)]
-fn is_whole_part(bytes: &[u8], first: usize, point: usize) -> bool
+fn is_whole_part(places: Places, bytes: &[u8], first: usize, point: usize) -> bool
     requires order { first ≤ point }
     requires within { point ≤ length bytes.now }
     requires digits { AllDigits 10 (slice_range bytes.now first point) }
-    ensures { MatchBool result (IsWholePart bytes.now first point) (IsWholePart bytes.now first point → ⊥) }
+    ensures { MatchBool result (IsWholePart places bytes.now first point) (IsWholePart places bytes.now first point → ⊥) }
 {
     let count = point - first;
-    if count == 0 || count > MOST_WHOLE {
+    if count == 0 || count > places.most_whole() {
         return false;
     }
     bytes[first] != b'0' || count == 1
@@ -177,12 +170,12 @@ fn is_whole_part(bytes: &[u8], first: usize, point: usize) -> bool
 
 /// Whether no zero stands first or last, nor the point, and all is so short that the units fit.
 #[inline(always)]
-fn is_plain(places: u32, bytes: &[u8], first: usize, end: usize) -> bool
+fn is_plain(places: Places, bytes: &[u8], first: usize, end: usize) -> bool
     requires order { first < end }
     requires within { end ≤ length bytes.now }
     ensures { OnTrue result (IsPlainDecimal places bytes.now first end) }
 {
-    bytes[first] > b'0' && bytes[end - 1] > b'0' && end <= places as usize + 2
+    bytes[first] > b'0' && bytes[end - 1] > b'0' && end <= places.most_plain()
 }
 
 /// Whether a minus stands before a zero.

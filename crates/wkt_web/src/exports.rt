@@ -6,7 +6,7 @@ ghost use Rattle.wkt_calls.specs.Arrays.{IsNotFlat, HasMoreAt, HasNoPlaceFor, Ar
 ghost use Rattle.wkt_calls.specs.Explained.{IsExplained, IsHinted, IsFollowed, IsUnexplained};
 
 use wkt_calls::arrays_call::arrays_in;
-use wkt_calls::asked::{ends_as_asked, has_places, places_of};
+use wkt_calls::asked::{MOST_ASKED, ends_as_asked, has_places, places_of};
 use wkt_calls::canonical::write_within;
 use wkt_calls::compare::same_in;
 use wkt_calls::explain::{number_of_expected, number_of_hint, problem};
@@ -36,7 +36,7 @@ pub extern "C" fn wkt_canonical(
     ensures small { result ≡ SMALL → length room.old < 2 * length text.now + 65 }
     ensures more { result ≡ NOT_WHOLE → HasMore (read_at (places_in places)) (asks_whole places) text.now end.new }
     ensures others { 1 ≤ result → result ≢ SMALL → result ≢ NOT_WHOLE → RefusesAt (places_in places) text.now result }
-    ensures no_places { 18 < places_in places → result ≡ NO_PLACES }
+    ensures no_places { 36 < places_in places → result ≡ NO_PLACES }
     ensures len_kept { 1 ≤ result → len.new ≡ len.old }
     ensures end_kept { 1 ≤ result → result ≢ NOT_WHOLE → end.new ≡ end.old }
 {
@@ -86,7 +86,7 @@ pub extern "C" fn wkt_same(
         end.new other_end.new answer
         × (IsMore (asks_whole places) one.now end.new ⊎ IsMore (asks_whole places) other.now other_end.new) }
     ensures others { 1 ≤ result → result ≢ SMALL → result ≢ NOT_WHOLE → RefusesOneAt (places_in places) one.now other.now result }
-    ensures no_places { 18 < places_in places → result ≡ NO_PLACES }
+    ensures no_places { 36 < places_in places → result ≡ NO_PLACES }
     ensures kept { 1 ≤ result → same.new ≡ same.old }
     ensures ends_kept { 1 ≤ result → result ≢ NOT_WHOLE → (end.new ≡ end.old) × (other_end.new ≡ other_end.old) }
 {
@@ -135,10 +135,10 @@ pub extern "C" fn wkt_lines_some(
     ensures answered { result ≡ DONE →
         AnswersSure (read_at places) (print_at places) (ends_here last) input.now taken.new written.new out.new }
     ensures others { 1 ≤ result → HasNoPlaces places result }
-    ensures no_places { 18 < places → result ≡ NO_PLACES }
+    ensures no_places { 36 < places → result ≡ NO_PLACES }
     ensures kept { 1 ≤ result → (taken.new ≡ taken.old) × (written.new ≡ written.old) }
 {
-    if places > 18 {
+    if places > MOST_ASKED {
         return NO_PLACES;
     }
     let answered = sure_lines_at(input, places, is_last(last), out);
@@ -172,7 +172,7 @@ pub extern "C" fn wkt_arrays(
         (length room_rings.old) (length room_polygons.old) }
     ensures others { 1 ≤ result → result ≢ SMALL → result ≢ MEMORY → result ≢ NOT_WHOLE →
         IsNotFlat (places_in places) text.now result }
-    ensures no_places { 18 < places_in places → result ≡ NO_PLACES }
+    ensures no_places { 36 < places_in places → result ≡ NO_PLACES }
     ensures kept { 1 ≤ result →
         (numbers.new ≡ numbers.old) × (rings.new ≡ rings.old) × (polygons.new ≡ polygons.old) }
     ensures sizes_kept { 1 ≤ result → result ≢ SMALL → result ≢ NOT_WHOLE → sizes.new ≡ sizes.old }
@@ -204,7 +204,7 @@ pub extern "C" fn wkt_explain(
     ensures explained { result ≡ DONE → IsExplained (read_at (places_in places)) text.now message.new start.new stop.new expected.new }
     ensures more { result ≡ NOT_WHOLE → IsFollowed (read_at (places_in places)) (asks_whole places) text.now start.new × (stop.new ≡ length text.now) }
     ensures others { 1 ≤ result → result ≢ NOT_WHOLE → result ≢ NO_PLACES → IsUnexplained (read_at (places_in places)) (asks_whole places) text.now result }
-    ensures no_places { (result ≡ NO_PLACES) ↔ (18 < places_in places) }
+    ensures no_places { (result ≡ NO_PLACES) ↔ (36 < places_in places) }
     ensures kept { 1 ≤ result → (message.new ≡ message.old) × (expected.new ≡ expected.old) }
     ensures place_kept { 1 ≤ result → result ≢ NOT_WHOLE → (start.new ≡ start.old) × (stop.new ≡ stop.old) }
 {
@@ -235,7 +235,7 @@ pub extern "C" fn wkt_hint(text: &[u8], places: u32, hint: &mut u32) -> u32
     ensures hinted { result ≡ DONE → IsHinted (read_at (places_in places)) (places_in places) text.now hint.new }
     ensures more { result ≡ NOT_WHOLE → (start : ℕ) × IsFollowed (read_at (places_in places)) (asks_whole places) text.now start }
     ensures others { 1 ≤ result → result ≢ NOT_WHOLE → result ≢ NO_PLACES → IsUnexplained (read_at (places_in places)) (asks_whole places) text.now result }
-    ensures no_places { (result ≡ NO_PLACES) ↔ (18 < places_in places) }
+    ensures no_places { (result ≡ NO_PLACES) ↔ (36 < places_in places) }
     ensures kept { 1 ≤ result → hint.new ≡ hint.old }
 {
     if !has_places(places) {

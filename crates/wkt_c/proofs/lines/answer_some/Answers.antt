@@ -2,6 +2,7 @@
 use Rattle.std.proofs.Common.{◌≡◌, ◌+◌, ◌-◌, ◌<◌, ◌++◌, ◌∙◌, inl, inr, refl, length, take, drop, ap, sym, subst, arith, length-drop, length-take, take_all}
 use Rattle.wkt_lines.specs.Laws.{IsWholeLines}
 use Rattle.wkt_lines.specs.Output.{IsOutput}
+use Rattle.wkt_lines.proofs.Outcomes.{parts_make}
 use Rattle.wkt_calls.specs.Answer.{read_at, print_at}
 use Rattle.wkt_calls.specs.Calls.{AreWholeLines, IsFirstLine}
 use Rattle.wkt_calls.proofs.Pieces.{more_output, whole-pick, no-output}
@@ -9,9 +10,9 @@ use Rattle.wkt_c.specs.Chunks.{HasNoLine}
 use Rattle.wkt_c.proofs.lines.answer_some.Goals as goal
 
 pub returns-then-done-eq0-clause-answers : goal.returns-then-done-eq0-clause-answers
-returns-then-done-eq0-clause-answers g c =
-    let read = read_at g.row.D in
-    let num = print_at g.row.D in
+returns-then-done-eq0-clause-answers c =
+    let read = read_at c.args.places in
+    let num = print_at c.args.places in
     let input = c.args.input.now in
     let done = c.answer_lines-done.result in
     let a = c.answer_lines-done.ensures in
@@ -31,7 +32,7 @@ returns-then-done-eq0-clause-answers g c =
     )
 
 pub returns-then-line-eq0-clause-answers : goal.returns-then-line-eq0-clause-answers
-returns-then-line-eq0-clause-answers g c =
+returns-then-line-eq0-clause-answers c =
     let input = c.args.input.now in
     let done = c.answer_lines-done.result in
     let a = c.answer_lines-done.ensures in
@@ -47,9 +48,9 @@ returns-then-line-eq0-clause-answers g c =
     }
 
 pub returns-then-len-out-clause-answers : goal.returns-then-len-out-clause-answers
-returns-then-len-out-clause-answers g c =
-    let read = read_at g.row.D in
-    let num = print_at g.row.D in
+returns-then-len-out-clause-answers c =
+    let read = read_at c.args.places in
+    let num = print_at c.args.places in
     let input = c.args.input.now in
     let done = c.answer_lines-done.result in
     let a = c.answer_lines-done.ensures in
@@ -71,9 +72,9 @@ returns-then-len-out-clause-answers g c =
     }
 
 pub lines-preserved : goal.lines-preserved
-lines-preserved g c =
-    let read = read_at g.row.D in
-    let num = print_at g.row.D in
+lines-preserved c =
+    let read = read_at c.args.places in
+    let num = print_at c.args.places in
     let input = c.args.input.now in
     let done = c.answer_lines-done.result in
     let a = c.answer_lines-done.ensures in
@@ -92,6 +93,6 @@ lines-preserved g c =
       lines = whole-pick c.args.last input done.taken line a.taken less a.lines (subst (λ r. AreWholeLines c.args.last r line) rest_is f.whole);
       answers =
           subst (IsOutput read num (take (done.taken + line) input)) (sym put)
-          (more_output read num c.output_of_parts.ensures.joined input done.taken line (take done.written c.answer_lines-done.new.out) c.in-Ok.text.items before a.answers
+          (more_output read num (parts_make read num) input done.taken line (take done.written c.answer_lines-done.new.out) c.in-Ok.text.items before a.answers
           (subst (λ r. IsOutput read num (take line r) c.in-Ok.text.items) rest_is c.in-Ok.ensures));
     }

@@ -5,13 +5,13 @@ use Rattle.wkt_calls.specs.Calls.{AreWholeLines}
 use Rattle.wkt_c.proofs.lines.answer_some.Given as goal
 
 abbrev pub invariant-lines : goal.invariant-lines
-invariant-lines g l = record {
+invariant-lines l = record {
   taken : l.done.taken ≤ length l.input;
   written : l.done.written ≤ length l.out;
   whole : length l.out ≡ length l.initial.out;
   lines : AreWholeLines l.last l.input l.done.taken;
-  answers : IsOutput (read_at g.row.D) (print_at g.row.D) (take l.done.taken l.input) (take l.done.written l.out);
+  answers : IsOutput (read_at l.places) (print_at l.places) (take l.done.taken l.input) (take l.done.written l.out);
 }
 
 abbrev pub decreases-lines : goal.decreases-lines
-decreases-lines g l = length l.input - l.done.taken
+decreases-lines l = length l.input - l.done.taken

@@ -7,12 +7,12 @@ use Rattle.wkt_calls.specs.Calls.{AreWholeLines}
 use Rattle.wkt_c.proofs.lines.answers.Given as goal
 
 abbrev pub invariant-room : goal.invariant-room
-invariant-room g l = record {
+invariant-room l = record {
   taken : l.done.taken ≤ length l.input;
   written : l.done.written ≤ vec_len l.room;
   lines : AreWholeLines true l.input l.done.taken;
-  answers : IsOutput (read_at g.row.D) (print_at g.row.D) (take l.done.taken l.input) (take l.done.written l.room.items);
+  answers : IsOutput (read_at l.places) (print_at l.places) (take l.done.taken l.input) (take l.done.written l.room.items);
 }
 
 abbrev pub decreases-room : goal.decreases-room
-decreases-room g l = 2 ^ 64 - vec_len l.room
+decreases-room l = 2 ^ 64 - vec_len l.room

@@ -1,41 +1,42 @@
 -- Arrays that are those of a geometry are told to a pen that has room for them.
-use Rattle.std.proofs.Common.{◌≤◌, length, inr, refl, arith}
-use Rattle.std.specs.List.{All}
-use Rattle.wkt_num.specs.Whole.{IsSigned}
+use Rattle.std.proofs.Common.{ℕ, ◌≤◌, length, inr, refl, subst, arith}
 use Rattle.wkt_num.specs.Decimal.{IsUnits, read_decimal, decimal_text}
 use Rattle.wkt_machine.specs.Events.{events}
-use Rattle.wkt_canonical.specs.PenMaker.{written_of}
+use Rattle.wkt_canonical.specs.PenMaker.{written_of, IsFresh, Made}
 use Rattle.wkt_canonical.proofs.PenOutput.{wrote-value}
+use Rattle.wkt_canonical.proofs.Texts.{events_write}
 use Rattle.wkt_fill.specs.declared.given.Given.{Given}
 use Rattle.wkt_c.proofs.Telling.{of-none, text-of, has-room, is-within}
 use Rattle.wkt_c.proofs.told.told.Goals as goal
 
 pub returns-then-not-are_arrays-clause-err : goal.returns-then-not-are_arrays-clause-err
-returns-then-not-are_arrays-clause-err g c =
+returns-then-not-are_arrays-clause-err c =
     let a : Given = record { kind = c.in_ok-kind_of.field-0; dimension = c.in_ok-dimension_of.field-0; numbers = c.args.given.numbers; rings = c.args.given.rings; polygons = c.args.given.polygons } in
-    inr (refl, of-none g.row.D a c.args.given.kind c.args.given.dimension c.in_ok-kind_of.ensures.ok c.in_ok-dimension_of.ensures.ok (c.if-not-are_arrays.ensures.none g.row.D))
+    inr (refl, of-none c.args.places a c.args.given.kind c.args.given.dimension c.in_ok-kind_of.ensures.ok c.in_ok-dimension_of.ensures.ok (c.if-not-are_arrays.ensures.none c.args.places))
 
 pub tell-requires-clause-room : goal.tell-requires-clause-room
-tell-requires-clause-room g c =
+tell-requires-clause-room c = λ q v h.
     let a : Given = record { kind = c.in_ok-kind_of.field-0; dimension = c.in_ok-dimension_of.field-0; numbers = c.args.given.numbers; rings = c.args.given.rings; polygons = c.args.given.polygons } in
-    let small : All (IsSigned 63) c.args.given.numbers.now = c.if-not-are_arrays.ensures.narrow in
     let large : c.in-Some.needed ≤ length c.as_mut_slice.result.now = omega (arith, c.in_ok-make_room.ensures.ok, c.as_mut_slice.ensures.len) in
-    has-room g.row.D a small c.as_mut_slice.result.now c.new-pen.result c.new-pen.ensures c.in-Some.needed c.in-Some.ensures large
+    let fresh : IsFresh c.args.places c.as_mut_slice.result.now c.new-pen.result = subst (λ (n : ℕ). IsFresh n c.as_mut_slice.result.now c.new-pen.result) c.new.ensures c.new-pen.ensures in
+    has-room c.args.places q a c.if-not-are_arrays.ensures.narrow c.as_mut_slice.result.now c.new-pen.result fresh c.in-Some.needed c.in-Some.ensures large v h
 
 pub returns-clause-ok : goal.returns-clause-ok
-returns-clause-ok g c =
+returns-clause-ok c =
     let a : Given = record { kind = c.in_ok-kind_of.field-0; dimension = c.in_ok-dimension_of.field-0; numbers = c.args.given.numbers; rings = c.args.given.rings; polygons = c.args.given.polygons } in
-    let some = c.if-not-are_arrays.ensures.some g.row.D c.requires in
-    let tells = c.tell.ensures some.0 some.1 in
-    text-of g.row.D a c.args.given.kind c.args.given.dimension c.in_ok-kind_of.ensures.ok c.in_ok-dimension_of.ensures.ok some.0 some.1 (written_of c.tell.result).bytes
-    (wrote-value (read_decimal 127 36 g.row.D) (decimal_text g.row.D) (IsUnits g.row.D) (c.texts_are_short.ensures.decimals g.row.D) c.writes_texts.ensures c.as_mut_slice.result.now c.new-pen.result c.tell.result some.0 c.new-pen.ensures some.1.fits tells.makes)
-    c.reads_back.ensures
+    let some = c.if-not-are_arrays.ensures.some c.args.places c.requires in
+    let num = decimal_text c.args.places in
+    let fresh : IsFresh c.args.places c.as_mut_slice.result.now c.new-pen.result = subst (λ (n : ℕ). IsFresh n c.as_mut_slice.result.now c.new-pen.result) c.new.ensures c.new-pen.ensures in
+    let made = subst (λ (n : ℕ). Made (read_decimal 127 36 n) (decimal_text n) c.new-pen.result (events some.0) c.tell.result) fresh.numbers (c.tell.ensures c.args.places some.0 some.1).makes in
+    text-of c.args.places a c.args.given.kind c.args.given.dimension c.in_ok-kind_of.ensures.ok c.in_ok-dimension_of.ensures.ok some.0 some.1 (written_of c.tell.result).bytes
+    (wrote-value (read_decimal 127 36 c.args.places) num (IsUnits c.args.places) (c.texts_are_short.ensures.decimals c.args.places) (λ v w h. events_write (IsUnits c.args.places) num v h w)
+    c.args.places c.as_mut_slice.result.now c.new-pen.result c.tell.result some.0 fresh some.1.fits made)
 
 pub returns-clause-within : goal.returns-clause-within
-returns-clause-within g c =
+returns-clause-within c =
     let a : Given = record { kind = c.in_ok-kind_of.field-0; dimension = c.in_ok-dimension_of.field-0; numbers = c.args.given.numbers; rings = c.args.given.rings; polygons = c.args.given.polygons } in
-    let some = c.if-not-are_arrays.ensures.some g.row.D c.requires in
-    let small : All (IsSigned 63) c.args.given.numbers.now = c.if-not-are_arrays.ensures.narrow in
+    let some = c.if-not-are_arrays.ensures.some c.args.places c.requires in
     let large : c.in-Some.needed ≤ length c.as_mut_slice.result.now = omega (arith, c.in_ok-make_room.ensures.ok, c.as_mut_slice.ensures.len) in
-    is-within g.row.D c.new-pen.result c.tell.result (events some.0) (has-room g.row.D a small c.as_mut_slice.result.now c.new-pen.result c.new-pen.ensures c.in-Some.needed c.in-Some.ensures large some.0 some.1)
-    (c.tell.ensures some.0 some.1)
+    let fresh : IsFresh c.args.places c.as_mut_slice.result.now c.new-pen.result = subst (λ (n : ℕ). IsFresh n c.as_mut_slice.result.now c.new-pen.result) c.new.ensures c.new-pen.ensures in
+    let room = has-room c.args.places c.args.places a c.if-not-are_arrays.ensures.narrow c.as_mut_slice.result.now c.new-pen.result fresh c.in-Some.needed c.in-Some.ensures large some.0 some.1 in
+    is-within c.new-pen.result c.tell.result (events some.0) room (c.tell.ensures c.args.places some.0 some.1)

@@ -4,20 +4,20 @@ use Rattle.wkt_calls.proofs.Padded.{front-walked, none-walked, said-walked, refu
 use Rattle.wkt_calls.proofs.canonical.write_or_refuse.Goals as goal
 
 pub returns-in-Ok-clause-canonical : goal.returns-in-Ok-clause-canonical
-returns-in-Ok-clause-canonical g c =
+returns-in-Ok-clause-canonical c =
     let h = c.in-Ok.ensures.writes.0 in (
       c.requires.utf8,
       record {
         value = h.value;
-        front = front-walked (read_at g.row.D) c.args.text.now c.args.walked.now c.requires.walked h.value c.in-Ok.end h.front;
+        front = front-walked (read_at c.args.places) c.args.text.now c.args.walked.now c.requires.walked h.value c.in-Ok.end h.front;
         is = h.is;
       },
     )
 
 pub returns-in-Err-clause-canonical : goal.returns-in-Err-clause-canonical
-returns-in-Err-clause-canonical g c =
+returns-in-Err-clause-canonical c =
     let (none, says) = c.in-Err.ensures.writes in
-    refused-with (read_at g.row.D) c.args.text.now c.in-Err.message c.number.result c.requires.utf8
-    (none-walked (read_at g.row.D) c.args.text.now c.args.walked.now c.requires.walked none)
-    (said-walked (read_at g.row.D) c.args.text.now c.args.walked.now c.requires.walked c.in-Err.message says)
+    refused-with (read_at c.args.places) c.args.text.now c.in-Err.message c.number.result c.requires.utf8
+    (none-walked (read_at c.args.places) c.args.text.now c.args.walked.now c.requires.walked none)
+    (said-walked (read_at c.args.places) c.args.text.now c.args.walked.now c.requires.walked c.in-Err.message says)
     c.number.ensures.number c.number.ensures.least c.number.ensures.most

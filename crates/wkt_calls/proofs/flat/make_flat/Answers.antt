@@ -5,14 +5,14 @@ use Rattle.wkt_calls.proofs.Pieces.{arrays-of, no-arrays, not-text}
 use Rattle.wkt_calls.proofs.flat.make_flat.Goals as goal
 
 pub returns-then-not-is_text_from : goal.returns-then-not-is_text_from
-returns-then-not-is_text_from g c =
-    inr (inr (inr (not-text (read_at g.row.D) c.args.text.now (λ u. let f : false ≡ true = c.if-not-is_text_from.ensures.1 (c.in-Some.ensures.utf8.0 u) in cc))))
+returns-then-not-is_text_from c =
+    inr (inr (inr (not-text (read_at c.args.places) c.args.text.now (λ u. let f : false ≡ true = c.if-not-is_text_from.ensures.1 (c.in-Some.ensures.utf8.0 u) in cc))))
 
 pub returns-then-status-ne0 : goal.returns-then-status-ne0
-returns-then-status-ne0 g c =
-    no-arrays g.row.D c.args.text.now c.args.room c.in-Some.filled.arrays c.in-Some.filled.end c.in-Some.ensures (c.in-Some.ensures.utf8.1 (c.if-not-is_text_from.ensures.0 refl)) c.if-status-ne0.true
+returns-then-status-ne0 c =
+    no-arrays c.args.places c.args.text.now c.args.room c.in-Some.filled.arrays c.in-Some.filled.end c.in-Some.ensures (c.in-Some.ensures.utf8.1 (c.if-not-is_text_from.ensures.0 refl)) c.if-status-ne0.true
 
 pub returns : goal.returns
-returns g c =
-    arrays-of g.row.D c.args.text.now c.args.room c.in-Some.filled.arrays c.in-Some.filled.end c.in-Some.ensures (c.in-Some.ensures.utf8.1 (c.if-not-is_text_from.ensures.0 refl)) c.if-status-ne0.false _ _
+returns c =
+    arrays-of c.args.places c.args.text.now c.args.room c.in-Some.filled.arrays c.in-Some.filled.end c.in-Some.ensures (c.in-Some.ensures.utf8.1 (c.if-not-is_text_from.ensures.0 refl)) c.if-status-ne0.false _ _
     c.number_of_kind.ensures c.number_of_dimension.ensures

@@ -5,4 +5,4 @@ use Rattle.wkt_calls.specs.Answer.{read_at}
 use Rattle.wkt_calls.proofs.flat.refused.Goals as goal
 
 pub refusal-requires : goal.refusal-requires
-refusal-requires g c = subst (HasNoFront (read_at g.row.D)) (sym c.in-Ok.ensures.cases.0) (c.requires c.in-Ok.ensures.cases.1)
+refusal-requires c = subst (HasNoFront (read_at c.args.places)) (sym c.in-Ok.ensures.cases.0) (c.requires c.in-Ok.ensures.cases.1)

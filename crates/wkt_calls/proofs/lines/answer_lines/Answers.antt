@@ -1,6 +1,7 @@
 -- The answers to the lines so far are there.
 use Rattle.std.proofs.Common.{◌≡◌, ◌-◌, ◌<◌, ◌≤◌, ◌∙◌, length, take, drop, ap, sym, subst, arith, length-drop, take_all}
 use Rattle.wkt_lines.specs.Output.{IsOutput}
+use Rattle.wkt_lines.proofs.Outcomes.{parts_make}
 use Rattle.wkt_calls.specs.Answer.{read_at, print_at}
 use Rattle.wkt_calls.specs.Calls.{AreWholeLines}
 use Rattle.wkt_calls.proofs.Pieces.{whole-pick, line-lines, line-output}
@@ -8,9 +9,9 @@ use Rattle.wkt_calls.proofs.lines.answer_lines.Goals as goal
 use Rattle.wkt_calls.proofs.lines.answer_lines.Goals.{then-at-end+else-end-at+else-not-has_room-2, else-at-end+else-not-has_room}
 
 pub lines-preserved : goal.lines-preserved
-lines-preserved g c =
-    let read = read_at g.row.D in
-    let num = print_at g.row.D in
+lines-preserved c =
+    let read = read_at c.args.places in
+    let num = print_at c.args.places in
     let inv = c.lines.invariant in
     let last = c.args.last in
     let input = c.args.input.now in
@@ -46,6 +47,6 @@ lines-preserved g c =
       ends = ends;
       answers =
           subst (IsOutput read num (take n input)) (sym a.ensures.answers.written)
-          (line-output last input at end less inside read num c.output_of_parts.ensures.joined a.result.taken n (take c.lines.len c.lines.out) a.ensures.answers.answer inv.lines ends inv.answers a.ensures.answers.is
+          (line-output last input at end less inside read num (λ parts outs last out w h k. parts_make read num parts outs last out w h k) a.result.taken n (take c.lines.len c.lines.out) a.ensures.answers.answer inv.lines ends inv.answers a.ensures.answers.is
           a.ensures.line c.lesser-at.ensures.is c.lesser-at.ensures.one c.lesser-at.ensures.other);
     }

@@ -5,7 +5,7 @@ use Rattle.wkt_calls.specs.Calls.{AreWholeLines}
 use Rattle.wkt_calls.proofs.lines.answer_lines.Given as goal
 
 abbrev pub invariant-lines : goal.invariant-lines
-invariant-lines g l = record {
+invariant-lines l = record {
   at_in : l.at ≤ length l.input;
   end_in : l.end ≤ length l.input;
   fits : l.len ≤ length l.out;
@@ -13,8 +13,8 @@ invariant-lines g l = record {
   goes : l.fn.done.taken ≤ l.at;
   lines : AreWholeLines l.last l.input l.at;
   ends : AreWholeLines l.last l.input l.end;
-  answers : IsOutput (read_at g.row.D) (print_at g.row.D) (take l.at l.input) (take l.len l.out);
+  answers : IsOutput (read_at l.places) (print_at l.places) (take l.at l.input) (take l.len l.out);
 }
 
 abbrev pub decreases-lines : goal.decreases-lines
-decreases-lines g l = length l.input - l.at
+decreases-lines l = length l.input - l.at

@@ -2,6 +2,7 @@
 use Rattle.std.proofs.Common.{ap, arith, length, refl}
 use Rattle.wkt_machine.proofs.SourceRooms.{start_room}
 use Rattle.wkt_canonical.specs.PenMaker.{pen_maker}
+use Rattle.wkt_canonical.specs.Through.{pen_over}
 use Rattle.wkt_canonical.proofs.PenOutput.{depth_fits, stops_at, writes_events, writes_nothing}
 use Rattle.wkt_canonical.proofs.canonical.write_next.Goals as goal
 
@@ -14,16 +15,19 @@ drive-requires-clause-room g c =
     let at = c.new.ensures.at in
     let room = c.requires.room in
     let same = ap (λ x. length x.now) c.take-out.ensures.value in
-    start_room (pen_maker g.T.WktNum.read g.T.WktNum.num) _ c.new.result _ (omega (arith, text, at, room, same))
+    start_room (pen_maker g.N.Numbers.read g.N.Numbers.num) _ c.new.result _ (omega (arith, text, at, room, same))
 
 pub returns-else-out-whole-clause-writes : goal.returns-else-out-whole-clause-writes
 returns-else-out-whole-clause-writes g c =
     let long = c.if-out-whole.false in
-    let same = c.take-out.ensures.value in
-    writes_events g.T.WktNum.read g.T.WktNum.num _ c.args.text.now c.new.result _ c.in-Ok.over (ap (λ x. x.now) c.new.ensures.text) c.new.ensures.at _ _ (ap (λ out. record { out = out; len = c.args.pen.now.len; polygon = c.args.pen.now.polygon; of = c.args.pen.now.of }) same) c.in-Ok.ensures.on c.in-Ok.ensures.over refl (omega (arith, long, ap (λ x. length x.now) same))
+    let same = c.take-out.ensures.value in (
+      c.in-Ok.over.builder.polygon,
+      writes_events g.N.Numbers.read g.N.Numbers.num _ c.args.text.now c.new.result _ c.in-Ok.over (ap (λ x. x.now) c.new.ensures.text) c.new.ensures.at (pen_over c.args.numbers 0 c.args.space.now) _
+          (ap (λ out. record { out = out; len = c.args.space.now.len; polygon = 0; numbers = c.args.numbers }) same) c.in-Ok.ensures.on c.in-Ok.ensures.over refl (omega (arith, long, ap (λ x. length x.now) same)),
+    )
 
 pub returns-in-Err-clause-writes : goal.returns-in-Err-clause-writes
-returns-in-Err-clause-writes g c = writes_nothing g.T.WktNum.read g.T.WktNum.num _ c.args.text.now c.new.result _ c.in-Err.stop (ap (λ x. x.now) c.new.ensures.text) c.new.ensures.at c.in-Err.ensures.refused
+returns-in-Err-clause-writes g c = writes_nothing g.N.Numbers.read g.N.Numbers.num _ c.args.text.now c.new.result _ c.in-Err.stop (ap (λ x. x.now) c.new.ensures.text) c.new.ensures.at c.in-Err.ensures.refused
 
 pub returns-in-Err-clause-stops : goal.returns-in-Err-clause-stops
-returns-in-Err-clause-stops g c = stops_at g.T.WktNum.read g.T.WktNum.num _ c.args.text.now c.new.result _ c.in-Err.stop (ap (λ x. x.now) c.new.ensures.text) c.new.ensures.at c.in-Err.ensures.refused
+returns-in-Err-clause-stops g c = stops_at g.N.Numbers.read g.N.Numbers.num _ c.args.text.now c.new.result _ c.in-Err.stop (ap (λ x. x.now) c.new.ensures.text) c.new.ensures.at c.in-Err.ensures.refused

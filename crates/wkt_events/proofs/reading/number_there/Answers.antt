@@ -12,9 +12,9 @@ returns-in_default-clause-none g c =
 pub returns-in_default-read_number-clause-none : goal.returns-in_default-read_number-clause-none
 returns-in_default-read_number-clause-none g c =
     let same = (behind-plus c.args.text.now c.args.at c.run_end-end.result c.past_plus.result (omega arith) c.run_end-end.ensures.inside c.past_plus.ensures).2 in
-    record { end = c.run_end-end.result; ends = c.run_end-end.ensures; none = λ o b u. ap g.T.WktNum.read (sym (c.in-Some.ensures.some ∙ same)) ∙ sym c.in_default-read_number.ensures }
+    record { end = c.run_end-end.result; ends = c.run_end-end.ensures; none = λ o b u. ap (g.N.Numbers.read c.args.numbers) (sym (c.in-Some.ensures.some ∙ same)) ∙ sym c.in_default-read_number.ensures }
 
 pub returns-clause-some : goal.returns-clause-some
 returns-clause-some g c =
     let same = (behind-plus c.args.text.now c.args.at c.run_end-end.result c.past_plus.result (omega arith) c.run_end-end.ensures.inside c.past_plus.ensures).2 in
-    record { order = omega arith; ends = c.run_end-end.ensures; begins = search rules; reads = ap g.T.WktNum.read (sym (c.in-Some.ensures.some ∙ same)) ∙ sym c.in-Some-read_number.ensures }
+    record { order = omega arith; ends = c.run_end-end.ensures; begins = search rules; reads = ap (g.N.Numbers.read c.args.numbers) (sym (c.in-Some.ensures.some ∙ same)) ∙ sym c.in-Some-read_number.ensures }

@@ -6,7 +6,7 @@ use Rattle.wkt_explain.proofs.walked.refused_first.Goals as goal
 
 pub returns : goal.returns
 returns g c =
-    let read = g.T.WktNum.read in
+    let read = g.N.Numbers.read c.args.numbers in
     let text = c.as_bytes-bytes.result.now in
     let skips = c.skip_white-start.ensures in
     let m = c.start.result in

@@ -10,7 +10,7 @@ use Rattle.wkt_machine.proofs.coordinates.deep_coordinates_outlined.Given as goa
 abbrev pub invariant-coordinates : goal.invariant-coordinates
 invariant-coordinates g l =
     record {
-      leads : Leads g.T.WktNum.read (bytes_view (not (g.row.FEED_ENDS == 0))) g.B.Builder.maker l.machine l.fn.source l.fn.builder l.machine l.source l.builder;
+      leads : Leads (g.B.Builder.maker.reads l.fn.builder) (bytes_view (not (g.row.FEED_ENDS == 0))) g.B.Builder.maker l.machine l.fn.source l.fn.builder l.machine l.source l.builder;
       inside : l.source.at ≤ length l.source.text.now;
       room : HasRoom (bytes_view (not (g.row.FEED_ENDS == 0))) g.B.Builder.maker 0 l.source l.builder;
     }

@@ -11,8 +11,8 @@ use Rattle.wkt_machine.proofs.coordinates.flat_coordinate.Goals as goal
 
 pub returns-then-not-has_y-clause-refused : goal.returns-then-not-has_y-clause-refused
 returns-then-not-has_y-clause-refused g c =
-    stop_from g.T.WktNum.read (bytes_view (not (g.row.FEED_ENDS == 0))) g.B.Builder.maker c.args.machine next.X c.args.source c.args.builder _ c.requires.state
-    (way_stops g.T.WktNum.read (bytes_view (not (g.row.FEED_ENDS == 0))) g.B.Builder.maker c.args.machine next.X next.Y next.Y c.args.source c.number-has_x.result.1 c.number-has_y.result.1 c.args.builder c.number-has_x.result.2 c.number-has_y.result.2 (OnTrue_at c.if-not-has_x.false c.number-has_x.ensures.on) (OnFalse_at c.if-not-has_y.true c.number-has_y.ensures.refused))
+    stop_from (bytes_view (not (g.row.FEED_ENDS == 0))) g.B.Builder.maker c.args.machine next.X c.args.source c.args.builder _ c.requires.state
+    (way_stops (bytes_view (not (g.row.FEED_ENDS == 0))) g.B.Builder.maker c.args.machine next.X next.Y next.Y c.args.source c.number-has_x.result.1 c.number-has_y.result.1 c.args.builder c.number-has_x.result.2 c.number-has_y.result.2 (OnTrue_at c.if-not-has_x.false c.number-has_x.ensures.on) (OnFalse_at c.if-not-has_y.true c.number-has_y.ensures.refused))
 
 pub returns-clause-on : goal.returns-clause-on
-returns-clause-on g c = way_from g.T.WktNum.read (bytes_view (not (g.row.FEED_ENDS == 0))) g.B.Builder.maker c.args.machine next.X c.args.source c.args.builder _ c.requires.state (way_on g.T.WktNum.read (bytes_view (not (g.row.FEED_ENDS == 0))) g.B.Builder.maker c.args.machine next.X next.Y next.Item c.args.source c.number-has_x.result.1 c.number-has_y.result.1 c.args.builder c.number-has_x.result.2 c.number-has_y.result.2 (OnTrue_at c.if-not-has_x.false c.number-has_x.ensures.on) (subst (λ d. Way g.T.WktNum.read (bytes_view (not (g.row.FEED_ENDS == 0))) g.B.Builder.maker c.args.machine next.Y c.number-has_x.result.1 c.number-has_x.result.2 (next_after axis.Y d) c.number-has_y.result.1 c.number-has_y.result.2) c.requires.flat (OnTrue_at c.if-not-has_y.false c.number-has_y.ensures.on)))
+returns-clause-on g c = way_from (bytes_view (not (g.row.FEED_ENDS == 0))) g.B.Builder.maker c.args.machine next.X c.args.source c.args.builder _ c.requires.state (way_on (bytes_view (not (g.row.FEED_ENDS == 0))) g.B.Builder.maker c.args.machine next.X next.Y next.Item c.args.source c.number-has_x.result.1 c.number-has_y.result.1 c.args.builder c.number-has_x.result.2 c.number-has_y.result.2 (OnTrue_at c.if-not-has_x.false c.number-has_x.ensures.on) (subst (λ d. Way (bytes_view (not (g.row.FEED_ENDS == 0))) g.B.Builder.maker c.args.machine next.Y c.number-has_x.result.1 c.number-has_x.result.2 (next_after axis.Y d) c.number-has_y.result.1 c.number-has_y.result.2) c.requires.flat (OnTrue_at c.if-not-has_y.false c.number-has_y.ensures.on)))

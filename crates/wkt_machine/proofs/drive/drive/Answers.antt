@@ -13,7 +13,7 @@ lexemes-init g c = record {
   sound = c.in_ok-begun.ensures.on.sound;
   room = c.in_ok-begun.ensures.room;
   depth =
-      let more = goes_room g.T.WktNum.read g.S.Source.view g.B.Builder.maker _ _ _ _ c.in_ok-begun.ensures.on in
+      let more = goes_room _ g.S.Source.view g.B.Builder.maker _ _ _ _ c.in_ok-begun.ensures.on in
       omega (arith, more, ap (λ (s : State). s.depth) c.start.ensures.state);
 }
 
@@ -21,9 +21,9 @@ pub lexemes-preserved : goal.lexemes-preserved
 lexemes-preserved g c =
     let i = c.lexemes.invariant in
     let way = c.in_ok-behind.ensures.on in
-    let more = goes_room g.T.WktNum.read g.S.Source.view g.B.Builder.maker _ _ _ _ way in
+    let more = goes_room _ g.S.Source.view g.B.Builder.maker _ _ _ _ way in
     record {
-      goes = from_start g.T.WktNum.read g.S.Source.view g.B.Builder.maker _ _ _ _ i.goes way;
+      goes = from_start g.S.Source.view g.B.Builder.maker _ _ _ _ i.goes way;
       sound = way.sound;
       depth = omega (arith, more, i.depth);
       room = c.in_ok-behind.ensures.room;
@@ -32,5 +32,5 @@ lexemes-preserved g c =
 pub returns-in_err-behind-clause-refused : goal.returns-in_err-behind-clause-refused
 returns-in_err-behind-clause-refused g c =
     let machine : Machine = record { state = c.lexemes.state; part = c.lexemes.part; dim = c.lexemes.dim; depth = c.lexemes.depth } in
-    let refused : IfErr c.from_residual-in_err-behind.result (Refuses g.T.WktNum.read g.S.Source.view g.B.Builder.maker machine c.lexemes.source c.lexemes.builder) = search rules in
-    refused_if g.T.WktNum.read g.S.Source.view g.B.Builder.maker c.args.source c.args.builder (record { source = c.lexemes.source; machine = machine; builder = c.lexemes.builder }) c.from_residual-in_err-behind.result c.lexemes.invariant.goes refused
+    let refused : IfErr c.from_residual-in_err-behind.result (Refuses (g.B.Builder.maker.reads c.lexemes.builder) g.S.Source.view g.B.Builder.maker machine c.lexemes.source c.lexemes.builder) = search rules in
+    refused_if g.S.Source.view g.B.Builder.maker c.args.source c.args.builder (record { source = c.lexemes.source; machine = machine; builder = c.lexemes.builder }) c.from_residual-in_err-behind.result c.lexemes.invariant.goes refused

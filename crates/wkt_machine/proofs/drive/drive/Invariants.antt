@@ -8,7 +8,7 @@ use Rattle.wkt_machine.proofs.drive.drive.Given as goal
 abbrev pub invariant-lexemes : goal.invariant-lexemes
 invariant-lexemes g l =
     record {
-      goes : GoesFrom g.T.WktNum.read g.S.Source.view g.B.Builder.maker l.fn.source l.fn.builder
+      goes : GoesFrom (g.B.Builder.maker.reads l.fn.builder) g.S.Source.view g.B.Builder.maker l.fn.source l.fn.builder
           (record { source = l.source; machine = record { state = l.state; part = l.part; dim = l.dim; depth = l.depth }; builder = l.builder });
       sound : IsSound (record { state = l.state; part = l.part; dim = l.dim; depth = l.depth });
       depth : l.depth + length (g.S.Source.view.remaining l.source) ≤ length (g.S.Source.view.remaining l.fn.source);

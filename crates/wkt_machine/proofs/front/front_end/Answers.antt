@@ -11,17 +11,17 @@ use Rattle.wkt_machine.proofs.front.front_end.Goals as goal
 
 pub drive-requires : goal.drive-requires
 drive-requires g c =
-    let text = ap (λ x. x.now) c.new.ensures.text ∙ c.as_bytes.ensures.value in
+    let text = ap (λ x. x.now) c.new-source.ensures.text ∙ c.as_bytes.ensures.value in
     let few = spanned-few c.args.text.now in
-    let same = ap length (whole_left c.args.text.now c.new.result text c.new.ensures.at) in
-    record { depth = omega (arith, few, same); room = free_room (bytes_view false) nothing_maker c.new.result _ (λ n. tt) (λ x. refl) }
+    let same = ap length (whole_left c.args.text.now c.new-source.result text c.new-source.ensures.at) in
+    record { depth = omega (arith, few, same); room = free_room (bytes_view false) (nothing_maker (λ n. g.T.WktNum.read)) c.new-source.result _ (λ n. tt) (λ c x. refl) (λ never. absurd never) }
 
 pub returns-in-Ok-clause-front : goal.returns-in-Ok-clause-front
 returns-in-Ok-clause-front g c =
-    let text = ap (λ x. x.now) c.new.ensures.text ∙ c.as_bytes.ensures.value in
+    let text = ap (λ x. x.now) c.new-source.ensures.text ∙ c.as_bytes.ensures.value in
     let (v, front, made) =
-    front_made g.T.WktNum.read (bytes_view false) nothing_maker c.args.text.now c.new.result _ c.in-Ok.over
-    (whole_left c.args.text.now c.new.result text c.new.ensures.at) c.in-Ok.over.source.at (λ end e. e) c.in-Ok.ensures.on c.in-Ok.ensures.over in
+    front_made g.T.WktNum.read (bytes_view false) (nothing_maker (λ n. g.T.WktNum.read)) c.args.text.now c.new-source.result _ c.in-Ok.over
+    (whole_left c.args.text.now c.new-source.result text c.new-source.ensures.at) c.in-Ok.over.source.at (λ end e. e) c.in-Ok.ensures.on c.in-Ok.ensures.over in
     (v, front)
 
 pub returns-in-Ok-clause-some : goal.returns-in-Ok-clause-some
@@ -35,7 +35,7 @@ returns-in-Ok-clause-boundary g c = let f = returns-in-Ok-clause-front g c in fr
 
 pub returns-in-Err-clause-front : goal.returns-in-Err-clause-front
 returns-in-Err-clause-front g c =
-    let text = ap (λ x. x.now) c.new.ensures.text ∙ c.as_bytes.ensures.value in
-    let at = c.new.ensures.at in
-    no_front_there g.T.WktNum.read (bytes_view false) nothing_maker c.args.text.now c.new.result _ c.in-Err.field-0
-    (whole_left c.args.text.now c.new.result text at) c.args.text.now (text, (subst IsUtf8 (sym text) c.utf8.text, omega (arith, at))) c.in-Err.ensures.refused
+    let text = ap (λ x. x.now) c.new-source.ensures.text ∙ c.as_bytes.ensures.value in
+    let at = c.new-source.ensures.at in
+    no_front_there g.T.WktNum.read (bytes_view false) (nothing_maker (λ n. g.T.WktNum.read)) c.args.text.now c.new-source.result _ c.in-Err.field-0
+    (whole_left c.args.text.now c.new-source.result text at) c.args.text.now (text, (subst IsUtf8 (sym text) c.utf8.text, omega (arith, at))) c.in-Err.ensures.refused

@@ -220,6 +220,7 @@ module _ {N B : Type 0} (maker : Maker N B) {n : ℕ} (feed : Bool) (s : Bytes n
         fits = leaves (k + need (remaining_spanned feed to.text.now to.at))
             (maker.less b (k + need (remaining_spanned feed to.text.now to.at) + x) (0 + need (remaining_spanned feed s.text.now s.at)) (omega (arith, order, spent, there)) room.fits);
         values = room.values;
+        reads = room.reads;
       }
 
   room_ended : (x : ℕ) (to : Bytes n) (o c : B) → x ≤ tail t → to.text ≡ s.text → to.at ≡ end → Leaves maker b (header_cost p) o → Leaves maker o x c → HasRoom (bytes_view feed) maker 0 to c
@@ -242,7 +243,7 @@ empty-requires g c = record { room = c.begin-in-Outside.ensures.leaves 6 (fits_w
 
 pub returns-in-Dimension-clause-on : goal.returns-in-Dimension-clause-on
 returns-in-Dimension-clause-on g c =
-    bare_goes g.T.WktNum.read g.B.Builder.maker _ c.args.machine c.args.source c.args.builder c.args.builder c.args.head.part c.args.head.dim c.args.at c.requires.state c.requires.between.same c.requires.line c.args.head.end (subst (λ t. StandsHeader _ c.args.source.text.now c.args.at c.args.head.part c.args.head.dim t c.args.head.end) c.in-Dimension.is c.requires.head)
+    bare_goes (g.B.Builder.maker.reads c.args.builder) g.B.Builder.maker _ c.args.machine c.args.source c.args.builder c.args.builder c.args.head.part c.args.head.dim c.args.at c.requires.state c.requires.between.same c.requires.line c.args.head.end (subst (λ t. StandsHeader _ c.args.source.text.now c.args.at c.args.head.part c.args.head.dim t c.args.head.end) c.in-Dimension.is c.requires.head)
     c.begun.result c.new-source.result c.new-source.ensures.text c.new-source.ensures.at (ap state_of c.begun.ensures) (subst IsSound (sym c.begun.ensures) tt)
 
 pub returns-in-Dimension-clause-stands : goal.returns-in-Dimension-clause-stands
@@ -252,7 +253,7 @@ returns-in-Dimension-clause-stands g c =
 
 pub returns-in-Opening-clause-on : goal.returns-in-Opening-clause-on
 returns-in-Opening-clause-on g c =
-    named_goes g.T.WktNum.read g.B.Builder.maker _ c.args.machine c.args.source c.args.builder c.begin.result c.args.head.part c.args.head.dim c.args.at c.requires.state c.requires.between.same c.requires.line c.args.head.end (subst (λ t. StandsHeader _ c.args.source.text.now c.args.at c.args.head.part c.args.head.dim t c.args.head.end) c.in-Opening.is c.requires.head)
+    named_goes (g.B.Builder.maker.reads c.args.builder) g.B.Builder.maker _ c.args.machine c.args.source c.args.builder c.begin.result c.args.head.part c.args.head.dim c.args.at c.requires.state c.requires.between.same c.requires.line c.args.head.end (subst (λ t. StandsHeader _ c.args.source.text.now c.args.at c.args.head.part c.args.head.dim t c.args.head.end) c.in-Opening.is c.requires.head)
     c.begun-begun.result c.new-source.result c.new-source.ensures.text c.new-source.ensures.at (ap state_of c.begun-begun.ensures) (subst IsSound (sym c.begun-begun.ensures) tt) c.begin.ensures.makes
 
 pub returns-in-Opening-clause-stands : goal.returns-in-Opening-clause-stands
@@ -262,7 +263,7 @@ returns-in-Opening-clause-stands g c =
 
 pub returns-in-Inside-clause-on : goal.returns-in-Inside-clause-on
 returns-in-Inside-clause-on g c =
-    header_goes g.T.WktNum.read g.B.Builder.maker _ c.args.machine c.args.source c.args.builder c.begin-in-Inside.result c.args.head.part c.args.head.dim c.args.at c.requires.state c.requires.between.same c.requires.line then.Inside c.args.head.end (subst (λ t. StandsHeader _ c.args.source.text.now c.args.at c.args.head.part c.args.head.dim t c.args.head.end) c.in-Inside.is c.requires.head)
+    header_goes (g.B.Builder.maker.reads c.args.builder) g.B.Builder.maker _ c.args.machine c.args.source c.args.builder c.begin-in-Inside.result c.args.head.part c.args.head.dim c.args.at c.requires.state c.requires.between.same c.requires.line then.Inside c.args.head.end (subst (λ t. StandsHeader _ c.args.source.text.now c.args.at c.args.head.part c.args.head.dim t c.args.head.end) c.in-Inside.is c.requires.head)
     (λ j mid ends. ends) (λ ends. ends) c.inside.result c.new-source.result c.open.result c.new-source.ensures.text c.new-source.ensures.at
     (c.inside.ensures.state ∙ ap (λ (m : Machine). inside m.part m.dim m.depth) c.begun-begun.ensures) c.inside.ensures.sound c.begin-in-Inside.ensures.makes c.open.ensures.makes
 
@@ -273,7 +274,7 @@ returns-in-Inside-clause-stands g c =
 
 pub returns-in-Outside-clause-on : goal.returns-in-Outside-clause-on
 returns-in-Outside-clause-on g c =
-    header_goes g.T.WktNum.read g.B.Builder.maker _ c.args.machine c.args.source c.args.builder c.begin-in-Outside.result c.args.head.part c.args.head.dim c.args.at c.requires.state c.requires.between.same c.requires.line then.Outside c.args.head.end (subst (λ t. StandsHeader _ c.args.source.text.now c.args.at c.args.head.part c.args.head.dim t c.args.head.end) c.in-Outside.is c.requires.head)
+    header_goes (g.B.Builder.maker.reads c.args.builder) g.B.Builder.maker _ c.args.machine c.args.source c.args.builder c.begin-in-Outside.result c.args.head.part c.args.head.dim c.args.at c.requires.state c.requires.between.same c.requires.line then.Outside c.args.head.end (subst (λ t. StandsHeader _ c.args.source.text.now c.args.at c.args.head.part c.args.head.dim t c.args.head.end) c.in-Outside.is c.requires.head)
     (λ j mid ends. ends) (λ ends. ends) c.outside.result c.new-source.result c.empty.result c.new-source.ensures.text c.new-source.ensures.at
     (c.outside.ensures.state ∙ ap (λ (m : Machine). outside m.part m.dim m.depth) c.begun-begun.ensures) c.outside.ensures.sound c.begin-in-Outside.ensures.makes c.empty.ensures.makes
 

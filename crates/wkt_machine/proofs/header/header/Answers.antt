@@ -9,11 +9,11 @@ use Rattle.wkt_machine.proofs.header.header.Goals as goal
 
 pub returns-in-X-clause-on : goal.returns-in-X-clause-on
 returns-in-X-clause-on g c =
-    goes_if g.T.WktNum.read (bytes_view _) g.B.Builder.maker c.args.machine c.args.source c.args.builder c.behind-made.result c.coordinates.result c.behind-made.ensures.on c.coordinates.ensures.on
+    goes_if (bytes_view _) g.B.Builder.maker c.args.machine c.args.source c.args.builder c.behind-made.result c.coordinates.result c.behind-made.ensures.on c.coordinates.ensures.on
 
 pub returns-in-X-clause-refused : goal.returns-in-X-clause-refused
 returns-in-X-clause-refused g c =
-    refuses_if g.T.WktNum.read (bytes_view _) g.B.Builder.maker c.args.machine c.args.source c.args.builder c.behind-made.result c.coordinates.result c.behind-made.ensures.on c.coordinates.ensures.refused
+    refuses_if (bytes_view _) g.B.Builder.maker c.args.machine c.args.source c.args.builder c.behind-made.result c.coordinates.result c.behind-made.ensures.on c.coordinates.ensures.refused
 
 pub plain-requires : goal.plain-requires
 plain-requires g c = (

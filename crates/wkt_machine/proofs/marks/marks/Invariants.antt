@@ -9,7 +9,7 @@ use Rattle.wkt_machine.proofs.marks.marks.Given as goal
 abbrev pub invariant-marks : goal.invariant-marks
 invariant-marks g l =
     record {
-      leads : Leads g.T.WktNum.read g.S.Source.view g.B.Builder.maker l.fn.machine l.fn.source l.fn.builder
+      leads : Leads (g.B.Builder.maker.reads l.fn.builder) g.S.Source.view g.B.Builder.maker l.fn.machine l.fn.source l.fn.builder
           (record { state = l.state; part = l.part; dim = l.dim; depth = l.depth }) l.source l.builder;
       sound : IsSound (record { state = l.state; part = l.part; dim = l.dim; depth = l.depth });
       unover : is_over (state_of (record { state = l.state; part = l.part; dim = l.dim; depth = l.depth })) ≡ false;

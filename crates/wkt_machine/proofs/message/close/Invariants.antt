@@ -7,7 +7,7 @@ abbrev pub invariant-parens : goal.invariant-parens
 invariant-parens g l =
     record {
       inside : l.from ≤ length l.text;
-      same : closings g.T.WktNum.read l.parens l.fn.message (remaining false l.text l.at) ≡ closings g.T.WktNum.read l.open l.reported (remaining false l.text l.from);
+      same : closings (g.N.Numbers.read l.fn.numbers) l.parens l.fn.message (remaining false l.text l.at) ≡ closings (g.N.Numbers.read l.fn.numbers) l.open l.reported (remaining false l.text l.from);
     }
 
 abbrev pub decreases-parens : goal.decreases-parens

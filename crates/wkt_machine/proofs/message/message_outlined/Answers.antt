@@ -12,7 +12,7 @@ use Rattle.wkt_machine.proofs.message.message_outlined.Goals as goal
 
 pub returns : goal.returns
 returns g c =
-    let read = g.T.WktNum.read in
+    let read = (g.N.Numbers.read c.args.numbers) in
     let s = state_of (record { state = c.args.state; part = c.args.part; dim = c.args.dim; depth = c.args.depth }) in
     let bytes = c.as_bytes-bytes.result.now in
     let ls = remaining false bytes c.args.at in

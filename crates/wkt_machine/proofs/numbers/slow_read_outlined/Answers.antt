@@ -8,8 +8,8 @@ pad-requires-clause-zeros g c = zero-at 32
 
 pub returns-in-Some-clause-some : goal.returns-in-Some-clause-some
 returns-in-Some-clause-some g c =
-    shown-there g.T.WktNum.read c.args.text.now c.args.at c.requires _ _
-    (padded-shows g.T.WktNum.read (take (length c.args.text.now - c.args.at) (drop c.args.at c.args.text.now)) c.pad.new.window _ _ (omega (arith, c.if-rest-lt-NUMBER_WINDOW.true)) c.pad.ensures.front c.pad.ensures.nul c.in-Some.ensures.reads)
+    shown-there (g.N.Numbers.read c.args.numbers) c.args.text.now c.args.at c.requires _ _
+    (padded-shows (g.N.Numbers.read c.args.numbers) (take (length c.args.text.now - c.args.at) (drop c.args.at c.args.text.now)) c.pad.new.window _ _ (omega (arith, c.if-rest-lt-NUMBER_WINDOW.true)) c.pad.ensures.front c.pad.ensures.nul c.in-Some.ensures.reads)
 
 pub returns-then-not-is_of_run-clause-none : goal.returns-then-not-is_of_run-clause-none
-returns-then-not-is_of_run-clause-none g c = none-unrun g.T.WktNum.read c.args.text.now c.args.at c.byte_at.result c.requires c.byte_at.ensures.value (λ r. let t = c.if-not-is_of_run.ensures.1 r in cc)
+returns-then-not-is_of_run-clause-none g c = none-unrun (g.N.Numbers.read c.args.numbers) c.args.text.now c.args.at c.byte_at.result c.requires c.byte_at.ensures.value (λ r. let t = c.if-not-is_of_run.ensures.1 r in cc)

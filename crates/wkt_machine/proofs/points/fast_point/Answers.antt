@@ -4,11 +4,11 @@ use Rattle.wkt_machine.proofs.ByteSteps.{point_name, point-held, shuts}
 use Rattle.wkt_machine.proofs.points.fast_point.Goals as goal
 
 pub returns : goal.returns
-returns g c =
+returns c =
     let (r, one, ex, fx) = c.in_ok-x.ensures in
     let (s, two, ey, fy) = c.in_ok-y.ensures in
-    point-held g.row.D c.args.text.now c.in_ok-opened.field-0.end c.in_ok-x.between c.in_ok-y.behind _ r s c.in_ok-x.x c.in_ok-y.y c.in_ok-opened.ensures.word one ex two ey
+    point-held c.args.places c.args.text.now c.in_ok-opened.field-0.end c.in_ok-x.between c.in_ok-y.behind _ r s c.in_ok-x.x c.in_ok-y.y c.in_ok-opened.ensures.word one ex two ey
     (shuts c.args.text.now c.in_ok-y.behind c.skip_white-close.result c.byte_at.result c.skip_white-close.ensures.order c.skip_white-close.ensures.same c.byte_at.ensures.value c.if-byte_at-ne41.false) fx fy
 
 pub plain-requires : goal.plain-requires
-plain-requires g c = (omega arith, (point_name, (omega arith, (omega arith, (omega arith, c.is_point.ensures)))))
+plain-requires c = (omega arith, (point_name, (omega arith, (omega arith, (omega arith, c.is_point.ensures)))))

@@ -22,7 +22,7 @@ drive-requires-clause-depth g c =
     omega (arith, few, same)
 
 pub drive-requires-clause-room : goal.drive-requires-clause-room
-drive-requires-clause-room g c = free_room (bytes_view false) tree_maker c.new-source.result c.new.result (λ n. tt) (λ x. refl)
+drive-requires-clause-room g c = free_room (bytes_view false) (tree_maker g.T.WktNum.read) c.new-source.result c.new.result (λ n. tt) (λ c x. refl) (λ never. absurd never)
 
 pub returns-in-Some-clause-found : goal.returns-in-Some-clause-found
 returns-in-Some-clause-found g c =
@@ -68,14 +68,14 @@ pub message_at-said-requires : goal.message_at-said-requires
 message_at-said-requires g c =
     let text = ap (λ x. x.now) c.new-source.ensures.text ∙ c.as_bytes.ensures.value in
     let at = stops_there g.T.WktNum.read c.args.text.now c.new-source.result text c.new-source.ensures.at c.utf8.text c.in-Err.stop.source c.in-Err.stop.machine
-    (refused g.T.WktNum.read (bytes_view false) tree_maker c.new-source.result c.new.result c.in-Err.stop c.in-Err.ensures.refused) in
+    (refused g.T.WktNum.read (bytes_view false) (tree_maker g.T.WktNum.read) c.new-source.result c.new.result c.in-Err.stop c.in-Err.ensures.refused) in
     record { inside = at.inside; stuck = at.stuck }
 
 pub returns-clause-no_front : goal.returns-clause-no_front
 returns-clause-no_front g c =
     let text = ap (λ x. x.now) c.new-source.ensures.text ∙ c.as_bytes.ensures.value in
     stops_no_front g.T.WktNum.read c.args.text.now _ _ (stops_there g.T.WktNum.read c.args.text.now c.new-source.result text c.new-source.ensures.at c.utf8.text c.in-Err.stop.source c.in-Err.stop.machine
-    (refused g.T.WktNum.read (bytes_view false) tree_maker c.new-source.result c.new.result c.in-Err.stop c.in-Err.ensures.refused))
+    (refused g.T.WktNum.read (bytes_view false) (tree_maker g.T.WktNum.read) c.new-source.result c.new.result c.in-Err.stop c.in-Err.ensures.refused))
 
 pub returns-clause-refusal : goal.returns-clause-refusal
 returns-clause-refusal g c =
@@ -83,7 +83,7 @@ returns-clause-refusal g c =
       c.message_at-said.result,
       c.text.ensures,
       stops_message g.T.WktNum.read c.args.text.now _ _ (stops_there g.T.WktNum.read c.args.text.now c.new-source.result text c.new-source.ensures.at c.utf8.text c.in-Err.stop.source c.in-Err.stop.machine
-          (refused g.T.WktNum.read (bytes_view false) tree_maker c.new-source.result c.new.result c.in-Err.stop c.in-Err.ensures.refused)) c.message_at-said.result c.message_at-said.ensures,
+          (refused g.T.WktNum.read (bytes_view false) (tree_maker g.T.WktNum.read) c.new-source.result c.new.result c.in-Err.stop c.in-Err.ensures.refused)) c.message_at-said.result c.message_at-said.ensures,
     )
 
 pub returns-clause-bad : goal.returns-clause-bad

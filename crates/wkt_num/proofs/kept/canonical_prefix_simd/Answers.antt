@@ -9,13 +9,13 @@ use Rattle.wkt_num.proofs.kept.canonical_prefix_simd.Goals.{then-not-is_whole_nu
 
 pub returns-then-bytes-point-ne46-clause-keeps : goal.returns-then-bytes-point-ne46-clause-keeps
 returns-then-bytes-point-ne46-clause-keeps c =
-    keeps-whole c.args.places c.args.bytes.now c.after_minus-first.result c.in-Some.point c.if-places-gt-SHORT_PLACES.false c.after_minus-first.ensures.sign c.if-not-is_whole_number.ensures.whole c.if-not-is_whole_number.ensures.zero (λ _. c.if-is_of_run.ensures)
+    keeps-whole c.args.places c.args.bytes.now c.after_minus-first.result c.in-Some.point c.after_minus-first.ensures.sign c.if-not-is_whole_number.ensures.whole c.if-not-is_whole_number.ensures.zero (λ _. c.if-is_of_run.ensures)
 
 pub returns-then-is_plain-clause-keeps : goal.returns-then-is_plain-clause-keeps
 returns-then-is_plain-clause-keeps c =
     let p = c.in-Some in
     let e = c.in-Some-first_other in
-    keeps-plain c.args.places c.args.bytes.now c.after_minus-first.result p.point e.end c.if-places-gt-SHORT_PLACES.false c.after_minus-first.ensures.sign p.ensures.some.order p.ensures.some.digits
+    keeps-plain c.args.places c.args.bytes.now c.after_minus-first.result p.point e.end c.after_minus-first.ensures.sign p.ensures.some.order p.ensures.some.digits
     (omega (arith, e.ensures.some.order)) (omega (arith, e.ensures.some.within, c.requires)) c.if-bytes-point-ne46.false e.ensures.some.digits (λ _. c.if-is_of_run-2.ensures) c.if-is_plain.ensures
 
 pub returns-in_default-clause-finds : goal.returns-in_default-clause-finds

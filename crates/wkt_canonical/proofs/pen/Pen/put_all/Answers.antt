@@ -12,6 +12,7 @@ returns g c =
     let same : ys ≡ c.args.text.now = c.copy_from_slice.ensures.after in
     let n = p.len + length c.args.text.now in
     record {
+      numbers = refl;
       origin = refl;
       whole = length-stored p.len (n - p.len) xs ys (omega (arith, ap length same)) (omega arith);
       len = refl;

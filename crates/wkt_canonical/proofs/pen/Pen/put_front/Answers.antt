@@ -14,6 +14,7 @@ returns g c =
     let n = c.args.n in
     let long : length (take 32 w) ≡ 32 = length-take-le 32 w c.requires.window in
     record {
+      numbers = refl;
       origin = refl;
       whole = length-put_chunk p.len xs (chunk 0 32 w);
       len = omega (arith, length-take-le n w (omega arith));

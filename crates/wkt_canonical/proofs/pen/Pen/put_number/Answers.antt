@@ -6,7 +6,7 @@ use Rattle.wkt_canonical.proofs.pen.Pen.put_number.Goals as goal
 
 pub returns-in-Some-clause-some : goal.returns-in-Some-clause-some
 returns-in-Some-clause-some g c =
-    let read = g.T.WktNum.read in
-    let num = g.T.WktNum.num in
+    let read = g.N.Numbers.read c.args.self.numbers in
+    let num = g.N.Numbers.num c.args.self.numbers in
     let law : ReadsTexts read = search rules in
-    kept-numbered read num (num_utf8 read num g.T.WktNum.is_value g.met.T.WktNum.reads_values g.met.T.WktNum.reads_back law) c.args.text.now c.args.at c.in-Some.end c.in-Some.kept c.args.self c.put_front.result c.requires.at c.in-Some.ensures.keeps c.put_front.ensures
+    kept-numbered read num (num_utf8 read num (g.N.Numbers.is_value c.args.self.numbers) (g.met.N.Numbers.reads_values c.args.self.numbers) (g.met.N.Numbers.reads_back c.args.self.numbers) law) c.args.text.now c.args.at c.in-Some.end c.in-Some.kept c.args.self c.put_front.result c.requires.at c.in-Some.ensures.keeps c.put_front.ensures

@@ -13,11 +13,11 @@ use Rattle.wkt_machine.proofs.machine.Machine.after_kind.Goals as goal
 
 pub returns-in-None-clause-on : goal.returns-in-None-clause-on
 returns-in-None-clause-on g c =
-    taken g.T.WktNum.read g.S.Source.view g.B.Builder.maker c.args.self c.begun.result c.args.source c.skip.result c.args.builder c.args.builder c.on.result _ _ (sees.Kind c.args.kind c.args.joined) (sees.Kind c.args.kind None) next.Kind c.on.ensures c.requires.seen c.requires.state (ap (sees.Kind c.args.kind) c.in-None.is) refl c.skip.ensures refl (ap state_of c.begun.ensures ∙ ap (λ p. at c.args.self.depth (place.Alone p)) c.part_of-part.ensures) (g.B.Builder.maker.none c.args.builder) (subst IsSound (sym c.begun.ensures) tt)
+    taken (g.B.Builder.maker.reads c.args.builder) g.S.Source.view g.B.Builder.maker c.args.self c.begun.result c.args.source c.skip.result c.args.builder c.args.builder c.on.result _ _ (sees.Kind c.args.kind c.args.joined) (sees.Kind c.args.kind None) next.Kind c.on.ensures c.requires.seen c.requires.state (ap (sees.Kind c.args.kind) c.in-None.is) refl c.skip.ensures refl (ap state_of c.begun.ensures ∙ ap (λ p. at c.args.self.depth (place.Alone p)) c.part_of-part.ensures) (g.B.Builder.maker.none c.args.builder) (subst IsSound (sym c.begun.ensures) tt)
 
 pub returns-in-Some-clause-on : goal.returns-in-Some-clause-on
 returns-in-Some-clause-on g c =
-    taken g.T.WktNum.read g.S.Source.view g.B.Builder.maker c.args.self c.begun-in-Some.result c.args.source c.skip-in-Some.result c.args.builder c.begin.result c.on-in-Some.result _ _ (sees.Kind c.args.kind c.args.joined) (sees.Kind c.args.kind (Some c.in-Some.dim)) next.Kind c.on-in-Some.ensures c.requires.seen c.requires.state (ap (sees.Kind c.args.kind) c.in-Some.is) refl c.skip-in-Some.ensures refl (ap state_of c.begun-in-Some.ensures ∙ ap (λ p. at c.args.self.depth (place.Opening p c.in-Some.dim)) c.part_of-part.ensures) (subst (λ p. g.B.Builder.maker.makes c.args.builder (Event.Header p c.in-Some.dim ∷ []) c.begin.result) c.part_of-part.ensures c.begin.ensures.makes) (subst IsSound (sym c.begun-in-Some.ensures) tt)
+    taken (g.B.Builder.maker.reads c.args.builder) g.S.Source.view g.B.Builder.maker c.args.self c.begun-in-Some.result c.args.source c.skip-in-Some.result c.args.builder c.begin.result c.on-in-Some.result _ _ (sees.Kind c.args.kind c.args.joined) (sees.Kind c.args.kind (Some c.in-Some.dim)) next.Kind c.on-in-Some.ensures c.requires.seen c.requires.state (ap (sees.Kind c.args.kind) c.in-Some.is) refl c.skip-in-Some.ensures refl (ap state_of c.begun-in-Some.ensures ∙ ap (λ p. at c.args.self.depth (place.Opening p c.in-Some.dim)) c.part_of-part.ensures) (subst (λ p. g.B.Builder.maker.makes c.args.builder (Event.Header p c.in-Some.dim ∷ []) c.begin.result) c.part_of-part.ensures c.begin.ensures.makes) (subst IsSound (sym c.begun-in-Some.ensures) tt)
 
 pub begin-requires : goal.begin-requires
 begin-requires g c =

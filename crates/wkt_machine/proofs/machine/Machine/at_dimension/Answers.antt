@@ -11,20 +11,20 @@ use Rattle.wkt_machine.proofs.RoomForRest.{inside_owes, outside_owes, no_room, l
 
 pub returns-in-Dimension-clause-on : goal.returns-in-Dimension-clause-on
 returns-in-Dimension-clause-on g c =
-    taken g.T.WktNum.read g.S.Source.view g.B.Builder.maker c.args.self c.begun.result c.args.source c.skip.result c.args.builder c.begin.result c.on.result _ _ c.args.seen (sees.Dimension c.in-Dimension.dim) next.Dimension c.on.ensures c.requires.seen c.requires.state c.in-Dimension.is refl c.skip.ensures refl (ap state_of c.begun.ensures) c.begin.ensures.makes (subst IsSound (sym c.begun.ensures) tt)
+    taken (g.B.Builder.maker.reads c.args.builder) g.S.Source.view g.B.Builder.maker c.args.self c.begun.result c.args.source c.skip.result c.args.builder c.begin.result c.on.result _ _ c.args.seen (sees.Dimension c.in-Dimension.dim) next.Dimension c.on.ensures c.requires.seen c.requires.state c.in-Dimension.is refl c.skip.ensures refl (ap state_of c.begun.ensures) c.begin.ensures.makes (subst IsSound (sym c.begun.ensures) tt)
 
 pub returns-in-Open-clause-on : goal.returns-in-Open-clause-on
 returns-in-Open-clause-on g c =
-    taken g.T.WktNum.read g.S.Source.view g.B.Builder.maker c.args.self c.inside.result c.args.source c.skip-in-Open.result c.args.builder c.open.result c.on-in-Open.result _ _ c.args.seen sees.Open next.Dimension c.on-in-Open.ensures c.requires.seen c.requires.state c.in-Open.is refl c.skip-in-Open.ensures refl (c.inside.ensures.state ∙ ap (λ m. inside m.part m.dim m.depth) c.begun-in-Open.ensures) (g.B.Builder.maker.more _ _ _ _ _ c.begin-in-Open.ensures.makes c.open.ensures.makes) c.inside.ensures.sound
+    taken (g.B.Builder.maker.reads c.args.builder) g.S.Source.view g.B.Builder.maker c.args.self c.inside.result c.args.source c.skip-in-Open.result c.args.builder c.open.result c.on-in-Open.result _ _ c.args.seen sees.Open next.Dimension c.on-in-Open.ensures c.requires.seen c.requires.state c.in-Open.is refl c.skip-in-Open.ensures refl (c.inside.ensures.state ∙ ap (λ m. inside m.part m.dim m.depth) c.begun-in-Open.ensures) (g.B.Builder.maker.more _ _ _ _ _ c.begin-in-Open.ensures.makes c.open.ensures.makes) c.inside.ensures.sound
 
 pub returns-in-Empty-clause-on : goal.returns-in-Empty-clause-on
 returns-in-Empty-clause-on g c =
-    taken g.T.WktNum.read g.S.Source.view g.B.Builder.maker c.args.self c.outside.result c.args.source c.skip-in-Empty.result c.args.builder c.empty.result c.on-in-Empty.result _ _ c.args.seen sees.Empty next.Dimension c.on-in-Empty.ensures c.requires.seen c.requires.state c.in-Empty.is refl c.skip-in-Empty.ensures refl (c.outside.ensures.state ∙ ap (λ m. outside m.part m.dim m.depth) c.begun-in-Empty.ensures) (g.B.Builder.maker.more _ _ _ _ _ c.begin-in-Empty.ensures.makes c.empty.ensures.makes) c.outside.ensures.sound
+    taken (g.B.Builder.maker.reads c.args.builder) g.S.Source.view g.B.Builder.maker c.args.self c.outside.result c.args.source c.skip-in-Empty.result c.args.builder c.empty.result c.on-in-Empty.result _ _ c.args.seen sees.Empty next.Dimension c.on-in-Empty.ensures c.requires.seen c.requires.state c.in-Empty.is refl c.skip-in-Empty.ensures refl (c.outside.ensures.state ∙ ap (λ m. outside m.part m.dim m.depth) c.begun-in-Empty.ensures) (g.B.Builder.maker.more _ _ _ _ _ c.begin-in-Empty.ensures.makes c.empty.ensures.makes) c.outside.ensures.sound
 
 pub returns-in_default : goal.returns-in_default
 returns-in_default g c = record {
-  on = is_err g.T.WktNum.read g.S.Source.view g.B.Builder.maker c.args.self c.args.source c.args.builder c.refused.result _ c.refused.ensures;
-  refused = put_back g.T.WktNum.read g.S.Source.view g.B.Builder.maker c.args.self c.args.source c.args.builder c.refused.result c.args.seen next.Dimension c.refused.ensures c.requires.seen c.requires.state refl (alone_none c.args.self.part c.args.self.depth c.args.seen c.in_default.not-Dimension c.in_default.not-Open c.in_default.not-Empty);
+  on = is_err (g.B.Builder.maker.reads c.args.builder) g.S.Source.view g.B.Builder.maker c.args.self c.args.source c.args.builder c.refused.result _ c.refused.ensures;
+  refused = put_back (g.B.Builder.maker.reads c.args.builder) g.S.Source.view g.B.Builder.maker c.args.self c.args.source c.args.builder c.refused.result c.args.seen next.Dimension c.refused.ensures c.requires.seen c.requires.state refl (alone_none c.args.self.part c.args.self.depth c.args.seen c.in_default.not-Dimension c.in_default.not-Open c.in_default.not-Empty);
   room = no_room (RoomAt g.S.Source.view g.B.Builder.maker) c.refused.result _ c.refused.ensures;
 }
 

@@ -9,7 +9,7 @@ use Rattle.wkt_machine.proofs.machine.Machine.at_empty.Goals as goal
 
 pub returns-clause-on : goal.returns-clause-on
 returns-clause-on g c =
-    taken g.T.WktNum.read g.S.Source.view g.B.Builder.maker c.args.self c.outside.result c.args.source c.skip.result c.args.builder c.empty.result c.on.result _ _ sees.Empty sees.Empty next.Opening c.on.ensures c.requires.seen c.requires.state refl refl c.skip.ensures refl c.outside.ensures.state c.empty.ensures.makes c.outside.ensures.sound
+    taken (g.B.Builder.maker.reads c.args.builder) g.S.Source.view g.B.Builder.maker c.args.self c.outside.result c.args.source c.skip.result c.args.builder c.empty.result c.on.result _ _ sees.Empty sees.Empty next.Opening c.on.ensures c.requires.seen c.requires.state refl refl c.skip.ensures refl c.outside.ensures.state c.empty.ensures.makes c.outside.ensures.sound
 
 pub empty-requires : goal.empty-requires
 empty-requires g c = record { room = fits_seen g.S.Source.view g.B.Builder.maker 0 6 sees.Empty c.args.source c.args.builder c.requires.seen (omega arith) c.requires.room }

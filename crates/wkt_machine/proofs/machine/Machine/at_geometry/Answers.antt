@@ -10,16 +10,16 @@ use Rattle.wkt_machine.proofs.machine.Machine.at_geometry.Goals as goal
 
 pub returns-then-is_close-clause-on : goal.returns-then-is_close-clause-on
 returns-then-is_close-clause-on g c =
-    taken g.T.WktNum.read g.S.Source.view g.B.Builder.maker c.args.self c.shallower.result c.args.source c.skip.result c.args.builder c.close.result c.on.result _ _ c.args.seen sees.Close next.Geometry c.on.ensures c.requires.seen c.requires.state c.if-is_close.ensures.on refl c.skip.ensures (inner_close c.args.self.depth c.requires.inner) c.shallower.ensures.state c.close.ensures.makes c.shallower.ensures.sound
+    taken (g.B.Builder.maker.reads c.args.builder) g.S.Source.view g.B.Builder.maker c.args.self c.shallower.result c.args.source c.skip.result c.args.builder c.close.result c.on.result _ _ c.args.seen sees.Close next.Geometry c.on.ensures c.requires.seen c.requires.state c.if-is_close.ensures.on refl c.skip.ensures (inner_close c.args.self.depth c.requires.inner) c.shallower.ensures.state c.close.ensures.makes c.shallower.ensures.sound
 
 pub returns-then-is_comma-clause-on : goal.returns-then-is_comma-clause-on
 returns-then-is_comma-clause-on g c =
-    taken g.T.WktNum.read g.S.Source.view g.B.Builder.maker c.args.self c.to.result c.args.source c.skip-then-is_comma.result c.args.builder c.comma.result c.on-then-is_comma.result _ _ c.args.seen sees.Comma next.Geometry c.on-then-is_comma.ensures c.requires.seen c.requires.state c.if-is_comma.ensures.on refl c.skip-then-is_comma.ensures (inner_comma c.args.self.depth c.requires.inner) (ap state_of c.to.ensures) c.comma.ensures.makes (subst IsSound (sym c.to.ensures) tt)
+    taken (g.B.Builder.maker.reads c.args.builder) g.S.Source.view g.B.Builder.maker c.args.self c.to.result c.args.source c.skip-then-is_comma.result c.args.builder c.comma.result c.on-then-is_comma.result _ _ c.args.seen sees.Comma next.Geometry c.on-then-is_comma.ensures c.requires.seen c.requires.state c.if-is_comma.ensures.on refl c.skip-then-is_comma.ensures (inner_comma c.args.self.depth c.requires.inner) (ap state_of c.to.ensures) c.comma.ensures.makes (subst IsSound (sym c.to.ensures) tt)
 
 pub returns-else-is_comma : goal.returns-else-is_comma
 returns-else-is_comma g c = record {
-  on = is_err g.T.WktNum.read g.S.Source.view g.B.Builder.maker c.args.self c.args.source c.args.builder c.refused.result _ c.refused.ensures;
-  refused = put_back g.T.WktNum.read g.S.Source.view g.B.Builder.maker c.args.self c.args.source c.args.builder c.refused.result c.args.seen next.Geometry c.refused.ensures c.requires.seen c.requires.state (inner_open c.args.self.depth c.requires.inner) (geometry_none c.args.self.depth c.args.seen c.if-is_close.ensures.off c.if-is_comma.ensures.off);
+  on = is_err (g.B.Builder.maker.reads c.args.builder) g.S.Source.view g.B.Builder.maker c.args.self c.args.source c.args.builder c.refused.result _ c.refused.ensures;
+  refused = put_back (g.B.Builder.maker.reads c.args.builder) g.S.Source.view g.B.Builder.maker c.args.self c.args.source c.args.builder c.refused.result c.args.seen next.Geometry c.refused.ensures c.requires.seen c.requires.state (inner_open c.args.self.depth c.requires.inner) (geometry_none c.args.self.depth c.args.seen c.if-is_close.ensures.off c.if-is_comma.ensures.off);
   room = no_room (RoomAt g.S.Source.view g.B.Builder.maker) c.refused.result _ c.refused.ensures;
 }
 

@@ -9,12 +9,12 @@ use Rattle.wkt_machine.proofs.machine.Machine.at_item.Goals as goal
 
 pub returns-then-is_close-clause-on : goal.returns-then-is_close-clause-on
 returns-then-is_close-clause-on g c =
-    taken g.T.WktNum.read g.S.Source.view g.B.Builder.maker c.args.self c.outside.result c.args.source c.skip.result c.args.builder c.close.result c.on.result _ _ c.args.seen sees.Close next.Item c.on.ensures c.requires.seen c.requires.state c.if-is_close.ensures.on refl c.skip.ensures refl c.outside.ensures.state c.close.ensures.makes c.outside.ensures.sound
+    taken (g.B.Builder.maker.reads c.args.builder) g.S.Source.view g.B.Builder.maker c.args.self c.outside.result c.args.source c.skip.result c.args.builder c.close.result c.on.result _ _ c.args.seen sees.Close next.Item c.on.ensures c.requires.seen c.requires.state c.if-is_close.ensures.on refl c.skip.ensures refl c.outside.ensures.state c.close.ensures.makes c.outside.ensures.sound
 
 pub returns-else-is_comma : goal.returns-else-is_comma
 returns-else-is_comma g c = record {
-  on = is_err g.T.WktNum.read g.S.Source.view g.B.Builder.maker c.args.self c.args.source c.args.builder c.refused.result _ c.refused.ensures;
-  refused = put_back g.T.WktNum.read g.S.Source.view g.B.Builder.maker c.args.self c.args.source c.args.builder c.refused.result c.args.seen next.Item c.refused.ensures c.requires.seen c.requires.state refl (item_none c.args.self.part c.args.self.dim c.args.self.depth c.args.seen c.if-is_close.ensures.off c.if-is_comma.ensures.off);
+  on = is_err (g.B.Builder.maker.reads c.args.builder) g.S.Source.view g.B.Builder.maker c.args.self c.args.source c.args.builder c.refused.result _ c.refused.ensures;
+  refused = put_back (g.B.Builder.maker.reads c.args.builder) g.S.Source.view g.B.Builder.maker c.args.self c.args.source c.args.builder c.refused.result c.args.seen next.Item c.refused.ensures c.requires.seen c.requires.state refl (item_none c.args.self.part c.args.self.dim c.args.self.depth c.args.seen c.if-is_close.ensures.off c.if-is_comma.ensures.off);
   room = no_room (RoomAt g.S.Source.view g.B.Builder.maker) c.refused.result _ c.refused.ensures;
 }
 

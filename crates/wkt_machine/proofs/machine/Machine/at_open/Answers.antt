@@ -9,7 +9,7 @@ use Rattle.wkt_machine.proofs.machine.Machine.at_open.Goals as goal
 
 pub returns-clause-on : goal.returns-clause-on
 returns-clause-on g c =
-    taken g.T.WktNum.read g.S.Source.view g.B.Builder.maker c.args.self c.inside.result c.args.source c.skip.result c.args.builder c.open.result c.on.result _ _ sees.Open sees.Open next.Opening c.on.ensures c.requires.seen c.requires.state refl refl c.skip.ensures refl c.inside.ensures.state c.open.ensures.makes c.inside.ensures.sound
+    taken (g.B.Builder.maker.reads c.args.builder) g.S.Source.view g.B.Builder.maker c.args.self c.inside.result c.args.source c.skip.result c.args.builder c.open.result c.on.result _ _ sees.Open sees.Open next.Opening c.on.ensures c.requires.seen c.requires.state refl refl c.skip.ensures refl c.inside.ensures.state c.open.ensures.makes c.inside.ensures.sound
 
 pub open-requires : goal.open-requires
 open-requires g c = record { room = fits_seen g.S.Source.view g.B.Builder.maker 0 1 sees.Open c.args.source c.args.builder c.requires.seen (omega arith) c.requires.room }

@@ -10,11 +10,11 @@ use Rattle.wkt_machine.proofs.machine.Machine.bare.Goals as goal
 pub returns-in-Ok-clause-on : goal.returns-in-Ok-clause-on
 returns-in-Ok-clause-on g c =
     let takes = c.in-Ok.ensures.takes in
-    bare_number g.T.WktNum.read g.S.Source.view g.B.Builder.maker c.args.self c.begun.result c.args.source c.in-Ok.behind c.args.builder takes.opened c.in-Ok.made c.on.result c.on.ensures c.requires.state c.requires.part c.begun.ensures takes.opens takes.number
+    bare_number (g.B.Builder.maker.reads c.args.builder) g.S.Source.view g.B.Builder.maker c.args.self c.begun.result c.args.source c.in-Ok.behind c.args.builder takes.opened c.in-Ok.made c.on.result c.on.ensures c.requires.state c.requires.part c.begun.ensures takes.opens takes.number
 
 pub returns-in-Err-clause-refused : goal.returns-in-Err-clause-refused
 returns-in-Err-clause-refused g c =
-    unread g.T.WktNum.read g.S.Source.view g.B.Builder.maker c.args.self c.args.source c.in-Err.before c.args.builder c.in-Err.made c.refused.result c.refused.ensures c.requires.seen (ap (λ s. over_at (place_of s c.args.self.part c.args.self.dim) c.args.self.depth) c.requires.state) c.in-Err.ensures.stays c.in-Err.ensures.unread c.in-Err.ensures.nothing
+    unread (g.B.Builder.maker.reads c.args.builder) g.S.Source.view g.B.Builder.maker c.args.self c.args.source c.in-Err.before c.args.builder c.in-Err.made c.refused.result c.refused.ensures c.requires.seen (ap (λ s. over_at (place_of s c.args.self.part c.args.self.dim) c.args.self.depth) c.requires.state) c.in-Err.ensures.stays c.in-Err.ensures.unread c.in-Err.ensures.nothing
 
 pub returns-in-Ok-clause-room : goal.returns-in-Ok-clause-room
 returns-in-Ok-clause-room g c =

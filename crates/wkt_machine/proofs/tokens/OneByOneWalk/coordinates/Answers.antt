@@ -18,30 +18,30 @@ at_number-requires-in-Y-clause-sound g c = subst IsSound (sym c.anew.ensures) c.
 pub at_number-requires-in-Y-clause-room : goal.at_number-requires-in-Y-clause-room
 at_number-requires-in-Y-clause-room g c =
     let to = c.in_ok-behind.field-0 in
-    stays_room tokens_view g.B.Builder.maker 0 to.source c.look-seen-in-Y.result.1 to.builder c.look-seen-in-Y.ensures.stays
-    (state_room tokens_view g.B.Builder.maker to.machine next.Y to.source to.builder c.in-Y.is c.in_ok-behind.ensures.room)
+    stays_room (tokens_view g.T.WktNum.read) g.B.Builder.maker 0 to.source c.look-seen-in-Y.result.1 to.builder c.look-seen-in-Y.ensures.stays
+    (state_room (tokens_view g.T.WktNum.read) g.B.Builder.maker to.machine next.Y to.source to.builder c.in-Y.is c.in_ok-behind.ensures.room)
 
 pub returns-in_err-behind-clause-refused : goal.returns-in_err-behind-clause-refused
 returns-in_err-behind-clause-refused g c =
-    let refused : IfErr c.from_residual.result (Refuses g.T.WktNum.read tokens_view g.B.Builder.maker c.args.machine c.look-seen.result.1 c.args.builder) = search rules in
-    stays_refused g.T.WktNum.read tokens_view g.B.Builder.maker c.args.machine c.args.self c.look-seen.result.1 c.args.builder c.from_residual.result c.look-seen.ensures.stays refused
+    let refused : IfErr c.from_residual.result (Refuses (g.B.Builder.maker.reads c.args.builder) (tokens_view g.T.WktNum.read) g.B.Builder.maker c.args.machine c.look-seen.result.1 c.args.builder) = search rules in
+    stays_refused (g.B.Builder.maker.reads c.args.builder) (tokens_view g.T.WktNum.read) g.B.Builder.maker c.args.machine c.args.self c.look-seen.result.1 c.args.builder c.from_residual.result c.look-seen.ensures.stays refused
 
 pub returns-in-Y-clause-on : goal.returns-in-Y-clause-on
 returns-in-Y-clause-on g c =
-    let way = from_goes g.T.WktNum.read tokens_view g.B.Builder.maker c.args.machine c.args.self c.look-seen.result.1 c.args.builder c.in_ok-behind.field-0 c.look-seen.ensures.stays c.in_ok-behind.ensures.on in
-    looked_goes g.T.WktNum.read tokens_view g.B.Builder.maker c.args.machine _ c.args.self c.look-seen-in-Y.result.1 c.args.builder c.in_ok-behind.field-0 c.at_number-in-Y.result way c.anew.ensures c.look-seen-in-Y.ensures.stays c.at_number-in-Y.ensures.on
+    let way = from_goes (g.B.Builder.maker.reads c.args.builder) (tokens_view g.T.WktNum.read) g.B.Builder.maker c.args.machine c.args.self c.look-seen.result.1 c.args.builder c.in_ok-behind.field-0 c.look-seen.ensures.stays c.in_ok-behind.ensures.on in
+    looked_goes (tokens_view g.T.WktNum.read) g.B.Builder.maker c.args.machine _ c.args.self c.look-seen-in-Y.result.1 c.args.builder c.in_ok-behind.field-0 c.at_number-in-Y.result way c.anew.ensures c.look-seen-in-Y.ensures.stays c.at_number-in-Y.ensures.on
 
 pub returns-in-Y-clause-refused : goal.returns-in-Y-clause-refused
 returns-in-Y-clause-refused g c =
-    let way = from_goes g.T.WktNum.read tokens_view g.B.Builder.maker c.args.machine c.args.self c.look-seen.result.1 c.args.builder c.in_ok-behind.field-0 c.look-seen.ensures.stays c.in_ok-behind.ensures.on in
-    looked_refuses g.T.WktNum.read tokens_view g.B.Builder.maker c.args.machine _ c.args.self c.look-seen-in-Y.result.1 c.args.builder c.in_ok-behind.field-0 c.at_number-in-Y.result way c.anew.ensures c.look-seen-in-Y.ensures.stays c.at_number-in-Y.ensures.refused
+    let way = from_goes (g.B.Builder.maker.reads c.args.builder) (tokens_view g.T.WktNum.read) g.B.Builder.maker c.args.machine c.args.self c.look-seen.result.1 c.args.builder c.in_ok-behind.field-0 c.look-seen.ensures.stays c.in_ok-behind.ensures.on in
+    looked_refuses (tokens_view g.T.WktNum.read) g.B.Builder.maker c.args.machine _ c.args.self c.look-seen-in-Y.result.1 c.args.builder c.in_ok-behind.field-0 c.at_number-in-Y.result way c.anew.ensures c.look-seen-in-Y.ensures.stays c.at_number-in-Y.ensures.refused
 
 pub returns-in_default : goal.returns-in_default
 returns-in_default g c =
     let to = c.in_ok-behind.field-0 in
     let is : c.on.result ≡ Ok to = c.on.ensures ∙ ap (λ (m : Machine). Ok (record { source = to.source; machine = m; builder = to.builder })) c.anew-in_default.ensures in
     record {
-      on = subst (λ r. IfOk r (Goes g.T.WktNum.read tokens_view g.B.Builder.maker c.args.machine c.args.self c.args.builder)) (sym is) (from_goes g.T.WktNum.read tokens_view g.B.Builder.maker c.args.machine c.args.self c.look-seen.result.1 c.args.builder c.in_ok-behind.field-0 c.look-seen.ensures.stays c.in_ok-behind.ensures.on);
-      room = subst (λ r. IfOk r (RoomAt tokens_view g.B.Builder.maker)) (sym is) c.in_ok-behind.ensures.room;
-      refused = subst (λ r. IfErr r (Refuses g.T.WktNum.read tokens_view g.B.Builder.maker c.args.machine c.args.self c.args.builder)) (sym is) tt;
+      on = subst (λ r. IfOk r (Goes (g.B.Builder.maker.reads c.args.builder) (tokens_view g.T.WktNum.read) g.B.Builder.maker c.args.machine c.args.self c.args.builder)) (sym is) (from_goes (g.B.Builder.maker.reads c.args.builder) (tokens_view g.T.WktNum.read) g.B.Builder.maker c.args.machine c.args.self c.look-seen.result.1 c.args.builder c.in_ok-behind.field-0 c.look-seen.ensures.stays c.in_ok-behind.ensures.on);
+      room = subst (λ r. IfOk r (RoomAt (tokens_view g.T.WktNum.read) g.B.Builder.maker)) (sym is) c.in_ok-behind.ensures.room;
+      refused = subst (λ r. IfErr r (Refuses (g.B.Builder.maker.reads c.args.builder) (tokens_view g.T.WktNum.read) g.B.Builder.maker c.args.machine c.args.self c.args.builder)) (sym is) tt;
     }

@@ -14,37 +14,37 @@ use Rattle.wkt_machine.proofs.tokens.OneByOneWalk.header.Goals as goal
 
 pub at_dimension-requires-clause-depth : goal.at_dimension-requires-clause-depth
 at_dimension-requires-clause-depth g c =
-    let more = goes_room g.T.WktNum.read tokens_view g.B.Builder.maker c.args.machine c.look-seen.result.1 c.args.builder c.in_ok-behind.field-0 c.in_ok-behind.ensures.on in
+    let more = goes_room (g.B.Builder.maker.reads c.args.builder) (tokens_view g.T.WktNum.read) g.B.Builder.maker c.args.machine c.look-seen.result.1 c.args.builder c.in_ok-behind.field-0 c.in_ok-behind.ensures.on in
     omega (arith, more, ap length c.look-seen.ensures.stays.remaining, ap length c.look-seen-in-Dimension.ensures.stays.remaining, c.requires.depth, ap (λ (m : Machine). m.depth) c.anew.ensures)
 
 pub at_dimension-requires-clause-room : goal.at_dimension-requires-clause-room
 at_dimension-requires-clause-room g c =
     let to = c.in_ok-behind.field-0 in
-    subst (λ (m : Machine). HasRoom tokens_view g.B.Builder.maker (header_cost m.part) c.look-seen-in-Dimension.result.1 to.builder) (sym c.anew.ensures)
-    (stays_room tokens_view g.B.Builder.maker (header_cost to.machine.part) to.source c.look-seen-in-Dimension.result.1 to.builder c.look-seen-in-Dimension.ensures.stays
-    (state_room tokens_view g.B.Builder.maker to.machine next.Dimension to.source to.builder c.in-Dimension.is c.in_ok-behind.ensures.room))
+    subst (λ (m : Machine). HasRoom (tokens_view g.T.WktNum.read) g.B.Builder.maker (header_cost m.part) c.look-seen-in-Dimension.result.1 to.builder) (sym c.anew.ensures)
+    (stays_room (tokens_view g.T.WktNum.read) g.B.Builder.maker (header_cost to.machine.part) to.source c.look-seen-in-Dimension.result.1 to.builder c.look-seen-in-Dimension.ensures.stays
+    (state_room (tokens_view g.T.WktNum.read) g.B.Builder.maker to.machine next.Dimension to.source to.builder c.in-Dimension.is c.in_ok-behind.ensures.room))
 
 pub returns-in_err-behind-clause-refused : goal.returns-in_err-behind-clause-refused
 returns-in_err-behind-clause-refused g c =
-    let refused : IfErr c.from_residual.result (Refuses g.T.WktNum.read tokens_view g.B.Builder.maker c.args.machine c.look-seen.result.1 c.args.builder) = search rules in
-    stays_refused g.T.WktNum.read tokens_view g.B.Builder.maker c.args.machine c.args.self c.look-seen.result.1 c.args.builder c.from_residual.result c.look-seen.ensures.stays refused
+    let refused : IfErr c.from_residual.result (Refuses (g.B.Builder.maker.reads c.args.builder) (tokens_view g.T.WktNum.read) g.B.Builder.maker c.args.machine c.look-seen.result.1 c.args.builder) = search rules in
+    stays_refused (g.B.Builder.maker.reads c.args.builder) (tokens_view g.T.WktNum.read) g.B.Builder.maker c.args.machine c.args.self c.look-seen.result.1 c.args.builder c.from_residual.result c.look-seen.ensures.stays refused
 
 pub returns-in-Dimension-clause-on : goal.returns-in-Dimension-clause-on
 returns-in-Dimension-clause-on g c =
-    let way = from_goes g.T.WktNum.read tokens_view g.B.Builder.maker c.args.machine c.args.self c.look-seen.result.1 c.args.builder c.in_ok-behind.field-0 c.look-seen.ensures.stays c.in_ok-behind.ensures.on in
-    looked_goes g.T.WktNum.read tokens_view g.B.Builder.maker c.args.machine _ c.args.self c.look-seen-in-Dimension.result.1 c.args.builder c.in_ok-behind.field-0 c.at_dimension.result way c.anew.ensures c.look-seen-in-Dimension.ensures.stays c.at_dimension.ensures.on
+    let way = from_goes (g.B.Builder.maker.reads c.args.builder) (tokens_view g.T.WktNum.read) g.B.Builder.maker c.args.machine c.args.self c.look-seen.result.1 c.args.builder c.in_ok-behind.field-0 c.look-seen.ensures.stays c.in_ok-behind.ensures.on in
+    looked_goes (tokens_view g.T.WktNum.read) g.B.Builder.maker c.args.machine _ c.args.self c.look-seen-in-Dimension.result.1 c.args.builder c.in_ok-behind.field-0 c.at_dimension.result way c.anew.ensures c.look-seen-in-Dimension.ensures.stays c.at_dimension.ensures.on
 
 pub returns-in-Dimension-clause-refused : goal.returns-in-Dimension-clause-refused
 returns-in-Dimension-clause-refused g c =
-    let way = from_goes g.T.WktNum.read tokens_view g.B.Builder.maker c.args.machine c.args.self c.look-seen.result.1 c.args.builder c.in_ok-behind.field-0 c.look-seen.ensures.stays c.in_ok-behind.ensures.on in
-    looked_refuses g.T.WktNum.read tokens_view g.B.Builder.maker c.args.machine _ c.args.self c.look-seen-in-Dimension.result.1 c.args.builder c.in_ok-behind.field-0 c.at_dimension.result way c.anew.ensures c.look-seen-in-Dimension.ensures.stays c.at_dimension.ensures.refused
+    let way = from_goes (g.B.Builder.maker.reads c.args.builder) (tokens_view g.T.WktNum.read) g.B.Builder.maker c.args.machine c.args.self c.look-seen.result.1 c.args.builder c.in_ok-behind.field-0 c.look-seen.ensures.stays c.in_ok-behind.ensures.on in
+    looked_refuses (tokens_view g.T.WktNum.read) g.B.Builder.maker c.args.machine _ c.args.self c.look-seen-in-Dimension.result.1 c.args.builder c.in_ok-behind.field-0 c.at_dimension.result way c.anew.ensures c.look-seen-in-Dimension.ensures.stays c.at_dimension.ensures.refused
 
 pub returns-in_default : goal.returns-in_default
 returns-in_default g c =
     let to = c.in_ok-behind.field-0 in
     let is : c.on.result ≡ Ok to = c.on.ensures ∙ ap (λ (m : Machine). Ok (record { source = to.source; machine = m; builder = to.builder })) c.anew-in_default.ensures in
     record {
-      on = subst (λ r. IfOk r (Goes g.T.WktNum.read tokens_view g.B.Builder.maker c.args.machine c.args.self c.args.builder)) (sym is) (from_goes g.T.WktNum.read tokens_view g.B.Builder.maker c.args.machine c.args.self c.look-seen.result.1 c.args.builder c.in_ok-behind.field-0 c.look-seen.ensures.stays c.in_ok-behind.ensures.on);
-      room = subst (λ r. IfOk r (RoomAt tokens_view g.B.Builder.maker)) (sym is) c.in_ok-behind.ensures.room;
-      refused = subst (λ r. IfErr r (Refuses g.T.WktNum.read tokens_view g.B.Builder.maker c.args.machine c.args.self c.args.builder)) (sym is) tt;
+      on = subst (λ r. IfOk r (Goes (g.B.Builder.maker.reads c.args.builder) (tokens_view g.T.WktNum.read) g.B.Builder.maker c.args.machine c.args.self c.args.builder)) (sym is) (from_goes (g.B.Builder.maker.reads c.args.builder) (tokens_view g.T.WktNum.read) g.B.Builder.maker c.args.machine c.args.self c.look-seen.result.1 c.args.builder c.in_ok-behind.field-0 c.look-seen.ensures.stays c.in_ok-behind.ensures.on);
+      room = subst (λ r. IfOk r (RoomAt (tokens_view g.T.WktNum.read) g.B.Builder.maker)) (sym is) c.in_ok-behind.ensures.room;
+      refused = subst (λ r. IfErr r (Refuses (g.B.Builder.maker.reads c.args.builder) (tokens_view g.T.WktNum.read) g.B.Builder.maker c.args.machine c.args.self c.args.builder)) (sym is) tt;
     }

@@ -5,22 +5,22 @@ use Rattle.wkt_c.specs.Column.{row_count, row, is_null}
 use Rattle.wkt_c.specs.ColumnArrays.{IsRowArrays}
 use Rattle.wkt_c.specs.Rows.{HoldsArrays}
 use Rattle.wkt_c.proofs.Columns.{below, no-arrays-yet, one-row-more}
-use Rattle.wkt_c.proofs.column_arrays.arrays_of.Goals as goal
+use Rattle.wkt_c.proofs.column_arrays.all_arrays.Goals as goal
 
 pub slice_bounds-text-end : goal.slice_bounds-text-end
-slice_bounds-text-end g c = below c.args.given.texts.now c.args.given.offsets.now c.requires.offsets (c.loop-i.i + 1) (omega arith)
+slice_bounds-text-end c = below c.args.given.texts.now c.args.given.offsets.now c.requires.offsets (c.loop-i.i + 1) (omega arith)
 
 pub loop-i-init : goal.loop-i-init
-loop-i-init g c = no-arrays-yet (places_in c.args.asked) (asks_whole c.args.asked) c.args.given.texts.now c.args.given.offsets.now c.args.given.valid.now c.in_ok-rows.rows c.in_ok-rows.ensures
+loop-i-init c = no-arrays-yet (places_in c.args.asked) (asks_whole c.args.asked) c.args.given.texts.now c.args.given.offsets.now c.args.given.valid.now c.in_ok-rows.rows c.in_ok-rows.ensures
 
 pub loop-i-preserved : goal.loop-i-preserved
-loop-i-preserved g c =
+loop-i-preserved c =
     let a = c.in_ok-add_row.ensures in
     let given = c.args.given in
     one-row-more (places_in c.args.asked) (asks_whole c.args.asked) given.texts.now given.offsets.now given.valid.now c.loop-i.i a.row a.status _ _ c.loop-i.invariant a.added
     (subst (λ n. IsRowArrays (places_in c.args.asked) (asks_whole c.args.asked) n (row given.texts.now given.offsets.now c.loop-i.i) a.row a.status) {x = c.is_null-null.result} {y = is_null given.valid.now c.loop-i.i} c.is_null-null.ensures a.is)
 
 pub returns : goal.returns
-returns g c =
+returns c =
     let all : c.loop-i.i ≡ row_count c.args.given.offsets.now = omega arith in
     subst (λ n. HoldsArrays (places_in c.args.asked) (asks_whole c.args.asked) c.args.given.texts.now c.args.given.offsets.now c.args.given.valid.now n c.loop-i.rows) all c.loop-i.invariant

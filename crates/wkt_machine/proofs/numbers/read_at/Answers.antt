@@ -1,6 +1,0 @@
--- The number that the window shows stands there.
-use Rattle.wkt_machine.proofs.ByteViews.{shown-there}
-use Rattle.wkt_machine.proofs.numbers.read_at.Goals as goal
-
-pub returns-in-Some-clause-some : goal.returns-in-Some-clause-some
-returns-in-Some-clause-some g c = shown-there g.T.WktNum.read c.args.text.now c.args.at c.requires _ _ c.in-Some.ensures.reads

@@ -1,0 +1,6 @@
+-- The number that the window shows stands there.
+use Rattle.wkt_machine.proofs.ByteViews.{shown-there}
+use Rattle.wkt_machine.proofs.numbers.read_by.Goals as goal
+
+pub returns-in-Some-clause-some : goal.returns-in-Some-clause-some
+returns-in-Some-clause-some g c = shown-there (g.N.Numbers.read c.args.numbers) c.args.text.now c.args.at c.requires _ _ c.in-Some.ensures.reads
