@@ -3,7 +3,7 @@
 #
 # build.sh [--twice] FILE: into that file. It proves and builds the crate for WebAssembly with addresses of 64 bits, over the
 # libraries that `rt ci` left in crates/*/out/rlib, links it, and lowers the addresses to 32 bits by binaryen's wasm-opt, since
-# not every engine has the wide ones. web/order.py puts its functions in order. It fails where the module imports anything.
+# not every engine has the wide ones. It fails where the module imports anything.
 # --twice: two builds have to have the same bytes. INCREMENTAL=yes: the proof begins with what `rt check` left of the crate.
 # build.sh [--twice] --dist: into dist/wasm, with a PROVENANCE. Run it after .ci/run, in that checkout.
 set -eu
@@ -23,8 +23,7 @@ built() {
     "$kit/bin/rattle-link" --target wasm64-unknown-unknown --toolchain "$kit/toolchain" -o "$work/wkt64.wasm" "$work/wkt.a" > "$work/said" 2>&1 ||
         { cat "$work/said"; stop "the module isn't linked"; }
     wasm-opt --enable-memory64 --enable-bulk-memory --enable-sign-ext --enable-mutable-globals --enable-nontrapping-float-to-int \
-        --memory64-lowering --strip-debug --strip-producers "$work/wkt64.wasm" -o "$work/wkt32.wasm"
-    web/order.py "$work/wkt32.wasm" "$1"
+        --memory64-lowering --strip-debug --strip-producers "$work/wkt64.wasm" -o "$1"
 }
 
 built "$work/wkt.wasm"
