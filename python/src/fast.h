@@ -75,7 +75,7 @@ wkt_status answer(State *state, const Cell *cell, uint32_t places, Room *out);
 wkt_status status_of(State *state, const Cell *cell, uint32_t places);
 wkt_status compared(State *state, const Cell *one, const Cell *other, uint32_t places, uint32_t *same);
 /* From where on other threads run during a call for one text. */
-enum { LONG_TEXT = 4096, LONG_ROW = 512 };
+enum { LONG_TEXT = 4096, LONG_ROW = 512, MOST_PLACES = 36 };
 /* What a block has, between which signals are handled. */
 enum { MOST_ROWS = 1 << 15, MOST_BYTES = 1 << 20 };
 

@@ -48,7 +48,7 @@ static int taken(State *state, PyObject *row, long places, Given *given) {
     its = PyTuple_GetItem(row, 5);
     if (given->kind < 0 || given->dimension < 0 || its == NULL || !PyLong_CheckExact(its)) return 0;
     given->places = PyLong_AsLong(its);
-    if (given->places < 0 || given->places > 18) return PyErr_Clear(), 0;
+    if (given->places < 0 || given->places > MOST_PLACES) return PyErr_Clear(), 0;
     if (places >= 0 && places < given->places) return 0;
     for (int i = 0; i < 3; i++) {
         int known;

@@ -13,7 +13,7 @@ int places_in(State *state, PyObject *places, PyObject *whole, uint32_t *to) {
     if (PyLong_CheckExact(places) && (whole == Py_True || whole == Py_False)) {
         int overflow;
         value = PyLong_AsLongAndOverflow(places, &overflow);
-        if (value >= 0 && value <= 18) {
+        if (value >= 0 && value <= MOST_PLACES) {
             *to = (uint32_t)value | (whole == Py_True ? WKT_WHOLE : 0);
             return 0;
         }

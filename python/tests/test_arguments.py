@@ -160,7 +160,7 @@ class Numbers(unittest.TestCase):
                 with self.assertRaises(OverflowError, msg=repr(wrong)):
                     call(wrong)
             with self.assertRaises(wkt.WktError) as raised:
-                call(19)
+                call(37)
             self.assertEqual(raised.exception.status, 23)
         if numpy is not None:
             self.assertEqual(wkt.canonical("POINT(1 2)", numpy.int32(6)), "POINT(1 2)")

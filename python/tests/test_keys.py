@@ -21,7 +21,8 @@ class Doubles(unittest.TestCase):
         values += [make.uniform(-180, 180) for _ in range(500)]
         values += [make.uniform(-1, 1) * 10 ** make.randrange(-9, 18) for _ in range(500)]
         values += [round(make.uniform(-1e7, 1e7), make.randrange(9)) for _ in range(1000)]
-        for places in (0, 6, 18):
+        values += [1e-20, -1.5e-30, 1e-36, 1.25e-36, 1e-37, 2.0**-60]
+        for places in (0, 6, 18, 36):
             for value, units, own, has in zip(values, *(it.tolist() for it in decimals(values, places))):
                 shortest = decimal.Decimal(repr(value))
                 if has:
@@ -30,6 +31,15 @@ class Doubles(unittest.TestCase):
                     digits = -shortest.normalize().as_tuple().exponent
                     self.assertTrue(digits > places or abs(value) * 10.0 ** max(digits, 0) >= 2.0**63, value)
         self.assertEqual(decimals([float("nan"), float("inf"), -float("inf")], 18)[2].tolist(), [False] * 3)
+
+    def test_fine_rows(self):
+        """Numbers of a row that 64 bits hold at one number of places."""
+        from wkt._doubles import decimals, scaled
+
+        units, used, has = decimals([1e-36, -9e-18, 0.0, 5.0], 36)
+        self.assertEqual((used.tolist(), has.tolist()), ([36, 18, 0, 0], [True] * 4))
+        made, fits = scaled(units, used, numpy.full(4, 36))
+        self.assertEqual((made.tolist(), fits.tolist()), ([1, -9 * 10**18, 0, 0], [True, True, True, False]))
 
     TEXTS = [
         "POINT(1.5 -2)", "POINT EMPTY", "LINESTRING(1 2,3 4.25)", "LINESTRING EMPTY", "POLYGON((0 0,4 0,2 4,0 0))",

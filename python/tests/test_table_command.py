@@ -111,7 +111,7 @@ FAILURES = [
 USAGE = [
     "a.csv",
     "--column geom",
-    "a.csv --column geom --places 19",
+    "a.csv --column geom --places 37",
     "a.csv --column geom --delimiter ,,",
     "a.csv --column geom --all --join b.csv",
     "- - --column geom",

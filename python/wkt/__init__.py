@@ -1,6 +1,6 @@
 """Well-known text by the proved library: one canonical text for one geometry, exact decimals, exact refusals.
 
-Numbers are decimals of `places` digits after the point, 0 to 18: nothing is rounded, and a text with more digits is
+Numbers are decimals of `places` digits after the point, 0 to 36: nothing is rounded, and a text with more digits is
 refused. Most functions take one text, or a column of them: a list, a NumPy array, a Series of pandas, or what lends its
 buffers by Arrow's C interfaces. A null row stays null. A text that has no answer is a `WktError`. A text is one
 geometry: only white space may follow it, or anything with `whole=False`.

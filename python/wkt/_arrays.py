@@ -94,9 +94,12 @@ def _places_in(arrays: Any, asked: Optional[int]) -> int:
         return places_of(6 if asked is None else asked)
     has = places_of(has)
     if asked is not None and places_of(asked) < has:
-        unit = 10 ** (has - asked)
+        unit = 10 ** min(has - asked, 19)  # of which 64 bits hold no multiple but 0
         numbers = arrays.numbers
-        exact = not (numbers % numpy.int64(unit)).any() if _is_ints(numbers) else not any(it % unit for it in numbers)
+        if _is_ints(numbers):
+            exact = not (numbers % numpy.int64(unit) if unit < 2**63 else numbers).any()
+        else:
+            exact = not any(it % unit for it in numbers)
         if not exact:
             raise ValueError("the numbers have %d places, and %d don't hold them" % (has, asked))
     return int(has)
@@ -123,7 +126,8 @@ bind("Arrays", Arrays)
 def to_arrays(text: Any, places: int = 6, invalid: str = "raise", progress: Progress = None, whole: bool = True) -> Any:
     """The geometry that a text names as `Arrays`; of a column a list of them, with None of a null row.
 
-    places: digits after the point, 0 to 18; a number is whole units of ten to the minus `places`.
+    places: digits after the point, 0 to 36; a number is whole units of ten to the minus `places`. With 18 they hold up
+    to 9.22, with 16 up to 922.3, and with 19 and more no whole number but 0.
     invalid: "raise" or "null": None of a text that has no arrays. progress, whole: as of `canonical`.
     They are of the value as it is read; for the same arrays of the same key, pass the canonical text. Rows of a column
     may share arrays of rings and polygons, which can't be written.

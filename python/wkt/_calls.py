@@ -25,7 +25,8 @@ def canonical(
     back as objects, bytes as bytes, masked arrays masked), a Series or an Index of pandas (with its index and name), or
     what has `__arrow_c_array__` or `__arrow_c_stream__` (`ArrowTexts` comes back, with no object for a row). A row that
     is None, NaN or pandas.NA is null and stays so: it is None.
-    places: digits after the point, 0 to 18: a text with more is refused, since nothing is rounded.
+    places: digits after the point, 0 to 36: a text with more is refused, since nothing is rounded. With 36 no number
+        beyond 170.14 is read.
     invalid: what becomes of a refused text: "raise" (a WktError), "null": None, or "keep": the text as it was given. In
     an Arrow column one that isn't UTF-8 can't be kept, and is null.
     progress: a function that is called with how many rows are done, or True: tqdm's bar above a million rows.

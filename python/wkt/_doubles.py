@@ -36,6 +36,7 @@ def decimals(values: Any, places: int) -> Tuple[Any, Any, Any]:
 
 def scaled(units: Any, used: Any, wanted: Any) -> Tuple[Any, Any]:
     """The same with the places that are wanted, not fewer; and whether 64 bits hold them."""
-    times = 10 ** (wanted - used)
-    fits = numpy.abs(units) <= (2**63 - 1) // times
+    more = wanted - used
+    times = 10 ** numpy.minimum(more, 18)  # with more, 64 bits hold 0 alone
+    fits = (numpy.abs(units) <= (2**63 - 1) // times) & ((more <= 18) | (units == 0))
     return numpy.where(fits, units, 0) * times, fits

@@ -146,7 +146,11 @@ def geoarrow(held: Any, places: int) -> GeoArrow:
     width = len(DIMENSIONS[at])
     rows = held.number_offsets // width
     offsets = _offsets(held, kind, rows)  # before the coordinates, since these take memory
-    coordinates = (held.numbers / 10.0**places).reshape(-1, width)
+    if places <= 22:  # ten to it is a double
+        coordinates = held.numbers / 10.0**places
+    else:
+        coordinates = numpy.array([number / 10**places for number in held.numbers.tolist()], float)
+    coordinates = coordinates.reshape(-1, width)
     if kind in (0, 3):
         offsets, coordinates = offsets[:-1], _points(offsets[-1], coordinates)
     return GeoArrow("geoarrow." + KINDS[kind].lower(), DIMENSIONS[at], coordinates, offsets, valid)

@@ -206,7 +206,8 @@ def keys(geometries: Any, places: int = 18, invalid: str = "raise") -> Any:
     A coordinate is the shortest decimal that is the same double, as `repr` writes it. That is tested, and not proved. A
     point whose numbers are all NaN is EMPTY.
     places: a coordinate that has more is refused. invalid: "raise" or "null".
-    WktError: a coordinate has too many places, or is NaN or infinite (13), or the geometry is a collection (24): it
+    WktError: a coordinate has too many places, or is NaN or infinite, or 64 bits don't hold its units of as many places
+    as the others of its row need (13), or the geometry is a collection (24): it
     names the row. TypeError: there is no Shapely 2, or the column is of something else. ValueError: it is wrong.
     """
     places = places_of(places)

@@ -20,6 +20,7 @@ INTEGERS = {"q": ("int64", -(2**63), 2**63 - 1), "Q": ("uint64", 0, 2**64 - 1), 
 _TYPES = {code: numpy.dtype(name) for code, (name, _, _) in INTEGERS.items()} if numpy is not None else {}
 _NULLS = ("NAType", "NaTType")
 WHOLE = 256  # WKT_WHOLE of include/wkt.h
+MOST_PLACES = 36
 
 
 def encoded(text: Any, row: Optional[int] = None) -> bytes:
@@ -71,14 +72,14 @@ def places_of(places: Any, whole: Any = False) -> int:
 
     `whole` is added as a bit: each text is to be one geometry as a whole.
     """
-    if type(places) is int and 0 <= places <= 18 and (whole is True or whole is False):
+    if type(places) is int and 0 <= places <= MOST_PLACES and (whole is True or whole is False):
         return places | WHOLE if whole else places
     if not isinstance(whole, bool):
         raise TypeError("whole is a bool, and not %s" % type(whole).__name__)
     places = integer(places, "places")
     if not 0 <= places < 2**32:
-        raise OverflowError("places is 0 to 18, and not %d" % places)
-    if places > 18:
+        raise OverflowError("places is 0 to %d, and not %d" % (MOST_PLACES, places))
+    if places > MOST_PLACES:
         raise WktError(NO_PLACES, words_of(NO_PLACES))
     return int(places) | (WHOLE if whole else 0)
 

@@ -14,7 +14,7 @@ from ._explain import explained
 from ._files import PARTS, Failure, Output, Parts, Row, Source, lines_of
 from ._library import u32
 from ._names import EXPECTED, EXPECTED_WORDS, HINT_WORDS, NOT_UTF8, NOT_WHOLE, NULL
-from ._values import encoded, places_of
+from ._values import MOST_PLACES, encoded, places_of
 
 REJECTS = ["file", "row", "column", "cause", "hint", "text"]
 SHOWN = 10  # So many refusals are shown where they go to no file.
@@ -226,7 +226,7 @@ def options(words: Sequence[str]) -> Any:
     add = parser.add_argument
     add("files", nargs="+", metavar="FILE", help="a file of comma-separated rows, with a header; - is standard input")
     add("--column", required=True, metavar="NAME", help="the column with the texts; its number without a header")
-    add("--places", type=int, default=18, metavar="N", help="digits that may stand after the point, 0 to 18 (18)")
+    add("--places", type=int, default=18, metavar="N", help="digits that may stand after the point, 0 to 36 (18)")
     add("--out", default="-", metavar="FILE", help="where the rows go, each behind its key (standard output)")
     add("--rejects", metavar="FILE", help="where refused texts go: " + ", ".join(REJECTS))
     add("--dedup", action="store_true", help="of rows with one key only the first")
@@ -241,8 +241,8 @@ def options(words: Sequence[str]) -> Any:
     asked.delimiter = "\t" if asked.delimiter == "tab" else asked.delimiter
     if len(asked.delimiter) != 1 or asked.delimiter in '"\r\n\0':
         parser.error("--delimiter is one character, or the word tab")
-    if not 0 <= asked.places <= 18:
-        parser.error("--places is 0 to 18")
+    if not 0 <= asked.places <= MOST_PLACES:
+        parser.error("--places is 0 to %d" % MOST_PLACES)
     if asked.all and asked.join:
         parser.error("--all is not for --join: a row without a key joins no row")
     if [*asked.files, asked.join].count("-") > 1:
