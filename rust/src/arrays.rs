@@ -16,7 +16,8 @@ pub struct Arrays {
     pub dimension: Dimension,
     /// How many digits after the point the units of the numbers stand for.
     pub places: u32,
-    /// The numbers, coordinate after coordinate: whole units of ten to the minus `places`.
+    /// The numbers, coordinate after coordinate: whole units of ten to the minus `places`. With 16 places they hold up to
+    /// 922.3, with 18 up to 9.22, and with 19 and more no whole number but 0.
     pub numbers: Vec<i64>,
     /// Where each ring begins among the coordinates, and the end of the last.
     pub rings: Vec<usize>,

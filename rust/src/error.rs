@@ -15,7 +15,7 @@ pub enum Error {
     NotUtf8,
     /// Out of memory.
     NoMemory,
-    /// `places` is more than 18.
+    /// `places` is more than 36.
     NoPlaces,
     /// A collection has no flat arrays.
     Collection,

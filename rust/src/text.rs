@@ -8,7 +8,7 @@ use std::os::raw::c_char;
 /// Added to `places` for the C library: a text is to be one geometry as a whole.
 const WHOLE: u32 = 256;
 /// The most places that numbers have.
-const MOST_PLACES: u32 = 18;
+const MOST_PLACES: u32 = 36;
 
 /// The error where a later library names a kind or a dimension that isn't known here.
 pub(crate) const LATER: Error = Error::NoForm("The kind or the dimension is of a later library");

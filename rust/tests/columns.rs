@@ -29,7 +29,7 @@ fn texts() {
     }
     let none = canonical_column(b"", &[0], &[], 6);
     assert_eq!(none.map(|column| column.offsets), Ok(vec![0]));
-    assert_eq!(canonical_column(b"", &[0], &[], 19), Err(Error::NoPlaces));
+    assert_eq!(canonical_column(b"", &[0], &[], 37), Err(Error::NoPlaces));
 }
 
 /// A row is one text as a whole, and bytes.

@@ -85,6 +85,11 @@ fn numbers() {
         let error = to_text(&point!(x: x, y: 0.).into(), 6).unwrap_err();
         assert_eq!(error.refusal().unwrap().hint, Some(hint), "{x}");
     }
+    // As small as a number is read.
+    let fine = "POINT(0.000000000000000000000000000000000001 -170)";
+    let point = point!(x: 1e-36, y: -170.);
+    assert_eq!(to_text(&point.into(), 36).as_deref(), Ok(fine));
+    assert_eq!(from_text(fine, 36), Ok(point.into()));
     // -0 is 0.
     assert_eq!(
         to_text(&point!(x: -0., y: 0.).into(), 6).as_deref(),

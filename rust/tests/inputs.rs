@@ -10,7 +10,7 @@ fn many_lines() {
         Ok("POINT(1 2.5)\nrefused\n")
     );
     assert_eq!(lines(b"", 18).as_deref(), Ok(""));
-    assert_eq!(lines(b"", 19), Err(Error::NoPlaces));
+    assert_eq!(lines(b"", 37), Err(Error::NoPlaces));
 }
 
 /// Gives so many bytes a call, each call interrupted once.
@@ -47,7 +47,7 @@ fn streams() {
     let mut output = Vec::new();
     stream(io::empty(), &mut output, 18).unwrap();
     assert!(output.is_empty());
-    let error = stream(io::empty(), &mut output, 19).unwrap_err();
+    let error = stream(io::empty(), &mut output, 37).unwrap_err();
     assert_eq!(error.kind(), io::ErrorKind::InvalidInput);
 }
 
