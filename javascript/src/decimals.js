@@ -20,7 +20,7 @@ export function decimal(units, places) {
 /** The doubles nearest to numbers of so many units. */
 export function doubles(numbers, places) {
   const scale = 10 ** places;
-  // Where doubles hold both whole numbers, their quotient is rounded once. 10 ** 18 is one that they hold.
+  // Where doubles hold both whole numbers, their quotient is rounded once. 10 ** 22 is the largest power that they hold.
   return Float64Array.from(numbers, (units) =>
-    -EXACT <= units && units <= EXACT ? Number(units) / scale : Number(decimal(units, places)));
+    places <= 22 && -EXACT <= units && units <= EXACT ? Number(units) / scale : Number(decimal(units, places)));
 }

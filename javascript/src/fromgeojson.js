@@ -4,7 +4,7 @@ import { GeoJSONError, WktError } from './errors.js';
 import { short } from './explanation.js';
 import { NumberText } from './json.js';
 
-// More digits than any number has that is read, with 18 places: 2 to the 127th has 39.
+// More digits than any number has that is read, before its point or behind it: 2 to the 127th has 39.
 const MOST = 60;
 
 /** A number of JSON without its exponent. */

@@ -50,7 +50,10 @@ export declare const DIMENSIONS: readonly Dimension[];
 export type Text = string | Uint8Array;
 
 export interface Places {
-  /** How many digits may stand after the point, 0 to 18. A text with more is refused: nothing is rounded. */
+  /**
+   * How many digits may stand after the point, 0 to 36. A text with more is refused: nothing is rounded. More leave less room
+   * before the point: with 36 no number beyond 170.14 is read.
+   */
   places?: number;
 }
 export interface Asked extends Places {
@@ -161,7 +164,7 @@ export interface Wkt {
   /**
    * A geometry that is no collection as flat arrays: those of the value as it is read. For the same arrays of the same key,
    * pass the canonical text.
-   * @throws {WktError} it is one, is refused, or has a number too large */
+   * @throws {WktError} it is one, is refused, or has a number whose units 64 bits don't hold: beyond 9.22 with 18 places */
   arrays(text: Text, asked?: Asked): Arrays;
   /** The canonical text of such arrays. @throws {WktError} they are of no geometry */
   fromArrays(arrays: GivenArrays): string;

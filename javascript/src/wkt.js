@@ -10,12 +10,13 @@ import { parseExact } from './json.js';
 import { LineAnswers, joined } from './lines.js';
 
 const WHOLE = 256; // WKT_WHOLE of include/wkt.h
+const MOST_PLACES = 36;
 
 /** The number by which a call asks for so many places, and for whole texts. */
 function asking(places, whole = false) {
   if (!Number.isInteger(places)) throw new TypeError('places is a whole number');
   if (typeof whole !== 'boolean') throw new TypeError('whole is true or false');
-  if (places < 0 || places > 18) throw new WktError(STATUS.NO_PLACES);
+  if (places < 0 || places > MOST_PLACES) throw new WktError(STATUS.NO_PLACES);
   return whole ? places + WHOLE : places;
 }
 

@@ -35,10 +35,28 @@ test('coordinates are the nearest doubles', () => {
   for (const number of ['0.300000000000000017', '1.000000000000000112', '-0.123456789012345678', '8.999999999999999999']) {
     assert.equal(of(`POINT(${number} 0)`, 18)[0], Number(number));
   }
+  // Ten to the 23rd and more are no doubles.
+  for (const [number, places] of [['0.00000000000000000000001', 23], ['-0.000000000000000000000000000000000007', 36], ['0.000000000000000009007199254740993', 33], ['-0.000000000000000009223372036854775808', 36]]) {
+    assert.equal(of(`POINT(${number} 0)`, places)[0], Number(number));
+  }
+});
+
+test('of up to 36 places', () => {
+  // Units of 64 bits.
+  const rows = [['0.9223372036854775807', 19, 2n ** 63n - 1n], ['-0.000009223372036854775808', 24, -(2n ** 63n)], ['-0.000000000000000000000000000000000001', 36, -1n]];
+  for (const [number, places, units] of rows) {
+    const arrays = wkt.arrays(`point ( 0 ${number}0 )`, { places });
+    assert.deepEqual([...arrays.numbers], [0n, units]);
+    assert.equal(wkt.fromArrays(arrays), `POINT(0 ${number})`);
+  }
+  for (const [number, places] of [['0.9223372036854775808', 19], ['1', 19], ['-0.000009223372036854775809', 24], ['170', 36]]) {
+    assert.equal(thrown(() => wkt.arrays(`POINT(0 ${number})`, { places })).status, STATUS.TOO_LARGE);
+  }
 });
 
 test('decimals', () => {
-  const rows = [[0n, 18, '0'], [-0n, 0, '0'], [15n, 1, '1.5'], [-15n, 2, '-0.15'], [100n, 2, '1'], [-100n, 0, '-100'], [1n, 18, '0.000000000000000001']];
+  const rows = [[-1n, 36, '-0.000000000000000000000000000000000001'], [2n ** 63n - 1n, 36, '0.000000000000000009223372036854775807'],
+    [0n, 18, '0'], [-0n, 0, '0'], [15n, 1, '1.5'], [-15n, 2, '-0.15'], [100n, 2, '1'], [-100n, 0, '-100'], [1n, 18, '0.000000000000000001']];
   for (const [units, places, text] of rows) assert.equal(decimal(units, places), text);
   for (const [units, places] of [[5n, 0.5], [5n, '1'], [5n, NaN], [5n, undefined], [5, 1], ['5', 1]]) assert.throws(() => decimal(units, places), TypeError);
   for (const places of [-1, -0.5 * 4]) assert.throws(() => decimal(5n, places), RangeError);
@@ -86,7 +104,7 @@ test('arrays of no geometry', () => {
   }
   const point = { kind: 'Point', numbers: [1n, 2n], rings: [0, 1], polygons: [0, 1] };
   assert.equal(thrown(() => wkt.fromArrays({ ...point, dimension: 'XYT' })).status, STATUS.NOT_ARRAYS);
-  assert.equal(thrown(() => wkt.fromArrays({ ...point, places: 19 })).status, STATUS.NO_PLACES);
+  assert.equal(thrown(() => wkt.fromArrays({ ...point, places: 37 })).status, STATUS.NO_PLACES);
   for (const numbers of [[1, 2], ['1', '2'], 'ab', undefined]) assert.throws(() => wkt.fromArrays({ ...point, numbers }), TypeError);
   assert.throws(() => wkt.fromArrays({ ...point, rings: undefined }), TypeError);
 });

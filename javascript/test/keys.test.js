@@ -5,10 +5,10 @@ import { WktError, STATUS } from '../src/node.js';
 import { bytes, rowsOf, texts, thrown, wkt } from './support.js';
 
 const KEYS = rowsOf('tests/data/keys.tsv');
-const PLACES = [0, 6, 15, 18];
+const PLACES = [0, 6, 15, 18, 24, 36];
 const beginning = (places) => ({ places, whole: false });
 
-test('there are 771 of them', () => assert.equal(KEYS.length, 771));
+test('there are 850 of them', () => assert.equal(KEYS.length, 850));
 
 for (const [i, places] of PLACES.entries()) {
   const all = KEYS.map((row) => row[0]);

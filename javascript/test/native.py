@@ -21,7 +21,8 @@ PIECES = [
     "CIRCULARSTRING(", "TIN", "nan", "-Inf", "()",
     "0101000000000000", "\ufeff", "1 2", "1 2 3", "\x85", "\u00a0", "\u2028", "\u3000", "\u0131", "x",
 ]  # fmt: skip
-CHOICES = [(0, True), (1, True), (6, True), (15, True), (18, True), (18, True), (6, False), (18, False)]
+WHOLE, FRONT = (0, 1, 6, 6, 6, 15, 18, 18, 24, 36), (6, 18, 36)
+CHOICES = [(places, True) for places in WHOLE] + [(places, False) for places in FRONT]
 
 
 def rows(path):
@@ -47,7 +48,7 @@ class Geometries:
                 ".5",
                 ".25",
                 f".{some.randrange(10**6):06}",
-                f".{some.randrange(10**some.choice([6, 18]))}",
+                f".{some.randrange(10**some.choice([6, 18, 36]))}",
             ]
         )
         return (
@@ -166,7 +167,7 @@ def made_arrays(count):
             numbers = numbers[:-1]
         rings = offsets(coordinates)
         polygons = offsets(max(len(rings) - 1, 0))
-        places = some.choice([0, 1, 6, 18])
+        places = some.choice([0, 1, 6, 18, 24, 36])
         text = answer(wkt.from_arrays, wkt.Arrays(kind, dimension, numbers, rings, polygons, places))
         yield {"arrays": [kind, dimension, [str(it) for it in numbers], rings, polygons, places], "text": text}
 

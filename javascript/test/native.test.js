@@ -58,7 +58,7 @@ compare('arrays', (row) => row.arrays, ({ text }, asked) => answer(() => {
 compare('same', (row) => row.same, ({ text, before }, asked) => answer(() => wkt.same(before, text, asked)));
 
 test('columns', { skip }, () => {
-  for (const places of [0, 6, 18]) {
+  for (const places of [0, 6, 18, 36]) {
     const some = made.filter((row) => row.places === places && row.whole);
     const { texts, statuses } = wkt.columns(some.map((row) => row.text), { places });
     assert.deepEqual(texts.map((text, i) => text ?? statuses[i]), some.map((row) => row.canonical));
