@@ -6,10 +6,10 @@ const DEPTH = { POLYGON: 2, MULTIPOLYGON: 3, LINESTRING: 1, MULTILINESTRING: 2 }
 /** Below this part of the sum of its terms the sign of an area of doubles isn't sure. */
 const SURE = 1e-9;
 
-/** A decimal in units of ten to the minus 18. */
+/** A decimal in units of ten to the minus 36: it has no more places. */
 function units(text) {
   const [whole, fraction = ''] = text.split('.');
-  return BigInt(whole + fraction.padEnd(18, '0'));
+  return BigInt(whole + fraction.padEnd(36, '0'));
 }
 
 /** The sign of twice the area of a closed ring: more than 0 where it turns to the left. It is exact. */

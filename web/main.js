@@ -17,8 +17,8 @@ import { say, showVerdict } from './verdict.js';
 const SMALL_FILE = 256 << 10, FEW_LINES = 2000, TYPED = 2 << 20;
 /** A text up to this length stands in the address of the page, and one up to that can be linked to. */
 const IN_ADDRESS = 4000, LINKED = 50000;
-/** The most decimal places that a number may have. */
-const MOST_PLACES = 18;
+/** How many decimal places a number may have, where nothing is asked for, and at most. */
+const PLACES = 18, MOST_PLACES = 36;
 /** After so many milliseconds without an answer the page says that it is at work. */
 const SLOW = 400;
 
@@ -60,7 +60,7 @@ function settled() {
 // ---- Links. What stands behind `#` is never sent.
 function link() {
   const said = new URLSearchParams({ wkt: text.value });
-  if (places() !== MOST_PLACES) said.set('places', String(places()));
+  if (places() !== PLACES) said.set('places', String(places()));
   if (askedSplit() !== 'auto') said.set('as', askedSplit());
   return `#${said}`;
 }
@@ -71,7 +71,7 @@ function readLink(set) {
   if (!said.has('wkt')) return false;
   set(said.get('wkt'));
   const wanted = said.get('places') ?? '';
-  $('places').value = /^(1[0-8]|[0-9])$/.test(wanted) ? wanted : String(MOST_PLACES);
+  $('places').value = /^(3[0-6]|[12]?[0-9])$/.test(wanted) ? wanted : String(PLACES);
   setSplit(['lines', 'one'].includes(said.get('as')) ? said.get('as') : 'auto');
   return true;
 }
@@ -192,7 +192,7 @@ function startDropping() {
 
 // ---- The rest of the controls.
 function fillSelects() {
-  for (let n = MOST_PLACES; n >= 0; n--) $('places').append(element('option', { value: n }, n === MOST_PLACES ? `${n} (most)` : String(n)));
+  for (let n = MOST_PLACES; n >= 0; n--) $('places').append(element('option', { value: n, selected: n === PLACES }, n === MOST_PLACES ? `${n} (most)` : String(n)));
 }
 
 /** The list of examples: each is a button, so that going through the list changes nothing. */

@@ -55,6 +55,8 @@ const RFC = [
   [`MULTIPOLYGON(((${TURNED})),EMPTY,((${SQUARE}),(${SQUARE})))`, {}, `MULTIPOLYGON(((${SQUARE})),EMPTY,((${SQUARE}),(${TURNED})))`],
   [`GEOMETRYCOLLECTION(POINT(1 2),GEOMETRYCOLLECTION(POLYGON((${TURNED})),POLYGON EMPTY),LINESTRING(1 2,3 4))`, {},
     `GEOMETRYCOLLECTION(POINT(1 2),GEOMETRYCOLLECTION(POLYGON((${SQUARE})),POLYGON EMPTY),LINESTRING(1 2,3 4))`],
+  // The sign of its area is that of its last decimal place.
+  ['POLYGON((0 0,1 1,2 1.999999999999999999999999999999999999,0 0))', {}, 'POLYGON((0 0,2 1.999999999999999999999999999999999999,1 1,0 0))'],
   ['POLYGON((0 0,1 0,1 1))', {}, /doesn’t end where it begins/],
   ['POLYGON((0 0,1 0,1 1))', { rings: 'close' }, 'POLYGON((0 0,1 0,1 1,0 0))'],
   ['POLYGON((0 0,1 0,0 0))', {}, /less than four/],

@@ -4,6 +4,7 @@ import re
 from chromium import Page
 from selenium.webdriver.common.by import By
 from selenium.webdriver.common.keys import Keys
+from selenium.webdriver.support.ui import Select
 
 # A text; the head of the answer; its words; the marked part of the text; words of the hint.
 REFUSED = [
@@ -148,8 +149,18 @@ class Texts(Page):
         self.open("#wkt=POINT+%281.25+2%29&places=1")
         self.assertEqual("Refused at line 1, column 8", self.said("say"))
         self.assertIn("1", self.said("hint"))
-        self.by_id("places").send_keys("2")
+        Select(self.by_id("places")).select_by_value("2")
         self.assertEqual("Accepted: Point", self.said("say"))
+        fine = "POINT(0.000000000000000000000000000000000001 170)"
+        for asked, places in (("", 18), ("&places=36", 36), ("&places=37", 18)):
+            self.open(f"#wkt={fine.replace(' ', '+')}{asked}")
+            self.assertEqual("Accepted: Point" if places == 36 else "Refused at line 1, column 7", self.said("say"))
+            self.assertEqual(str(places), self.by_id("places").get_attribute("value"))
+        Select(self.by_id("places")).select_by_value("36")
+        self.assertEqual("Accepted: Point", self.said("say"))
+        self.paste("POINT(180 0)")
+        self.assertEqual("Refused at line 1, column 7", self.said("say"))
+        self.assertIn("too large", self.said("hint"))
 
     def test_links(self):
         self.open("#wkt=POINT%281%0A2%29&as=lines")
