@@ -9,10 +9,9 @@
 static const char *const kinds[] = WKT_KIND_WORDS;
 static const char *const dimensions[] = WKT_DIMENSION_WORDS;
 
-uint32_t places_of(int32 places) {
-    if (places < 0 || places > MOST_PLACES)
-        ereport(ERROR,
-                (errcode(ERRCODE_INVALID_PARAMETER_VALUE), errmsg("places must be between 0 and %d", MOST_PLACES)));
+uint32_t places_of(int32 places, int32 most) {
+    if (places < 0 || places > most)
+        ereport(ERROR, (errcode(ERRCODE_INVALID_PARAMETER_VALUE), errmsg("places must be between 0 and %d", most)));
     return (uint32_t)places;
 }
 

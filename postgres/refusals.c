@@ -73,7 +73,7 @@ static void put_refusal(const Question *asked, Datum *row, bool *nulls) {
 /* The value of a text, or why there is none: a row, and no error. */
 PG_FUNCTION_INFO_V1(pg_wkt_read);
 Datum pg_wkt_read(PG_FUNCTION_ARGS) {
-    Question asked = question_of_text(PG_GETARG_TEXT_PP(0), places_of(PG_GETARG_INT32(1)));
+    Question asked = question_of_text(PG_GETARG_TEXT_PP(0), places_of(PG_GETARG_INT32(1), TYPE_PLACES));
     Datum row[4] = {0};
     bool nulls[4] = {false, true, true, true};
     text *answer;

@@ -3,7 +3,7 @@
 -- Each name has its schema, since this runs as a superuser: who owns the extension's schema may have put functions, operators
 -- and types of any name there, and the search path begins with it.
 
--- Over text. places: how many digits after the point a number may have; nothing is rounded.
+-- Over text. places, 0 to 36: how many digits after the point a number may have; nothing is rounded.
 CREATE FUNCTION @extschema@.wkt_canonical(pg_catalog.text, places pg_catalog.int4 DEFAULT 18) RETURNS pg_catalog.text
     AS 'MODULE_PATHNAME', 'pg_wkt_canonical' LANGUAGE C IMMUTABLE STRICT PARALLEL SAFE COST 10;
 COMMENT ON FUNCTION @extschema@.wkt_canonical(pg_catalog.text, pg_catalog.int4) IS 'the canonical text of a geometry';
@@ -28,7 +28,8 @@ CREATE FUNCTION @extschema@.wkt_version() RETURNS pg_catalog.text
     AS 'MODULE_PATHNAME', 'pg_wkt_version' LANGUAGE C STABLE STRICT PARALLEL SAFE;
 COMMENT ON FUNCTION @extschema@.wkt_version() IS 'the version of the library that answers';
 
--- The type: a value is a canonical text, so equal values are one geometry. wkt(6): numbers of at most six places.
+-- The type: a value is a canonical text, so equal values are one geometry. wkt(6): numbers of at most six places, and of 18
+-- at most, so that each wkt(n) is a wkt.
 CREATE TYPE @extschema@.wkt;
 CREATE FUNCTION @extschema@.wkt_in(pg_catalog.cstring, pg_catalog.oid, pg_catalog.int4) RETURNS @extschema@.wkt
     AS 'MODULE_PATHNAME', 'pg_wkt_in' LANGUAGE C IMMUTABLE STRICT PARALLEL SAFE COST 10;

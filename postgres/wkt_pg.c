@@ -17,7 +17,7 @@ void _PG_init(void) {
 
 PG_FUNCTION_INFO_V1(pg_wkt_canonical);
 Datum pg_wkt_canonical(PG_FUNCTION_ARGS) {
-    Question asked = question_of_text(PG_GETARG_TEXT_PP(0), places_of(PG_GETARG_INT32(1)));
+    Question asked = question_of_text(PG_GETARG_TEXT_PP(0), places_of(PG_GETARG_INT32(1), MOST_PLACES));
     text *answer;
     if (!canonical_of(&asked, &answer)) return refuse(NULL, &asked);
     PG_RETURN_TEXT_P(answer);
@@ -25,13 +25,13 @@ Datum pg_wkt_canonical(PG_FUNCTION_ARGS) {
 
 PG_FUNCTION_INFO_V1(pg_wkt_reads);
 Datum pg_wkt_reads(PG_FUNCTION_ARGS) {
-    Question asked = question_of_text(PG_GETARG_TEXT_PP(0), places_of(PG_GETARG_INT32(1)));
+    Question asked = question_of_text(PG_GETARG_TEXT_PP(0), places_of(PG_GETARG_INT32(1), MOST_PLACES));
     PG_RETURN_BOOL(canonical_of(&asked, NULL));
 }
 
 PG_FUNCTION_INFO_V1(pg_wkt_explain);
 Datum pg_wkt_explain(PG_FUNCTION_ARGS) {
-    Question asked = question_of_text(PG_GETARG_TEXT_PP(0), places_of(PG_GETARG_INT32(1)));
+    Question asked = question_of_text(PG_GETARG_TEXT_PP(0), places_of(PG_GETARG_INT32(1), MOST_PLACES));
     if (canonical_of(&asked, NULL)) PG_RETURN_NULL();
     PG_RETURN_TEXT_P(explained(&asked));
 }

@@ -12,7 +12,9 @@
 
 #include <wkt.h>
 
-#define MOST_PLACES 18
+/* The most places of a text, and of the type. A function over text has those of the type where nothing is said. */
+#define MOST_PLACES 36
+#define TYPE_PLACES 18
 /* A canonical text has its header's end in so many bytes. */
 #define LONGEST_FRONT 64
 
@@ -26,7 +28,7 @@ typedef struct Question {
 } Question;
 
 /* answers.c */
-extern uint32_t places_of(int32 places);
+extern uint32_t places_of(int32 places, int32 most);
 extern Question question_of(const char *given, size_t length, uint32_t places);
 extern Question question_of_text(text *given, uint32_t places);
 extern bool canonical_of(const Question *asked, text **answer);

@@ -17,7 +17,9 @@
 #endif
 
 /* The places of a modifier; -1 is none. */
-static uint32_t places_of_modifier(int32 modifier) { return modifier < 0 ? MOST_PLACES : places_of(modifier); }
+static uint32_t places_of_modifier(int32 modifier) {
+    return modifier < 0 ? TYPE_PLACES : places_of(modifier, TYPE_PLACES);
+}
 
 /* How many places the numbers of a text have, without zeros at their ends, where one may be too large for more; else 18. */
 static uint32_t places_needed(const Question *asked) {
@@ -33,7 +35,7 @@ static uint32_t places_needed(const Question *asked) {
             digits = 0;
         }
     }
-    return is_large ? Min(needed, MOST_PLACES) : MOST_PLACES;
+    return is_large ? Min(needed, TYPE_PLACES) : TYPE_PLACES;
 }
 
 /* The value of a text under a modifier: one that any places up to it read, since more leave less room before the point. So
@@ -56,7 +58,7 @@ static Datum value_of(Node *context, Question asked, int32 modifier) {
 PG_FUNCTION_INFO_V1(pg_wkt_in);
 Datum pg_wkt_in(PG_FUNCTION_ARGS) {
     char *given = PG_GETARG_CSTRING(0);
-    return value_of(CONTEXT(fcinfo), question_of(given, strlen(given), MOST_PLACES), PG_GETARG_INT32(2));
+    return value_of(CONTEXT(fcinfo), question_of(given, strlen(given), TYPE_PLACES), PG_GETARG_INT32(2));
 }
 
 PG_FUNCTION_INFO_V1(pg_wkt_out);
@@ -67,7 +69,7 @@ Datum pg_wkt_recv(PG_FUNCTION_ARGS) {
     StringInfo message = (StringInfo)PG_GETARG_POINTER(0);
     int length;
     char *given = pq_getmsgtext(message, message->len - message->cursor, &length);
-    return value_of(NULL, question_of(given, length, MOST_PLACES), PG_GETARG_INT32(2));
+    return value_of(NULL, question_of(given, length, TYPE_PLACES), PG_GETARG_INT32(2));
 }
 
 PG_FUNCTION_INFO_V1(pg_wkt_send);
@@ -85,7 +87,7 @@ Datum pg_wkt_typmod_in(PG_FUNCTION_ARGS) {
     int32 *given = ArrayGetIntegerTypmods(PG_GETARG_ARRAYTYPE_P(0), &n);
     if (n != 1)
         ereport(ERROR, (errcode(ERRCODE_INVALID_PARAMETER_VALUE), errmsg("wkt takes one modifier, the places")));
-    PG_RETURN_INT32(places_of(given[0]));
+    PG_RETURN_INT32(places_of(given[0], TYPE_PLACES));
 }
 
 PG_FUNCTION_INFO_V1(pg_wkt_typmod_out);
@@ -94,7 +96,7 @@ Datum pg_wkt_typmod_out(PG_FUNCTION_ARGS) { PG_RETURN_CSTRING(psprintf("(%d)", P
 /* A text as a wkt. */
 PG_FUNCTION_INFO_V1(pg_wkt_cast);
 Datum pg_wkt_cast(PG_FUNCTION_ARGS) {
-    return value_of(NULL, question_of_text(PG_GETARG_TEXT_PP(0), MOST_PLACES), PG_GETARG_INT32(1));
+    return value_of(NULL, question_of_text(PG_GETARG_TEXT_PP(0), TYPE_PLACES), PG_GETARG_INT32(1));
 }
 
 /* A wkt under another modifier: it stays as it is, or is refused, if a number has more digits behind its point than that has
@@ -109,7 +111,7 @@ Datum pg_wkt_recast(PG_FUNCTION_ARGS) {
         uint32_t digits = 0;
         CHECK_FOR_INTERRUPTS();
         while (++at < end && isdigit((unsigned char)*at)) digits++;
-        if (digits > places) return value_of(NULL, question_of_text(held, MOST_PLACES), modifier);
+        if (digits > places) return value_of(NULL, question_of_text(held, TYPE_PLACES), modifier);
     }
     PG_RETURN_TEXT_P(held);
 }
@@ -117,7 +119,7 @@ Datum pg_wkt_recast(PG_FUNCTION_ARGS) {
 /* The value of a text; null where it is refused. */
 PG_FUNCTION_INFO_V1(pg_wkt_or_null);
 Datum pg_wkt_or_null(PG_FUNCTION_ARGS) {
-    Question asked = question_of_text(PG_GETARG_TEXT_PP(0), places_of(PG_GETARG_INT32(1)));
+    Question asked = question_of_text(PG_GETARG_TEXT_PP(0), places_of(PG_GETARG_INT32(1), TYPE_PLACES));
     text *answer;
     if (!canonical_of(&asked, &answer)) PG_RETURN_NULL();
     PG_RETURN_TEXT_P(answer);
@@ -133,7 +135,7 @@ Datum pg_wkt_support(PG_FUNCTION_ARGS) {
         Node *value = linitial(given), *modifier = lsecond(given);
         if (IsA(modifier, Const) && !((Const *)modifier)->constisnull) {
             int32 from = exprTypmod(value), to = DatumGetInt32(((Const *)modifier)->constvalue);
-            if (to == MOST_PLACES || (from >= 0 && from <= to && to < MOST_PLACES))
+            if (to == TYPE_PLACES || (from >= 0 && from <= to && to < TYPE_PLACES))
                 answer = relabel_to_typmod(value, to);
         }
     }

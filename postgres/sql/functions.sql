@@ -5,6 +5,11 @@ SELECT wkt_canonical('point ( 10 -20.50 )'), wkt_canonical('LineStringZ(1 2 3,+4
 SELECT wkt_canonical('MULTIPOINT(1 2,(3 4))'), wkt_canonical('multipolygon zm empty');
 SELECT wkt_canonical('point(1.5 2)', 1), wkt_canonical('point(1.50 2)', places => 1), wkt_canonical('POINT(5 2)', 0);
 SELECT wkt_canonical(E' \t\r\nPOINT(1 2) \t\r\n');
+-- Up to 36 places
+SELECT wkt_canonical('point(0.1234567890123456789012340 -.5)', 24), wkt_canonical('POINT(170141183460469.231731687303715884105727 -00.0)', 24);
+SELECT wkt_canonical('POINT(-170.141183460469231731687303715884105728 0.0000000000000000000000000000000000010)', 36);
+SELECT wkt_same('POINT(0.123456789012345678901234 1)', 'point(+0.1234567890123456789012340 1.0)', 24), wkt_same('POINT(0.000000000000000000000000000000000001 1)', 'POINT(0 1)', 36);
+SELECT wkt_reads('POINT(180 90)', 35), wkt_reads('POINT(180 90)', 36), wkt_reads('POINT(0.1234567890123456789 2)'), wkt_reads('POINT(0.1234567890123456789 2)', 19), wkt_explain('POINT(170 0.000000000000000000000000000000000001)', 36);
 -- An answer that is longer than its text
 SELECT wkt_canonical('multipoint(.1 .1,.1 .1,.1 .1,.1 .1,.1 .1,.1 .1,.1 .1,.1 .1)');
 SELECT wkt_same('POINT(1 2)', 'point ( 1.0 +2 )'), wkt_same('POINT(1 2)', 'POINT(2 1)');

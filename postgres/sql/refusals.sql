@@ -25,10 +25,14 @@ SELECT wkt_same('POINT(1 2)', 'POINT(1)');
 SELECT wkt_canonical('LINESTRING(' || repeat('1 2,', 1000) || '3)');
 -- Places
 SELECT wkt_canonical('POINT(1 2)', -1);
-SELECT wkt_canonical('POINT(1 2)', 19);
-SELECT wkt_reads('POINT(1 2)', 19);
+SELECT wkt_canonical('POINT(1 2)', 37);
+SELECT wkt_reads('POINT(1 2)', 37);
 SELECT wkt_explain('POINT(1 2)', -1);
-SELECT wkt_same('POINT(1 2)', 'POINT(1 2)', 19);
+SELECT wkt_explain('POINT(1 2)', 37);
+SELECT wkt_same('POINT(1 2)', 'POINT(1 2)', 37);
+SELECT wkt_canonical('POINT(0.1234567890123456789012345 2)', 24);
+SELECT wkt_canonical('POINT(2 180)', 36);
+SELECT wkt_canonical('POINT(170.141183460469231731687303715884105728 2)', 36);
 -- The line of the text, and a caret at the place
 SELECT wkt_explain('POINT(1 2)');
 SELECT wkt_explain('');

@@ -4,19 +4,19 @@ ask keys "create extension wkt" \
     "create function by_text(t text, places int) returns text language plpgsql as
          \$\$ begin return wkt_canonical(t, places); exception when invalid_text_representation then return 'refused'; end \$\$" \
     "create function by_type(t text, places int) returns text language plpgsql as
-         \$\$ declare key text; begin execute format('select \$1::wkt(%s)::text', places) into key using t; return key;
+         \$\$ declare key text; begin execute format('select \$1::wkt(%s)::text', least(places, 18)) into key using t; return key;
             exception when invalid_text_representation then return 'refused'; end \$\$"
 
 # The rules of docs/KEYS.md. The table has \n, \t, \r and \\ as COPY has them.
 grep -v '^#' "$here/../tests/data/key_rules.tsv" > "$dir/rules"
 chmod 644 "$dir/rules"
 ask keys "create table rules (places int, t text, key text)" "copy rules from '$dir/rules'"
-# The type takes what any places up to its own read.
-of_type="coalesce((select k from generate_series(places, 0, -1) p, by_text(t, p) k where k <> 'refused' limit 1), 'refused')"
+# The type takes what any places up to its own read, and has 18 at most.
+of_type="coalesce((select k from generate_series(least(places, 18), 0, -1) p, by_text(t, p) k where k <> 'refused' limit 1), 'refused')"
 is "rules: rows of the table that have another key" "" "$(ask keys "select * from (select *, by_text(t, places), by_type(t, places) from rules) r where key <> by_text or by_type <> $of_type")"
 is "rules: a row is read exactly if it has a key" 0 "$(ask keys "select count(*) from rules where wkt_reads(t, places) <> (key <> 'refused')")"
 is "rules: a row is null exactly if it is refused, and has an explanation" 0 "$(ask keys "select count(*) from rules
-    where coalesce(wkt_or_null(t, places)::text, 'refused') <> key or (wkt_explain(t, places) is null) <> (key <> 'refused')")"
+    where (places <= 18 and coalesce(wkt_or_null(t, least(places, 18))::text, 'refused') <> key) or (wkt_explain(t, places) is null) <> (key <> 'refused')")"
 is "rules: two rows are the same exactly if their keys are" 0 "$(ask keys "select count(*) from rules a, rules b
     where a.key <> 'refused' and b.key <> 'refused' and a.places = b.places and wkt_same(a.t, b.t, a.places) <> (a.key = b.key)")"
 echo "rules: $(wc -l < "$dir/rules") keys"
@@ -25,9 +25,9 @@ echo "rules: $(wc -l < "$dir/rules") keys"
 if [ -f "$here/../tests/data/keys.tsv" ]; then
     grep -v '^#' "$here/../tests/data/keys.tsv" | sed 's/\\/\\\\/g' > "$dir/kept"
     chmod 644 "$dir/kept"
-    ask keys "create table kept (t text, p0 text, p6 text, p15 text, p18 text)" "copy kept from '$dir/kept'" \
+    ask keys "create table kept (t text, p0 text, p6 text, p15 text, p18 text, p24 text, p36 text)" "copy kept from '$dir/kept'" \
         "create view each_kept as select t, places, key, by_text(t, places) answer, by_type(t, places) by_type
-             from kept, lateral (values (0, p0), (6, p6), (15, p15), (18, p18)) v(places, key)"
+             from kept, lateral (values (0, p0), (6, p6), (15, p15), (18, p18), (24, p24), (36, p36)) v(places, key)"
     is "kept: rows that have another key" "" "$(ask keys "select * from each_kept where by_type <> $of_type or answer <> key
         and not (answer = 'refused' and wkt_explain(t, places) like '%^ the end of the text was expected') limit 5")"
     echo "kept: $(ask keys "select count(*) from each_kept where answer = key") keys"
