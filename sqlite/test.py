@@ -57,7 +57,9 @@ for text, places, key in (
     ("", 6, None),
     (None, 6, None),
     ("POINT(1 2)", None, None),
-    ("POINT(1 2)", 19, "error: places must be between 0 and 18"),
+    ("POINT(0.100000000000000000000000 2.000000000000000000000001)", 24, "POINT(0.1 2.000000000000000000000001)"),
+    ("POINT(0.000000000000000000000000000000000001 180)", 36, None),
+    ("POINT(1 2)", 37, "error: places must be between 0 and 36"),
 ):
     same(ask(db, "wkt_or_null(?, ?)", text, places), key)
 same(ask(db, "wkt_or_null(?)", "POINT(1"), None)
@@ -106,13 +108,13 @@ print(
     f"Python: wkt_same of a constant of 2 MB and 200 rows takes {once:.2f} s, and {each:.2f} s where each row's is read"
 )
 
-# Places: a whole number from 0 to 18, as a number or as its text.
-for places in 6, 6.0, "6", "6.0", " 6 ", 18.0:
+# Places: a whole number from 0 to 36, as a number or as its text.
+for places in 6, 6.0, "6", "6.0", " 6 ", 18.0, 36.0:
     same(ask(db, "wkt_or_null('POINT(1.5 2)', ?)", places), "POINT(1.5 2)")
 for places in 0.0, False, -0.0:
     same(ask(db, "wkt_or_null('POINT(1.5 2)', ?)", places), None)
-for places in 6.5, "6.5", "six", "", b"6", -1, "-1", 19, 1e300, float("inf"), 2**40:
-    same(ask(db, "wkt_or_null('POINT(1.5 2)', ?)", places), "error: places must be between 0 and 18")
+for places in 6.5, "6.5", "six", "", b"6", -1, "-1", 37, 1e300, float("inf"), 2**40:
+    same(ask(db, "wkt_or_null('POINT(1.5 2)', ?)", places), "error: places must be between 0 and 36")
 
 # A database in UTF-16, and one in a file that is opened again. A blob is a text in UTF-8 in any.
 for encoding in ("UTF-16le", "UTF-16be"):
@@ -168,7 +170,7 @@ with open(repository + "/tests/data/keys.tsv", encoding="utf-8", newline="\n") a
     for row in table:
         if not row.startswith("#"):
             text, *keys = row.rstrip("\n").split("\t")
-            for places, key in zip((0, 6, 15, 18), keys):
+            for places, key in zip((0, 6, 15, 18, 24, 36), keys):
                 answer = ask(db, "wkt_canonical(?, ?)", text, places)
                 if answer != key:
                     # that table's keys are of the front of a text

@@ -20,7 +20,7 @@ select wkt_canonical(x'ff');
 select wkt_canonical(12);
 select wkt_same('POINT(1 2)', 'POINT(1');
 select wkt_canonical('POINT(1 2)', -1);
-select wkt_canonical('POINT(1 2)', 19);
+select wkt_canonical('POINT(1 2)', 37);
 select wkt_reads('POINT(1 2)', 'six');
 select wkt_same('POINT(1 2)', 'POINT(1 2)', 1.5);
 select wkt_explain('POINT(1 2)', 4294967296);
@@ -76,8 +76,16 @@ select count(*) from wkt_points;
 select count(*) from wkt_points('POINT(1 2)', null);
 select count(*) from wkt_points('POINT(1 2', 6);
 select count(*) from wkt_each('POINT(1.5 2)', 0);
-select count(*) from wkt_bounds('POINT(1 2)', 19);
+select count(*) from wkt_bounds('POINT(1 2)', 37);
 select wkt_num_points('POINT(1)');
 -- They may be called in a view, also by those who trust no schema
 create view points as select id, x from shapes, wkt_points(g);
 select count(*) from points;
+-- Up to 36 places
+select wkt_canonical('point(0.1234567890123456789012340 -.5)', 24), wkt_canonical('POINT(-170.141183460469231731687303715884105728 0.0000000000000000000000000000000000010)', 36);
+select wkt_reads('POINT(180 90)', 35), wkt_reads('POINT(180 90)', 36), wkt_or_null('POINT(0.1234567890123456789 2)'), wkt_or_null('POINT(0.1234567890123456789 2)', '19');
+select wkt_same('POINT(0.000000000000000000000000000000000001 1)', 'POINT(0 1)', 36), wkt_same('POINT(0.123456789012345678901234 1)', 'point(+0.1234567890123456789012340 1.0)', 24.0);
+select wkt_canonical('POINT(2 180)', 36);
+select wkt_explain('POINT(2 0.1234567890123456789012345)', 24);
+select x, y from wkt_points('POINT(0.000000000000000000000000000000000001 -170)', 36);
+select min_x, max_x from wkt_bounds('LINESTRING(-0.000000000000000000000000000000000001 0,0.000000000000000000000000000000000002 0)', 36);

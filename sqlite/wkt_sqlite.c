@@ -7,7 +7,8 @@
 SQLITE_EXTENSION_INIT1
 #include <string.h>
 
-#define MOST_PLACES 18
+#define MOST_PLACES 36
+#define PLACES 18 /* where nothing is said */
 
 #ifdef _WIN32
 #define EXPORTED __declspec(dllexport)
@@ -27,12 +28,12 @@ static int some_null(int count, sqlite3_value **values) {
     return 0;
 }
 
-/* The argument `at` as places, or 18 where it isn't given: a whole number from 0 to 18, as a number or as its text, as 6, 6.0
+/* The argument `at` as places, or 18 where it isn't given: a whole number from 0 to 36, as a number or as its text, as 6, 6.0
  * or '6.0'. What is none is one too many. */
 uint32_t places_of(int count, sqlite3_value **values, int at) {
     int type = count > at ? sqlite3_value_numeric_type(values[at]) : SQLITE_NULL;
     double places = type == SQLITE_INTEGER || type == SQLITE_FLOAT ? sqlite3_value_double(values[at]) : -1;
-    if (count <= at) return MOST_PLACES;
+    if (count <= at) return PLACES;
     return places >= 0 && places <= MOST_PLACES && places == (uint32_t)places ? (uint32_t)places : MOST_PLACES + 1;
 }
 
@@ -209,7 +210,7 @@ static int has_header(sqlite3_context *context, int count, sqlite3_value **value
     Question asked;
     wkt_status status;
     if (some_null(count, values)) return 0;
-    status = question_of(values[0], MOST_PLACES, &asked);
+    status = question_of(values[0], PLACES, &asked);
     if (status == WKT_OK) status = wkt_infer(asked.text, asked.length, kind, dimension);
     return !is_limit(context, &asked, status) && status == WKT_OK;
 }
