@@ -8,7 +8,7 @@ _wkt() {
     fi
     case $before in
         -p | --places)
-            mapfile -t COMPREPLY < <(compgen -W "$(echo {0..18})" -- "$word")
+            mapfile -t COMPREPLY < <(compgen -W "$(echo {0..36})" -- "$word")
             return
             ;;
         --refused)
