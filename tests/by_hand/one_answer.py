@@ -56,7 +56,8 @@ def geo(arrays, places):
     """Arrays as GeoArrow has them: the sizes of the lists, and doubles; a point that is empty is NaN."""
     kind, dimension, *parts = arrays.split(" ")
     numbers, rings, polygons = ([int(it) for it in part.split(",") if it] for part in parts)
-    width, coordinates = len(dimension), [n / 10.0**places for n in numbers]
+    # Ten to the 23rd and more are no doubles.
+    width, coordinates = len(dimension), [n / (10.0**places if places <= 22 else 10**places) for n in numbers]
     sizes = [b - a for a, b in zip(rings, rings[1:])]
     if kind in ("Point", "MultiPoint"):
         starts = [a * width for a in rings[:-1]]

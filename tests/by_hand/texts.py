@@ -193,8 +193,10 @@ def is_whole(data, end):
 
 
 LIMITS = """9223372036854775807 -9223372036854775808 9223372036854775808 170141183460469231731 170141183460469231732
-    170141183460469231731687303715884105727 170141183460469231731687303715884105728 -0 -.0 1. .5 -.5 +-2 ++2 1e3 -1E-7
-    0x1 1.2.3 --1 - + . ٣ 1٣ nan -Infinity""".split()
+    170141183460469231731687303715884105727 170141183460469231731687303715884105728
+    170141183460469.231731687303715884105727 170.141183460469231731687303715884105727
+    -170.141183460469231731687303715884105729 0.000000000000000000000000000000000001 -0 -.0 1. .5 -.5 +-2 ++2
+    1e3 -1E-7 0x1 1.2.3 --1 - + . ٣ 1٣ nan -Infinity""".split()
 
 
 def digits(chance, count):
@@ -203,6 +205,8 @@ def digits(chance, count):
 
 def a_number(chance, places):
     sign = chance.choice(["", "", "", "-", "-", "+"])
+    if chance.plain and places > 18 and chance.random() < 0.5:  # 64 bits hold its units
+        return sign + "0." + "0" * (places - 18) + digits(chance, chance.randint(1, 18))
     if chance.plain:
         after = digits(chance, chance.randint(0, places))
         return sign + digits(chance, 1 if places > 15 else 3) + ("." + after if after else "")
@@ -294,7 +298,8 @@ def rows(count, seed):
     kept = [text.encode() for text in kept_texts()]
     before = b"POINT(1 2)"
     for i in range(count):
-        places, whole = chance.choice([0, 1, 6, 6, 6, 9, 15, 18, 18]), chance.random() < 0.8
+        places = chance.choice([0, 1, 6, 6, 6, 9, 15, 18, 18, 24, 36, chance.randint(0, 36)])
+        whole = chance.random() < 0.8
         chance.plain = chance.random() < 0.6
         sort = chance.random()
         if i < len(kept):

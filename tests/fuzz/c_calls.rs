@@ -34,8 +34,9 @@ pub const NOT_WHOLE: u32 = 30;
 /// Added to the places where a text is to be one geometry as a whole.
 pub const WHOLE: u32 = 256;
 
-/// The places that the fuzzed library has (fuzz.sh).
-pub const PLACES: [u32; 3] = [0, 6, 18];
+/// The places that are asked for, and the most that there are.
+pub const PLACES: [u32; 5] = [0, 6, 18, 24, 36];
+pub const MOST_PLACES: u32 = 36;
 /// How many items stand behind each buffer, which nothing may write.
 pub const BEHIND: usize = 9;
 
@@ -154,12 +155,12 @@ impl Asked<'_> {
     }
 
     pub fn places(&self) -> u32 {
-        PLACES[self.salt / 3 % 3]
+        PLACES[self.salt / 3 % PLACES.len()]
     }
 
     /// Those places, and for some inputs that the whole text is asked for.
     pub fn asked_places(&self) -> u32 {
-        self.places() + if self.salt / 9 % 2 == 0 { 0 } else { WHOLE }
+        self.places() + if self.salt / (3 * PLACES.len()) % 2 == 0 { 0 } else { WHOLE }
     }
 }
 
@@ -181,7 +182,7 @@ pub fn canonical(data: &[u8], places: u32) -> Result<String, u32> {
 }
 
 fn check_canonical(asked: &Asked) {
-    for places in [0, 6, 18, 19] {
+    for places in [0, 6, 18, 24, MOST_PLACES, MOST_PLACES + 1] {
         check_canonical_at(asked, places);
         check_canonical_at(asked, places + WHOLE);
     }
@@ -189,7 +190,7 @@ fn check_canonical(asked: &Asked) {
 
 fn check_canonical_at(asked: &Asked, places: u32) {
     let data = asked.data;
-    let has_places = places % WHOLE <= 18;
+    let has_places = places % WHOLE <= MOST_PLACES;
     let text = if has_places { canonical(data, places) } else { Err(NO_PLACES) };
     let end = read(data, places).map_or(usize::MAX, |(_, end)| end);
     let ends_at = std::cell::Cell::new(usize::MAX);

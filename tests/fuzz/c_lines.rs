@@ -1,5 +1,5 @@
 //! wkt_lines, and wkt_lines_some piece by piece.
-use crate::c_calls::{bytes, pointer, Asked, Bytes, Room, MEMORY, NO_PLACES, SMALL};
+use crate::c_calls::{bytes, pointer, Asked, Bytes, Room, MEMORY, MOST_PLACES, NO_PLACES, SMALL};
 use crate::reader::{output, Numbers};
 
 extern "C" {
@@ -81,7 +81,7 @@ pub fn check_lines_some(asked: &Asked) {
     }
     let none = some(asked, b"", places, true, 0, false);
     asked.ensure((none.status, none.taken) == (0, 0), "wkt_lines_some of nothing", none.status, 0);
-    let status = some(asked, data, 19, true, 9, false).status;
+    let status = some(asked, data, MOST_PLACES + 1, true, 9, false).status;
     asked.ensure(status == NO_PLACES, "wkt_lines_some of too many places", status, NO_PLACES);
 }
 

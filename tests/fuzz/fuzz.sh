@@ -22,11 +22,9 @@ build() {
     mkdir -p "$WORK/wkt/crates/wkt_fuzz/src"
     cp "$here/program.txt" "$WORK/wkt/crates/wkt_fuzz/src/main.rt"
     echo 'wkt_fuzz: wkt wkt_bytes wkt_lines wkt_calls wkt_c wkt_type_tests serde_json' >> "$WORK/wkt/crates.txt"
-    # There the functions for C are called like any other, over 0, 6 and 18 places: all nineteen take long to build.
+    # There the functions for C are called like any other.
     sed -i 's/^wkt_c staticlib:/wkt_c:/' "$WORK/wkt/crates.txt"
     sed -i -E 's/^mod (exports|exports_arrays|exports_explain|sizes);/pub mod \1;/' "$WORK/wkt/crates/wkt_c/src/lib.rt"
-    sed -i -E '/^ +([1-57-9]|1[0-7]) => \$call::</d' "$WORK/wkt/crates/wkt_calls/src/asked.rt"
-    [ "$(grep -c '=> \$call::<' "$WORK/wkt/crates/wkt_calls/src/asked.rt")" = 3 ] || { echo "fuzz.sh: other places are left" >&2; exit 2; }
     cd "$WORK/wkt/crates/wkt_fuzz"
     nice -n 10 python3 "$here/module.py" "$WORK/module.bc" < /dev/null > "$WORK/try.log" 2>&1 || true
     cd "$WORK"

@@ -1,5 +1,5 @@
 //! wkt_explain, and where the plain reader's lexemes stop being the beginning of a geometry, by docs/GRAMMAR.md.
-use crate::c_calls::{has_more, pointer, Asked, Bytes, ACCEPTED, NOT_UTF8, NOT_WHOLE, NO_PLACES, WHOLE};
+use crate::c_calls::{has_more, pointer, Asked, Bytes, ACCEPTED, MOST_PLACES, NOT_UTF8, NOT_WHOLE, NO_PLACES, WHOLE};
 use crate::reader::{dimension_word, is_empty, kind_of, read_front, Lexeme, Numbers, Reader};
 
 extern "C" {
@@ -107,7 +107,7 @@ const UNSAID: u32 = 99;
 /// What wkt_explain says: its status, the message, from where to where, and what could stand there.
 fn explained(data: &[u8], places: u32) -> (u32, u32, Place) {
     let status = |status| (status, UNSAID, (UNSET, UNSET, UNSAID));
-    if places % WHOLE > 18 {
+    if places % WHOLE > MOST_PLACES {
         return status(NO_PLACES);
     }
     let Ok(text) = std::str::from_utf8(data) else {
@@ -127,7 +127,7 @@ fn explained(data: &[u8], places: u32) -> (u32, u32, Place) {
 }
 
 pub fn check_explain(asked: &Asked) {
-    for places in [0, 6, 18, 19, 6 + WHOLE, 19 + WHOLE] {
+    for places in [0, 6, 18, MOST_PLACES, MOST_PLACES + 1, 6 + WHOLE, MOST_PLACES + 1 + WHOLE] {
         let wanted = explained(asked.data, places);
         let (mut message, mut place) = (UNSAID, (UNSET, UNSET, UNSAID));
         let ask = || unsafe {

@@ -1,5 +1,5 @@
-/* The keys that stores keep: keys < tests/data/keys.tsv. Each row is a text, and its canonical text at 0, 6, 15 and 18
- * places, or `refused`, with tabs between. They were made by another program, from the rules alone, and stay: a release
+/* The keys that stores keep: keys < tests/data/keys.tsv. Each row is a text, and its canonical text at 0, 6, 15, 18, 24 and
+ * 36 places, or `refused`, with tabs between. They were made by another program, from the rules alone, and stay: a release
  * that changes one of them fails here. Each is compared with what wkt_canonical, wkt_column_canonical and wkt_lines give. */
 #include "wkt.h"
 #include <stdio.h>
@@ -8,9 +8,9 @@
 
 #define MOST 4096
 #define ROOM (1 << 20)
-#define FIELDS 5
+#define FIELDS 7
 
-static const uint32_t PLACES[] = {0, 6, 15, 18};
+static const uint32_t PLACES[] = {0, 6, 15, 18, 24, 36};
 static char file[ROOM];
 static char *fields[MOST][FIELDS];
 static size_t rows, wrong;
@@ -117,7 +117,7 @@ int main(void) {
         as_a_column(column);
         as_lines(column);
     }
-    printf("keys: %lu texts at 4 numbers of places, by three calls, %lu wrong\n", (unsigned long)rows,
+    printf("keys: %lu texts at 6 numbers of places, by three calls, %lu wrong\n", (unsigned long)rows,
            (unsigned long)wrong);
     return wrong ? 1 : 0;
 }

@@ -78,7 +78,7 @@ def same(one, other, asked):
 
 
 def is_value(row):
-    """Whether a database's type takes the text: with some places, and its canonical text with some up to those."""
+    """Whether a database's type of so many places takes the text: with some, and its canonical text with as many."""
     read = (text for status, text, _ in (canonical(row.text, 256 + n) for n in range(18, -1, -1)) if status == 0)
     text = next(read, None)
     return text is not None and any(canonical(text.encode(), 256 + n)[0] == 0 for n in range(row.places + 1))
@@ -90,7 +90,8 @@ def single(n, row):
     faces.say("canonical.one", n, f"!{status}" if status else text)
     status, text, end = canonical(row.text, row.places)
     faces.say("front.one", n, f"!{status}" if status else f"{end} {text}")
-    faces.say("cast.one", n, "ft"[is_value(row)])
+    if row.places <= 18:
+        faces.say("cast.one", n, "ft"[is_value(row)])
     faces.say("explain.one", n, explain(row.text, asked))
     faces.say("infer.one", n, infer(row.text))
     held, back = arrays(row.text, asked)

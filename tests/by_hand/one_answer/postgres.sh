@@ -30,10 +30,11 @@ create table texts as select n - 1 n, places, whole = 1 whole, text_of(t) t, tex
 select 'kind.wkt_kind', n, coalesce(wkt_kind(t), 'null') from texts where t is not null;
 delete from texts where t is null or not whole;
 select 'said.wkt_canonical', n, said(t, places) from texts;
-select 'held.wkt_or_null', n, left((wkt_or_null(t, places) is not null)::text, 1) from texts;
-select 'value.wkt_or_null', n, coalesce(wkt_or_null(t, places)::text, 'null') from texts;
+-- The type has 18 places at most.
+select 'held.wkt_or_null', n, left((wkt_or_null(t, places) is not null)::text, 1) from texts where places <= 18;
+select 'value.wkt_or_null', n, coalesce(wkt_or_null(t, places)::text, 'null') from texts where places <= 18;
 select 'held.wkt_reads', n, left(wkt_reads(t, places)::text, 1) from texts;
 select 'held.wkt_explain', n, left((wkt_explain(t, places) is null)::text, 1) from texts;
-select 'cast.literal', n, is_value(t, places) from texts;
+select 'cast.literal', n, is_value(t, places) from texts where places <= 18;
 select 'same.wkt_same', n, is_same(t, o, places) from texts where o is not null;
 SQL

@@ -146,7 +146,7 @@ fn main() {
             single(row, text);
         }
     }
-    for places in 0..19 {
+    for places in 0..=36 {
         for whole in [true, false] {
             let group: Vec<&Row> = rows.iter().filter(|it| it.places == places && it.whole == whole).collect();
             many(&group, places, whole);
