@@ -1,5 +1,6 @@
 """Ctrl-C in a long column ends the call between two of its blocks."""
 import functools
+import os
 import signal
 import subprocess
 import sys
@@ -29,6 +30,7 @@ CALLS = {
 }
 CHILD = """
 import os, signal, sys, threading, time
+sys.path.insert(0, sys.argv[2])
 from test_interrupts import CALLS
 
 call, spent = CALLS[sys.argv[1]](), []
@@ -55,7 +57,8 @@ class Interrupts(unittest.TestCase):
             with self.subTest(name):
                 # What a script starts in the background ignores SIGINT, and so would the child.
                 heed = functools.partial(signal.signal, signal.SIGINT, signal.SIG_DFL)
-                run = subprocess.run([sys.executable, "-c", CHILD, name], stdout=subprocess.PIPE, preexec_fn=heed)
+                words = [sys.executable, "-c", CHILD, name, os.path.dirname(os.path.abspath(__file__))]
+                run = subprocess.run(words, stdout=subprocess.PIPE, preexec_fn=heed)
                 word, whole, spent = run.stdout.split()
                 self.assertEqual((run.returncode, word), (0, b"interrupted"))
                 self.assertLess(float(spent), float(whole) / 2)
