@@ -1,7 +1,7 @@
 //! How numbers are read and written: by their type, or by a count of places that is said at run time.
 ghost use Rattle.std.specs.Prelude.{◌≡◌, ◌≤◌, ◌<◌, ℕ, true, List, Option, Some, IfSome, length};
 ghost use Rattle.std.proofs.Common.{sym};
-ghost use Rattle.wkt_num.specs.DigitParts.{most_plain, most_whole};
+ghost use Rattle.wkt_num.specs.DigitParts.{most_plain, most_whole, IsDecimalText};
 ghost use Rattle.wkt_num.specs.Decimal.{read_decimal, decimal_text, IsUnits};
 ghost use Rattle.wkt_num.specs.DecimalLaws.{decimal_reads_back, decimal_reads_values, decimal_number_text};
 ghost use Rattle.wkt_num.specs.Sink.{Puts};
@@ -164,7 +164,8 @@ impl Places {
     /// How many places.
     #[inline(always)]
     pub fn places(self) -> u32
-        ensures { result ≡ self }
+        ensures is { result ≡ self }
+        ensures few { result ≤ 36 }
     {
         self.places
     }
@@ -240,7 +241,12 @@ impl Numbers for Places {
     }
 
     #[inline(always)]
-    fn canonical_prefix_simd(self, bytes: &[u8]) -> Option<(usize, usize)> {
+    fn canonical_prefix_simd(self, bytes: &[u8]) -> Option<(usize, usize)>
+        requires { 32 ≤ length bytes.now }
+        ensures keeps { IfSome result (λ r. KeepsText (read_decimal 127 36 self) (decimal_text self) bytes.now r.0 r.1) }
+        ensures within { IfSome result (λ r. r.0 < 32) }
+        ensures finds { (end : ℕ) → IsDecimalText self bytes.now end → end < 32 → result ≡ Some (end, end) }
+    {
         canonical_prefix_simd(self, bytes)
     }
 
