@@ -202,6 +202,10 @@ pub point_name : IsKindName part.Point (codes "POINT")
 unfolding kind_word kind_words class_of
 point_name = record { row = _; names = refl; kind = refl; joined = refl; letters = (refl, (refl, (refl, (refl, (refl, tt))))); begins = refl }
 
+pub polygon_name : IsKindName part.Polygon (codes "POLYGON")
+unfolding kind_word kind_words class_of
+polygon_name = record { row = _; names = refl; kind = refl; joined = refl; letters = (refl, (refl, (refl, (refl, (refl, (refl, (refl, tt))))))); begins = refl }
+
 pub collection_name : IsKindName part.Collection (codes "GEOMETRYCOLLECTION")
 unfolding kind_word kind_words class_of
 collection_name = record { row = _; names = refl; kind = refl; joined = refl; letters = (refl, (refl, (refl, (refl, (refl, (refl, (refl, (refl, (refl, (refl, (refl, (refl, (refl, (refl, (refl, (refl, (refl, (refl, tt)))))))))))))))))); begins = refl }
@@ -213,6 +217,10 @@ open_no_run e = cc
 space_no_run : class_of 32 ≢ Run
 unfolding class_of
 space_no_run e = cc
+
+-- No run goes on with a space.
+pub ends-spaced-word : (b : ℕ) → b ≡ 32 → class_of b ≢ Run
+ends-spaced-word b e r = space_no_run (ap class_of (sym e) ∙ r)
 
 -- No run goes on with the parenthesis.
 pub ends-open-word : (b : ℕ) → b ≡ 40 → class_of b ≢ Run

@@ -9,6 +9,7 @@ ghost use Rattle.wkt_machine.specs.View.{bytes_view, IsBetween};
 ghost use Rattle.wkt_machine.specs.Goes.{Goes, Refuses};
 ghost use Rattle.wkt_machine.specs.LexemesAhead.{IsKindName, StandsHead, StandsHeader, EndsKind, EndsDimension};
 ghost use Rattle.wkt_machine.specs.Room.{HasRoom, RoomAt};
+ghost use Rattle.wkt_machine.specs.declared.header.Then.TheVariants as then;
 ghost use Rattle.wkt_machine.specs.declared.machine.State.TheVariants as next;
 
 use crate::builder::Builder;
@@ -25,6 +26,8 @@ use wkt_read::words::{dimension_front, is_empty_in, kind_front};
 
 // The first bytes of words, each as one number: the compiler doesn't make one comparison of a loop over them.
 const POIN: u32 = 0x4e49_4f50;
+
+const POLY: u32 = 0x594c_4f50;
 
 const GEOMETRY: u64 = 0x5952_5445_4d4f_4547;
 
@@ -48,7 +51,7 @@ pub(crate) enum Then {
 pub(crate) struct Found {
     part: Part,
     dim: Dimension,
-    then: Then,
+    pub(crate) then: Then,
     pub(crate) end: usize,
 }
 
@@ -92,6 +95,16 @@ pub(crate) fn header<'a, T: WktNum, B: Builder<T>, const FEED_ENDS: bool, const 
             _ => on(behind, begun, made),
         };
     }
+    // For the polygons of capi/bench/calls.sh.
+    if let Some(head) = plain::<7, FEED_ENDS>(
+        Part::Polygon,
+        b"POLYGON",
+        is_polygon(&text[at..]),
+        text,
+        at,
+    ) {
+        return Ok(behind::<T, B, FEED_ENDS>(head, at, machine, source, builder));
+    }
     // For nested-6 of bench/.
     if let Some(head) = plain::<18, FEED_ENDS>(
         Part::Collection,
@@ -111,8 +124,8 @@ pub(crate) fn header<'a, T: WktNum, B: Builder<T>, const FEED_ENDS: bool, const 
     }
 }
 
-/// The word of a kind, if it stands there, and its parenthesis, with a space between them at most. `None` doesn't imply
-/// that none stands there.
+/// The word of a kind, if it stands there, and its parenthesis or EMPTY, with a space between them at most. `None` doesn't
+/// imply that none stands there.
 #[inline(always)]
 pub(crate) fn plain<const N: usize, const FEED_ENDS: bool>(
     part: Part,
@@ -126,7 +139,7 @@ pub(crate) fn plain<const N: usize, const FEED_ENDS: bool>(
     requires few { N ≤ 18 }
     requires inside { at ≤ length text.now }
     requires stands { OnTrue stands (take N (drop at text.now) ≡ word.now) }
-    ensures word { IfSome result (λ h. StandsHead FEED_ENDS text.now at part h.end) }
+    ensures word { IfSome result (λ h. h.then ≡ then.Inside → StandsHead FEED_ENDS text.now at part h.end) }
     ensures header { IfSome result (λ h. StandsHeader FEED_ENDS text.now at h.part h.dim h.then h.end) }
     ensures inside { IfSome result (λ h. h.end ≤ length text.now) }
 {
@@ -138,17 +151,20 @@ pub(crate) fn plain<const N: usize, const FEED_ENDS: bool>(
         return None;
     }
     let behind = at + N;
-    let end = if text[behind] == b'(' {
-        behind + 1
-    } else if text[behind] == b' ' && text[behind + 1] == b'(' {
-        behind + 2
-    } else {
+    let (then, end) = if text[behind] == b'(' {
+        (Then::Inside, behind + 1)
+    } else if text[behind] != b' ' {
         return None;
+    } else if text[behind + 1] == b'(' {
+        (Then::Inside, behind + 2)
+    } else {
+        // For POINT EMPTY of capi/bench/calls.sh.
+        (Then::Outside, empty_at::<FEED_ENDS>(text, behind + 1)?)
     };
     Some(Found {
         part,
         dim: Dimension::XY,
-        then: Then::Inside,
+        then,
         end,
     })
 }
@@ -165,6 +181,29 @@ pub(crate) fn is_point(bytes: &[u8]) -> bool
         return false;
     }
     if bytes[4] != b'T' {
+        return false;
+    }
+    true
+}
+
+/// Whether the bytes begin with `POLYGON` in capitals, by four comparisons.
+#[inline(always)]
+fn is_polygon(bytes: &[u8]) -> bool
+    ensures { OnTrue result (take 7 bytes.now ≡ codes "POLYGON") }
+{
+    if bytes.len() < 7 {
+        return false;
+    }
+    if u32::from_le_bytes([bytes[0], bytes[1], bytes[2], bytes[3]]) != POLY {
+        return false;
+    }
+    if bytes[4] != b'G' {
+        return false;
+    }
+    if bytes[5] != b'O' {
+        return false;
+    }
+    if bytes[6] != b'N' {
         return false;
     }
     true

@@ -6,7 +6,7 @@ ghost use Rattle.wkt_num.specs.Whole.{IsSigned};
 ghost use Rattle.wkt_events.specs.Remaining.{TakesOne};
 ghost use Rattle.wkt_machine.specs.Values.{IsPointFront};
 
-use crate::header::{is_point, plain};
+use crate::header::{Then, is_point, plain};
 use crate::part::Part;
 use wkt_events::{byte_at, skip_white};
 use wkt_num::fast_units;
@@ -26,8 +26,11 @@ pub struct FastPoint {
 pub fn fast_point(places: u32, text: &[u8]) -> Option<FastPoint>
     ensures { IfSome result (λ p. IsPointFront places text.now p.x p.y p.end) }
 {
-    let opened = plain::<5, false>(Part::Point, b"POINT", is_point(text), text, 0)?.end;
-    let (x, between) = fast_number(places, text, opened)?;
+    let head = plain::<5, false>(Part::Point, b"POINT", is_point(text), text, 0)?;
+    let Then::Inside = head.then else {
+        return None;
+    };
+    let (x, between) = fast_number(places, text, head.end)?;
     let (y, behind) = fast_number(places, text, between)?;
     let close = skip_white::<false>(text, behind);
     if byte_at(text, close) != b')' {

@@ -3,7 +3,7 @@ use Rattle.std.proofs.Common.{◌≡◌, arith, codes, subst, take}
 use Rattle.std.specs.Bool.{OnTrue}
 use Rattle.std.proofs.lemmas.List.{take_rest}
 use Rattle.wkt_machine.specs.View.{bytes_view}
-use Rattle.wkt_machine.proofs.ByteSteps.{collection_name, point_name}
+use Rattle.wkt_machine.proofs.ByteSteps.{collection_name, point_name, polygon_name}
 use Rattle.wkt_machine.proofs.WaysJoin.{goes_if, refuses_if}
 use Rattle.wkt_machine.proofs.header.header.Goals as goal
 
@@ -35,6 +35,24 @@ plain-requires g c = (
 
 pub plain-requires-2 : goal.plain-requires-2
 plain-requires-2 g c = (
+  omega arith,
+  (
+    polygon_name,
+    (
+      omega arith,
+      (
+        omega arith,
+        (
+          c.skip_white-at.ensures.inside,
+          subst (λ t. OnTrue c.is_polygon.result (take 7 t ≡ codes "POLYGON")) (take_rest c.args.source.text.now c.skip_white-at.result) c.is_polygon.ensures,
+        ),
+      ),
+    ),
+  ),
+)
+
+pub plain-requires-3 : goal.plain-requires-3
+plain-requires-3 g c = (
   omega arith,
   (
     collection_name,

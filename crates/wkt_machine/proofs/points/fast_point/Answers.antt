@@ -7,7 +7,7 @@ pub returns : goal.returns
 returns c =
     let (r, one, ex, fx) = c.in_ok-x.ensures in
     let (s, two, ey, fy) = c.in_ok-y.ensures in
-    point-held c.args.places c.args.text.now c.in_ok-opened.field-0.end c.in_ok-x.between c.in_ok-y.behind _ r s c.in_ok-x.x c.in_ok-y.y c.in_ok-opened.ensures.word one ex two ey
+    point-held c.args.places c.args.text.now c.in_ok-head.head.end c.in_ok-x.between c.in_ok-y.behind _ r s c.in_ok-x.x c.in_ok-y.y (c.in_ok-head.ensures.word c.in-Inside.is) one ex two ey
     (shuts c.args.text.now c.in_ok-y.behind c.skip_white-close.result c.byte_at.result c.skip_white-close.ensures.order c.skip_white-close.ensures.same c.byte_at.ensures.value c.if-byte_at-ne41.false) fx fy
 
 pub plain-requires : goal.plain-requires
