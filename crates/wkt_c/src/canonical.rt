@@ -4,10 +4,8 @@ ghost use Rattle.wkt_calls.specs.Calls.{AnswersCanonical, AreCompared};
 ghost use Rattle.wkt_calls.specs.Answer.{read_at, print_at, places_in, IsCanonicalOf, RefusesText, RefusesOne};
 
 use std::alloc::Global;
-use wkt_calls::canonical::{
-    SHORT, SHORTEST, canonical_short, canonical_shortest, copy_out_front, write_within,
-};
-use wkt_calls::compare::{Compared, judge, same_short};
+use wkt_calls::canonical::{SHORT, canonical_short, copy_out_front, write_within};
+use wkt_calls::compare::{Compared, same_in, same_short};
 use wkt_calls::status::{MEMORY, NOT_TEXT};
 use wkt_canonical::make_room;
 
@@ -39,9 +37,6 @@ pub(crate) fn canonical(
     requires { places_in asked ≤ 36 }
     ensures { AnswersCanonical asked text.now result out.old out.new needed.old needed.new end.old end.new }
 {
-    if text.len() <= SHORTEST {
-        return canonical_shortest(text, asked, out, needed, end);
-    }
     if text.len() <= SHORT {
         return canonical_short(text, asked, out, needed, end);
     }
@@ -64,26 +59,9 @@ fn canonical_long(
     requires long { SHORT < length text.now }
     ensures { AnswersCanonical asked text.now result out.old out.new needed.old needed.new end.old end.new }
 {
-    match str::from_utf8(text) {
-        Ok(text) => canonical_in_room(alloc, text, asked, out, needed, end),
-        Err(_) => NOT_TEXT,
-    }
-}
-
-/// The same, of a text that is UTF-8, in a room that is made for it.
-fn canonical_in_room(
-    alloc: Global,
-    text: &str,
-    asked: u32,
-    out: &mut [u8],
-    needed: &mut usize,
-    end: &mut usize,
-) -> u32
-    requires places { places_in asked ≤ 36 }
-    requires long { SHORT < length text.now }
-    requires utf8 { IsUtf8 text.now }
-    ensures { AnswersCanonical asked text.now result out.old out.new needed.old needed.new end.old end.new }
-{
+    let Ok(text) = str::from_utf8(text) else {
+        return NOT_TEXT;
+    };
     let mut room = Vec::new(alloc);
     match write_long(text, asked, &mut room) {
         Ok((at, n)) => {
@@ -92,41 +70,6 @@ fn canonical_in_room(
         }
         Err(status) => status,
     }
-}
-
-/// Whether two texts begin with one geometry.
-#[inline(never)]
-fn same_long(alloc: Global, one: &str, other: &str, asked: u32) -> Result<Compared, u32>
-    requires places { places_in asked ≤ 36 }
-    requires utf8 { IsUtf8 one.now }
-    requires other_utf8 { IsUtf8 other.now }
-    ensures { MatchResult result (AreCompared asked one.now other.now)
-        (λ s. (s ≡ MEMORY) ⊎ RefusesOne (read_at (places_in asked)) one.now other.now s) }
-{
-    let mut first = Vec::new(alloc);
-    let (end, n) = match write_long(one, asked, &mut first) {
-        Ok(written) => written,
-        Err(status) => return Err(status),
-    };
-    let mut second = Vec::new(alloc);
-    let (other_end, m) = match write_long(other, asked, &mut second) {
-        Ok(written) => written,
-        Err(status) => return Err(status),
-    };
-    let same = judge(
-        one.as_bytes(),
-        &first[..n],
-        end,
-        other.as_bytes(),
-        &second[..m],
-        other_end,
-        asked,
-    );
-    Ok(Compared {
-        same,
-        end,
-        other_end,
-    })
 }
 
 /// Whether two texts begin with one geometry: whether their canonical texts are equal.
@@ -139,14 +82,14 @@ pub(crate) fn same(alloc: Global, one: &[u8], other: &[u8], asked: u32) -> Resul
     if one.len() <= SHORT && other.len() <= SHORT {
         return same_short(one, other, asked);
     }
-    same_of_bytes(alloc, one, other, asked)
+    same_long(alloc, one, other, asked)
 }
 
 /// The same, of texts of which one at least isn't short.
 ///
 /// Apart from the short ones, for which no place of what is needed here is cleared then.
 #[inline(never)]
-fn same_of_bytes(alloc: Global, one: &[u8], other: &[u8], asked: u32) -> Result<Compared, u32>
+fn same_long(alloc: Global, one: &[u8], other: &[u8], asked: u32) -> Result<Compared, u32>
     requires places { places_in asked ≤ 36 }
     ensures { MatchResult result (AreCompared asked one.now other.now)
         (λ s. (s ≡ MEMORY) ⊎ RefusesOne (read_at (places_in asked)) one.now other.now s) }
@@ -157,5 +100,18 @@ fn same_of_bytes(alloc: Global, one: &[u8], other: &[u8], asked: u32) -> Result<
     let Ok(other) = str::from_utf8(other) else {
         return Err(NOT_TEXT);
     };
-    same_long(alloc, one, other, asked)
+    let mut first = Vec::new(alloc);
+    let mut second = Vec::new(alloc);
+    if make_room(&mut first, 0, one.len()).is_err()
+        || make_room(&mut second, 0, other.len()).is_err()
+    {
+        return Err(MEMORY);
+    }
+    same_in(
+        one,
+        other,
+        asked,
+        first.as_mut_slice(),
+        second.as_mut_slice(),
+    )
 }

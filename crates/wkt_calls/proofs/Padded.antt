@@ -1,15 +1,13 @@
--- What stands behind a NUL is in no front, the status of a refused text is the number of its message, and the machine stops
--- at a text's first lexeme where that is the word of no kind.
-use Rattle.std.proofs.Common.{◌≡◌, ◌+◌, ◌<◌, inl, inr, ℕ, zero, suc, get_or, replicate, take, drop, length-drop, IsUtf8, List, [], ◌∷◌, ◌++◌, Option, refl, sym, ap, ◌∙◌, subst, length, arith, ◌≤◌, Some, None, false}
+-- What stands behind a NUL is in no front, and the status of a refused text is the number of its message.
+use Rattle.std.proofs.Common.{◌≡◌, ◌+◌, ◌<◌, inl, inr, ℕ, zero, suc, get_or, replicate, take, drop, length-drop, IsUtf8, List, [], ◌∷◌, ◌++◌, Option, refl, sym, ap, ◌∙◌, subst, length, arith, ◌≤◌}
 use Rattle.std.specs.Str.{IsAscii}
-use Rattle.std.proofs.lemmas.List.{get_or-drop}
+use Rattle.std.proofs.lemmas.List.{get_or-drop, length-replicate}
 use Rattle.std.proofs.lemmas.Str.{IsUtf8-append, IsUtf8-from_ascii, IsAscii-take, IsAscii-drop}
 use Rattle.std.proofs.Math.Seq.{take-append-add, take-append_seam}
 use Rattle.wkt_num.specs.Bytes.{Lexeme, class_of}
-use Rattle.wkt_num.specs.Bytes as lex
 use Rattle.wkt_access.specs.Values.{Value}
 use Rattle.wkt_read.specs.Front.{Front, HasNoFront}
-use Rattle.wkt_read.specs.Grammar.{StandFor, KindWord, kind_word}
+use Rattle.wkt_read.specs.Grammar.{StandFor}
 use Rattle.wkt_read.specs.Lexemes.{IsSplit}
 use Rattle.wkt_read.specs.Refusal.{IsRefusedWith}
 use Rattle.wkt_read.specs.Spanned.{Spanned, lexemes_of, end_after, AreEnds, joined, after_run, front, spanned_from, spanned}
@@ -23,20 +21,6 @@ use Rattle.wkt_read.specs.Messages.{message_number}
 use Rattle.wkt_read.proofs.Refusals.{with_bad}
 use Rattle.wkt_calls.specs.Answer.{RefusesText}
 use Rattle.wkt_read.specs.declared.messages.Message.TheVariants as message
-use Rattle.wkt_access.specs.declared.dimensions.Dimension.{Dimension}
-use Rattle.wkt_types.specs.declared.geometry_type.GeometryType.{GeometryType}
-use Rattle.wkt_machine.specs.View.{bytes_view, seen_of, seen_word, sight}
-use Rattle.wkt_machine.specs.Machine.{start, is_over, kind_step, step_at, number_of, moved, move}
-use Rattle.wkt_machine.specs.Machine as place
-use Rattle.wkt_machine.specs.Goes.{IsStuck, StopsAt}
-use Rattle.wkt_machine.specs.Machines.{state_of}
-use Rattle.wkt_machine.specs.declared.bytes.Bytes.{Bytes}
-use Rattle.wkt_machine.specs.declared.machine.Machine.{Machine}
-use Rattle.wkt_machine.specs.declared.machine.Seen.{Seen}
-use Rattle.wkt_machine.proofs.TableMessages.{stops_there}
-use Rattle.wkt_machine.specs.declared.machine.Seen.TheVariants as seen
-
--- What stands behind a NUL is in no front, and the status of a refused text is the number of its message.
 
 -- What stands behind a NUL is in no front.
 
@@ -98,6 +82,9 @@ zeros-at zero i = refl
 zeros-at (suc n) zero = refl
 zeros-at (suc n) (suc i) = zeros-at n i
 
+pub cleared-long : (n k : ℕ) → k ≤ n → k ≤ length (replicate n the-zero)
+cleared-long n k h = subst (λ m. k ≤ m) (sym (length-replicate n the-zero)) h
+
 zero-first : (k : ℕ) (xs : List ℕ) → 0 < length xs → ((i : ℕ) → get_or xs i 0 ≡ the-zero) → (more : List ℕ) × (take (suc k) xs ≡ 0 ∷ more)
 zero-first k [] some zeros = absurd (omega (arith, some))
 zero-first k (x ∷ xs) some zeros = (take k xs, ap (λ z. z ∷ take k xs) (zeros 0))
@@ -153,36 +140,3 @@ refused-with read text m status utf8 none reported is least most =
       others = inl (omega (arith, most));
       some = least;
     }
-
--- The machine stops at a text's first lexeme where that is the word of no kind.
-
-abbrev IsNoKind : Seen → Type 0
-IsNoKind k = (g : GeometryType) (d : Option Dimension) → k ≡ seen.Kind g d → ⊥
-
-word-none : (n : ℕ) (w : List ℕ) (o : Option KindWord) → IsNoKind (seen_word o w) → kind_step o n ≡ None
-word-none n w (Some e) never = absurd (never e.kind e.joined refl)
-word-none n w None never = refl
-
-step-none : (n : ℕ) (l : Lexeme) → IsNoKind (seen_of l) → step_at place.Kind n l ≡ None
-step-none n (lex.Word w) never = word-none n w (kind_word w) never
-step-none n lex.Open never = refl
-step-none n lex.Close never = refl
-step-none n lex.Comma never = refl
-step-none n (lex.Num w) never = refl
-
-is-stuck : {N : Type 0} (read : List ℕ → Option N) (m : Machine) → state_of m ≡ start → (ps : List Spanned) → IsNoKind (sight ps) → IsStuck read m ps
-is-stuck read m is [] never = tt
-is-stuck read m is (p ∷ ps) never = ap (λ s. move read s p.lexeme) is ∙ ap (λ o. moved read o (number_of read p.lexeme)) (step-none 0 p.lexeme never)
-
-pub stops_first : {N : Type 0} (read : List ℕ → Option N) (text : List ℕ) {n : ℕ} (s : Bytes n) → s.text.now ≡ text → s.at ≡ 0 → IsUtf8 text → (m : Machine) → state_of m ≡ start → IsNoKind (sight ((bytes_view {N = N} {n = n} false).remaining s)) → StopsAt read text m 0
-stops_first {N} read text {n} s same begins utf8 m is never =
-    subst (λ at. StopsAt read text m at) begins (stops_there read text s same begins utf8 s m (record {
-      taken = [];
-      events = [];
-      split = refl;
-      behind = λ end k. k;
-      ran = ap (λ s. Some (s, [])) (sym is);
-      is_open = ap is_over is;
-      keeps = λ k h. h;
-      stuck = λ k h. is-stuck read m is ((bytes_view {N = N} {n = n} false).remaining s) never;
-    }))

@@ -7,7 +7,6 @@ ghost use Rattle.wkt_calls.specs.Answer.{read_at, print_at, places_in, asks_whol
 
 use crate::asked::{ends_as_asked, places_of};
 use crate::fill::copy_out;
-use crate::refusal::refused_at_start;
 use crate::status::{DONE, NOT_TEXT, NOT_WHOLE, SMALL};
 use std::simd::prelude::*;
 use wkt_canonical::laws::texts_are_short;
@@ -17,10 +16,8 @@ use wkt_read::Message;
 
 /// How long a text may be that is answered with no memory.
 pub const SHORT: usize = 200;
-/// How long a text may be that is answered with the least room, which is cleared for each call.
-pub const SHORTEST: usize = 32;
-/// How long a text may be that is answered with a room between: most polygons of a few points are no longer.
-pub(crate) const MIDDLE: usize = 63;
+/// How long a text may be that is answered with the least room, since that is cleared for each call: most points are no longer.
+pub(crate) const SHORTEST: usize = 32;
 /// How many zeros stand behind a short text: what the machine looks at together.
 const BEHIND: usize = 32;
 
@@ -190,73 +187,6 @@ pub fn copy_out_front(
     copy_out(answer, out, needed)
 }
 
-/// Whether a text may begin with the word of a kind, by its first byte: by the bits that are the same in letters of either
-/// case, so that one look decides. Those are of white space and of G, L, M and P; other bytes that share them may too.
-#[inline(always)]
-pub(crate) fn may_begin(text: &[u8]) -> bool {
-    text.len() > 0 && matches!(text[0] & 31, 0 | 9 | 10 | 13 | 7 | 12 | 16)
-}
-
-/// Answers a text of up to [`SHORTEST`] bytes with the canonical text of what it begins with.
-#[inline(always)]
-pub fn canonical_shortest(
-    text: &[u8],
-    asked: u32,
-    out: &mut [u8],
-    needed: &mut usize,
-    end: &mut usize,
-) -> u32
-    requires places { places_in asked ≤ 36 }
-    requires short { length text.now ≤ SHORTEST }
-    ensures { AnswersCanonical asked text.now result out.old out.new needed.old needed.new end.old end.new }
-{
-    if may_begin(text) {
-        return canonical_cleared(text, asked, out, needed, end);
-    }
-    canonical_unlikely(text, asked, out, needed, end)
-}
-
-/// The same, for a text that may begin with the word of a kind.
-#[inline(never)]
-fn canonical_cleared(
-    text: &[u8],
-    asked: u32,
-    out: &mut [u8],
-    needed: &mut usize,
-    end: &mut usize,
-) -> u32
-    requires places { places_in asked ≤ 36 }
-    requires short { length text.now ≤ SHORTEST }
-    ensures { AnswersCanonical asked text.now result out.old out.new needed.old needed.new end.old end.new }
-{
-    let mut near = [0u8; 64];
-    let mut room = [0u8; 208];
-    canonical_padded(text, asked, &mut near, &mut room, out, needed, end)
-}
-
-/// The same, for a text that seems to begin with no word of a kind: it is refused with no room cleared.
-#[cold]
-#[inline(never)]
-fn canonical_unlikely(
-    text: &[u8],
-    asked: u32,
-    out: &mut [u8],
-    needed: &mut usize,
-    end: &mut usize,
-) -> u32
-    requires places { places_in asked ≤ 36 }
-    requires short { length text.now ≤ SHORTEST }
-    ensures { AnswersCanonical asked text.now result out.old out.new needed.old needed.new end.old end.new }
-{
-    match str::from_utf8(text) {
-        Ok(text) => match refused_at_start(Places::new(places_of(asked)), text) {
-            Some(status) => status,
-            None => canonical_cleared(text.as_bytes(), asked, out, needed, end),
-        },
-        Err(_) => NOT_TEXT,
-    }
-}
-
 /// Answers a text of up to [`SHORT`] bytes with the canonical text of what it begins with.
 #[inline(always)]
 pub fn canonical_short(
@@ -270,15 +200,15 @@ pub fn canonical_short(
     requires short { length text.now ≤ SHORT }
     ensures { AnswersCanonical asked text.now result out.old out.new needed.old needed.new end.old end.new }
 {
-    if text.len() <= MIDDLE {
-        return canonical_middle(text, asked, out, needed, end);
+    if text.len() <= SHORTEST {
+        return canonical_cleared::<64, 208>(text, asked, out, needed, end);
     }
-    canonical_longer(text, asked, out, needed, end)
+    canonical_cleared::<256, 544>(text, asked, out, needed, end)
 }
 
-/// The same, for a text of up to [`MIDDLE`] bytes.
+/// The same, with so many cleared bytes for the text, and so many for its canonical text.
 #[inline(never)]
-fn canonical_middle(
+fn canonical_cleared<const NEAR: usize, const ROOM: usize>(
     text: &[u8],
     asked: u32,
     out: &mut [u8],
@@ -286,50 +216,14 @@ fn canonical_middle(
     end: &mut usize,
 ) -> u32
     requires places { places_in asked ≤ 36 }
-    requires short { length text.now ≤ MIDDLE }
+    requires near { length text.now + 32 ≤ NEAR }
+    requires room { 2 * length text.now + 129 ≤ ROOM }
+    requires few { (NEAR ≤ 256) × (ROOM ≤ 544) }
     ensures { AnswersCanonical asked text.now result out.old out.new needed.old needed.new end.old end.new }
 {
-    let mut near = [0u8; 96];
-    let mut room = [0u8; 256];
-    canonical_padded(text, asked, &mut near, &mut room, out, needed, end)
-}
-
-/// The same, for a text of any length up to [`SHORT`].
-#[inline(never)]
-fn canonical_longer(
-    text: &[u8],
-    asked: u32,
-    out: &mut [u8],
-    needed: &mut usize,
-    end: &mut usize,
-) -> u32
-    requires places { places_in asked ≤ 36 }
-    requires short { length text.now ≤ SHORT }
-    ensures { AnswersCanonical asked text.now result out.old out.new needed.old needed.new end.old end.new }
-{
-    let mut near = [0u8; 256];
-    let mut room = [0u8; 544];
-    canonical_padded(text, asked, &mut near, &mut room, out, needed, end)
-}
-
-/// Answers a short text with its canonical text, with cleared bytes for the text and room for the answer.
-#[inline(always)]
-fn canonical_padded(
-    text: &[u8],
-    asked: u32,
-    near: &mut [u8],
-    room: &mut [u8],
-    out: &mut [u8],
-    needed: &mut usize,
-    end: &mut usize,
-) -> u32
-    requires places { places_in asked ≤ 36 }
-    requires near { length text.now + 32 ≤ length near.old }
-    requires zeros { (i : ℕ) → slice_index near.old i ≡ 0 }
-    requires room { 2 * length text.now + 129 ≤ length room.old }
-    ensures { AnswersCanonical asked text.now result out.old out.new needed.old needed.new end.old end.new }
-{
-    match write_short(text, asked, near, room) {
+    let mut near = [0u8; NEAR];
+    let mut room = [0u8; ROOM];
+    match write_short(text, asked, &mut near, &mut room) {
         Ok((at, n)) => {
             *end = at;
             copy_out_front(text, at, asked, &room[..n], out, needed)

@@ -6,7 +6,6 @@ ghost use Rattle.wkt_calls.specs.Arrays.{IsFlat, IsFlatPoint, IsNotFlatIn};
 
 use crate::asked::places_of;
 use crate::infer::{number_of_dimension, number_of_kind};
-use crate::refusal::refusal;
 use crate::status::NOT_TEXT;
 use wkt_fill::{Filler, Room, fill_arrays};
 use wkt_machine::{FastPoint, fast_point};
@@ -62,6 +61,16 @@ fn is_text_from(text: &[u8], end: usize) -> bool
         Ok(_) => true,
         Err(_) => false,
     }
+}
+
+/// The status of a text that has no front: the number of its message. It takes no memory, and no stack for nesting.
+#[cold]
+#[inline(never)]
+fn refusal(places: Places, text: &str) -> u32
+    requires { HasNoFront (read_at places) text.now }
+    ensures { RefusesText (read_at places) text.now result }
+{
+    wkt_explain::message_by(places, text).number()
 }
 
 /// Why bytes are refused that have no front.

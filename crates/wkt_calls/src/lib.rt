@@ -15,7 +15,6 @@ pub mod fill;
 pub mod flat;
 pub mod infer;
 pub mod lines;
-mod refusal;
 pub mod sizes;
 pub mod status;
 

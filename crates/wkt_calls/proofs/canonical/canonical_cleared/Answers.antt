@@ -1,6 +1,12 @@
--- The bytes behind a short text are zeros.
-use Rattle.wkt_calls.proofs.Padded.{zeros-at}
+-- The bytes behind a short text are zeros, and there is room for its canonical text.
+use Rattle.wkt_calls.proofs.Padded.{zeros-at, cleared-long}
 use Rattle.wkt_calls.proofs.canonical.canonical_cleared.Goals as goal
 
-pub canonical_padded-requires-clause-zeros : goal.canonical_padded-requires-clause-zeros
-canonical_padded-requires-clause-zeros c = zeros-at 64
+pub write_short-requires-clause-near : goal.write_short-requires-clause-near
+write_short-requires-clause-near g c = cleared-long g.row.NEAR _ c.requires.near
+
+pub write_short-requires-clause-zeros : goal.write_short-requires-clause-zeros
+write_short-requires-clause-zeros g c = zeros-at g.row.NEAR
+
+pub write_short-requires-clause-room : goal.write_short-requires-clause-room
+write_short-requires-clause-room g c = cleared-long g.row.ROOM _ c.requires.room

@@ -1,7 +1,7 @@
 -- A text without a front is refused, and the status is the number of its message.
 use Rattle.wkt_calls.specs.Answer.{read_at}
 use Rattle.wkt_calls.proofs.Padded.{refused-with}
-use Rattle.wkt_calls.proofs.refusal.refusal.Goals as goal
+use Rattle.wkt_calls.proofs.flat.refusal.Goals as goal
 
 pub returns : goal.returns
 returns c =
