@@ -10,6 +10,7 @@ use crate::told::{GivenArrays, told};
 use std::alloc::Global;
 use wkt_calls::asked::MOST_ASKED;
 use wkt_calls::status::{DONE, MEMORY, NO_PLACES, NULL_ROW};
+use wkt_num::Places;
 
 /// A column of arrays of the caller's, with the bits of the rows that aren't null, if any row is.
 #[derive(Clone, Copy)]
@@ -55,7 +56,7 @@ pub(crate) fn is_array_column(given: GivenRows<'_>, ends: &[usize], statuses: &[
 
 /// Adds the text of a row's arrays, which is written in the room first.
 fn add_text(
-    places: u32,
+    places: Places,
     rows: &mut Rows,
     room: &mut Vec<u8>,
     row: GivenArrays<'_>,
@@ -81,7 +82,7 @@ fn add_text(
 }
 
 /// The texts of all rows of a column of arrays.
-fn all_texts(alloc: Global, given: GivenRows<'_>, places: u32) -> Result<Rows, u32>
+fn all_texts(alloc: Global, given: GivenRows<'_>, places: Places) -> Result<Rows, u32>
     requires places { places ≤ 36 }
     requires arrays { AreArrayColumn (given_arrays given) given.valid.now }
     ensures { MatchResult result
@@ -115,5 +116,5 @@ pub(crate) fn texts_at(alloc: Global, given: GivenRows<'_>, places: u32) -> Resu
     if places > MOST_ASKED {
         return Err(NO_PLACES);
     }
-    all_texts(alloc, given, places)
+    all_texts(alloc, given, Places::new(places))
 }

@@ -87,7 +87,7 @@ fn make_room(room: &mut Vec<u8>, needed: usize) -> Result<(), u32>
 /// A pen that has written the text of the geometry of those arrays, in a room that grows as it has to.
 pub(crate) fn told<'a>(
     given: GivenArrays<'_>,
-    places: u32,
+    places: Places,
     room: &'a mut Vec<u8>,
 ) -> Result<Pen<'a, Places>, u32>
     requires { places ≤ 36 }
@@ -105,13 +105,13 @@ pub(crate) fn told<'a>(
     if !are_arrays(arrays) {
         return Err(NOT_ARRAYS);
     }
-    let Some(needed) = room_of(arrays, places) else {
+    let Some(needed) = room_of(arrays, places.places()) else {
         return Err(MEMORY);
     };
     make_room(room, needed)?;
     // No effect at run time. The proof reads that no number's text is too long.
     texts_are_short();
-    let pen = Pen::new(Places::new(places), room.as_mut_slice());
+    let pen = Pen::new(places, room.as_mut_slice());
     Ok(tell::<Pen<'a, Places>>(arrays, pen))
 }
 
@@ -119,7 +119,7 @@ pub(crate) fn told<'a>(
 fn copy_out_text(
     alloc: Global,
     given: GivenArrays<'_>,
-    places: u32,
+    places: Places,
     out: &mut [u8],
     needed: &mut usize,
 ) -> u32
@@ -148,5 +148,5 @@ pub(crate) fn copy_out_text_at(
     if places > MOST_ASKED {
         return NO_PLACES;
     }
-    copy_out_text(alloc, given, places, out, needed)
+    copy_out_text(alloc, given, Places::new(places), out, needed)
 }

@@ -18,15 +18,15 @@ pub tell-requires-clause-room : goal.tell-requires-clause-room
 tell-requires-clause-room c = λ q v h.
     let a : Given = record { kind = c.in_ok-kind_of.field-0; dimension = c.in_ok-dimension_of.field-0; numbers = c.args.given.numbers; rings = c.args.given.rings; polygons = c.args.given.polygons } in
     let large : c.in-Some.needed ≤ length c.as_mut_slice.result.now = omega (arith, c.in_ok-make_room.ensures.ok, c.as_mut_slice.ensures.len) in
-    let fresh : IsFresh c.args.places c.as_mut_slice.result.now c.new-pen.result = subst (λ (n : ℕ). IsFresh n c.as_mut_slice.result.now c.new-pen.result) c.new.ensures c.new-pen.ensures in
-    has-room c.args.places q a c.if-not-are_arrays.ensures.narrow c.as_mut_slice.result.now c.new-pen.result fresh c.in-Some.needed c.in-Some.ensures large v h
+    let fresh : IsFresh c.args.places c.as_mut_slice.result.now c.new-pen.result = c.new-pen.ensures in
+    has-room c.args.places q a c.if-not-are_arrays.ensures.narrow c.as_mut_slice.result.now c.new-pen.result fresh c.in-Some.needed (rw c.places.ensures.is at c.in-Some.ensures) large v h
 
 pub returns-clause-ok : goal.returns-clause-ok
 returns-clause-ok c =
     let a : Given = record { kind = c.in_ok-kind_of.field-0; dimension = c.in_ok-dimension_of.field-0; numbers = c.args.given.numbers; rings = c.args.given.rings; polygons = c.args.given.polygons } in
     let some = c.if-not-are_arrays.ensures.some c.args.places c.requires in
     let num = decimal_text c.args.places in
-    let fresh : IsFresh c.args.places c.as_mut_slice.result.now c.new-pen.result = subst (λ (n : ℕ). IsFresh n c.as_mut_slice.result.now c.new-pen.result) c.new.ensures c.new-pen.ensures in
+    let fresh : IsFresh c.args.places c.as_mut_slice.result.now c.new-pen.result = c.new-pen.ensures in
     let made = subst (λ (n : ℕ). Made (read_decimal 127 36 n) (decimal_text n) c.new-pen.result (events some.0) c.tell.result) fresh.numbers (c.tell.ensures c.args.places some.0 some.1).makes in
     text-of c.args.places a c.args.given.kind c.args.given.dimension c.in_ok-kind_of.ensures.ok c.in_ok-dimension_of.ensures.ok some.0 some.1 (written_of c.tell.result).bytes
     (wrote-value (read_decimal 127 36 c.args.places) num (IsUnits c.args.places) (c.texts_are_short.ensures.decimals c.args.places) (λ v w h. events_write (IsUnits c.args.places) num v h w)
@@ -37,6 +37,6 @@ returns-clause-within c =
     let a : Given = record { kind = c.in_ok-kind_of.field-0; dimension = c.in_ok-dimension_of.field-0; numbers = c.args.given.numbers; rings = c.args.given.rings; polygons = c.args.given.polygons } in
     let some = c.if-not-are_arrays.ensures.some c.args.places c.requires in
     let large : c.in-Some.needed ≤ length c.as_mut_slice.result.now = omega (arith, c.in_ok-make_room.ensures.ok, c.as_mut_slice.ensures.len) in
-    let fresh : IsFresh c.args.places c.as_mut_slice.result.now c.new-pen.result = subst (λ (n : ℕ). IsFresh n c.as_mut_slice.result.now c.new-pen.result) c.new.ensures c.new-pen.ensures in
-    let room = has-room c.args.places c.args.places a c.if-not-are_arrays.ensures.narrow c.as_mut_slice.result.now c.new-pen.result fresh c.in-Some.needed c.in-Some.ensures large some.0 some.1 in
+    let fresh : IsFresh c.args.places c.as_mut_slice.result.now c.new-pen.result = c.new-pen.ensures in
+    let room = has-room c.args.places c.args.places a c.if-not-are_arrays.ensures.narrow c.as_mut_slice.result.now c.new-pen.result fresh c.in-Some.needed (rw c.places.ensures.is at c.in-Some.ensures) large some.0 some.1 in
     is-within c.new-pen.result c.tell.result (events some.0) room (c.tell.ensures c.args.places some.0 some.1)
