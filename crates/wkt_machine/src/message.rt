@@ -12,7 +12,6 @@ ghost use Rattle.wkt_read.specs.Table.{at_place, closing, closings, stays};
 use crate::machine::{Machine, State};
 use crate::numbers::read_by;
 use crate::part::Part;
-use wkt_access::Dimension;
 use wkt_events::{begins_number, byte_at, run_end, skip_white};
 use wkt_num::Numbers;
 use wkt_read::table::{at_bad, at_end, at_other, at_word};
@@ -196,46 +195,14 @@ fn close<N: Numbers>(
 
 /// The message of a text that is refused, by the table of `docs/GRAMMAR.md`: the machine stops at this place, with the
 /// lexeme that comes next.
-#[inline(always)]
+#[inline(never)]
 pub fn message_at<N: Numbers>(numbers: N, machine: Machine, text: &str, at: usize) -> Message
     requires inside { at ≤ length text.now }
     requires stuck { IsStuck (N.read numbers) machine (remaining_spanned false text.now at) }
     ensures { result ≡ (refused (N.read numbers) (state_of machine) (remaining false text.now at)).0 }
 {
-    message_outlined(
-        numbers,
-        machine.state,
-        machine.part,
-        machine.dim,
-        machine.depth,
-        text,
-        at,
-    )
-}
-
-/// The same. The parts of the place come one by one, so that what fills it up isn't carried along.
-#[inline(never)]
-fn message_outlined<N: Numbers>(
-    numbers: N,
-    state: State,
-    part: Part,
-    dim: Dimension,
-    depth: usize,
-    text: &str,
-    at: usize,
-) -> Message
-    requires inside { at ≤ length text.now }
-    requires stuck { IsStuck (N.read numbers) (record { state = state; part = part; dim = dim; depth = depth }) (remaining_spanned false text.now at) }
-    ensures { result ≡ (refused (N.read numbers) (state_of (record { state = state; part = part; dim = dim; depth = depth })) (remaining false text.now at)).0 }
-{
-    let machine = Machine {
-        state,
-        part,
-        dim,
-        depth,
-    };
     let bytes = text.as_bytes();
     let (blamed, behind) = blame(numbers, machine, bytes, at);
     let (message, from) = close(numbers, blamed, machine.own(), bytes, behind);
-    close(numbers, message, depth, bytes, from).0
+    close(numbers, message, machine.depth, bytes, from).0
 }

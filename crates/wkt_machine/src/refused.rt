@@ -225,41 +225,13 @@ fn close_outlined<T: WktNum>(
 
 /// The message of tokens that are refused at the place, by the table of `docs/GRAMMAR.md`. As many of them are taken as
 /// it takes to say so.
-#[inline(always)]
+#[inline(never)]
 pub(crate) fn refused<T: WktNum>(machine: Machine, tokens: &mut PeekableTokens<'_, T>) -> Message
     requires stuck { IsStuck T.read machine (remaining tokens.now) }
     ensures message { (result, rest tokens.new) ≡ refused T.read (state_of machine) (rest tokens.old) }
     ensures advances { Advances tokens.old tokens.new }
 {
-    refused_outlined(
-        machine.state,
-        machine.part,
-        machine.dim,
-        machine.depth,
-        tokens,
-    )
-}
-
-/// The message of refused tokens. The machine's parts come one by one, so that what fills it up isn't carried along.
-#[inline(never)]
-fn refused_outlined<T: WktNum>(
-    state: State,
-    part: Part,
-    dim: Dimension,
-    depth: usize,
-    tokens: &mut PeekableTokens<'_, T>,
-) -> Message
-    requires stuck { IsStuck T.read (record { state = state; part = part; dim = dim; depth = depth }) (remaining tokens.now) }
-    ensures message { (result, rest tokens.new) ≡ refused T.read (state_of (record { state = state; part = part; dim = dim; depth = depth })) (rest tokens.old) }
-    ensures advances { Advances tokens.old tokens.new }
-{
-    let machine = Machine {
-        state,
-        part,
-        dim,
-        depth,
-    };
     let message = blame(machine, tokens);
     let message = close(message, machine.own(), tokens);
-    close(message, depth, tokens)
+    close(message, machine.depth, tokens)
 }

@@ -8,12 +8,12 @@ use Rattle.wkt_events.specs.Remaining.{remaining}
 use Rattle.wkt_machine.specs.Refusing.{expected_at, blamed, own, refused}
 use Rattle.wkt_machine.specs.Machines.{state_of}
 use Rattle.wkt_machine.proofs.Reading.{closings_more}
-use Rattle.wkt_machine.proofs.message.message_outlined.Goals as goal
+use Rattle.wkt_machine.proofs.message.message_at.Goals as goal
 
 pub returns : goal.returns
 returns g c =
     let read = (g.N.Numbers.read c.args.numbers) in
-    let s = state_of (record { state = c.args.state; part = c.args.part; dim = c.args.dim; depth = c.args.depth }) in
+    let s = state_of c.args.machine in
     let bytes = c.as_bytes-bytes.result.now in
     let ls = remaining false bytes c.args.at in
     let e = expected_at s.place s.depth in
@@ -21,5 +21,5 @@ returns g c =
     let first : (c.blame-blamed.result.0, remaining false bytes c.blame-blamed.result.1) ≡ blamed read e ls = c.blame-blamed.ensures.message in
     let own_is = c.own.ensures in
     subst (λ t. c.close.result.0 ≡ (refused read s (remaining false t c.args.at)).0) c.as_bytes-bytes.ensures.value
-    (ap (λ y. y.0) (c.close.ensures.message ∙ ap (close c.args.depth) (c.close-message.ensures.message ∙ ap (close c.own.result) first ∙ ap (λ n. close n (blamed read e ls)) own_is)
-    ∙ sym (closings_more read (own s.place) c.args.depth (blamed read e ls).0 (blamed read e ls).1)))
+    (ap (λ y. y.0) (c.close.ensures.message ∙ ap (close c.args.machine.depth) (c.close-message.ensures.message ∙ ap (close c.own.result) first ∙ ap (λ n. close n (blamed read e ls)) own_is)
+    ∙ sym (closings_more read (own s.place) c.args.machine.depth (blamed read e ls).0 (blamed read e ls).1)))
