@@ -73,7 +73,7 @@ fn run_at<const FEED_ENDS: bool>(text: &[u8], at: usize) -> (Seen, usize)
 
 /// A word.
 #[inline(never)]
-fn seen_word(word: &[u8]) -> Seen
+pub(crate) fn seen_word(word: &[u8]) -> Seen
     ensures { result ≡ seen_word (kind_word word.now) word.now }
 {
     match kind_in(word) {

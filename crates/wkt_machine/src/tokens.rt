@@ -1,17 +1,17 @@
 //! Tokens as a source.
 ghost use Rattle.std.specs.Prelude.{◌≡◌, refl};
-ghost use Rattle.wkt_read.specs.Grammar.{kind_word};
 ghost use Rattle.wkt_read.specs.Peeks.{found};
-ghost use Rattle.wkt_machine.specs.View.{seen_word, seen_found, tokens_of};
+ghost use Rattle.wkt_machine.specs.View.{seen_found, tokens_of};
 
 use crate::builder::Builder;
+use crate::bytes::seen_word;
 use crate::machine::{Machine, Seen, State};
 use crate::part::{Axis, Part};
 use crate::source::{At, Source, Walk, Walked};
 use crate::step::on;
 use wkt_num::WktNum;
 use wkt_read::PeekableTokens;
-use wkt_read::words::{Lexeme, dimension_of, is_empty, kind_of};
+use wkt_read::words::Lexeme;
 
 /// The tokens of a text, one after another, which are lent.
 #[derive(Drop)]
@@ -36,21 +36,6 @@ impl<'t, 'a, T: WktNum> OneByOne<'t, 'a, T> {
     }
 }
 
-/// A word.
-#[inline(never)]
-fn seen_word(word: &str) -> Seen
-    ensures { result ≡ seen_word (kind_word word.now) word.now }
-{
-    match kind_of(word) {
-        Some((kind, dim)) => Seen::Kind(kind, dim),
-        None => match dimension_of(word) {
-            Some(dim) => Seen::Dimension(dim),
-            None if is_empty(word) => Seen::Empty,
-            None => Seen::Other,
-        },
-    }
-}
-
 /// A lexeme, or the end of the text.
 #[inline(always)]
 fn seen(lexeme: Lexeme<'_>) -> Seen
@@ -61,7 +46,7 @@ fn seen(lexeme: Lexeme<'_>) -> Seen
         Lexeme::Comma => Seen::Comma,
         Lexeme::Close => Seen::Close,
         Lexeme::Open => Seen::Open,
-        Lexeme::Word(word) => seen_word(word),
+        Lexeme::Word(word) => seen_word(word.as_bytes()),
         Lexeme::Number(_) => Seen::Number,
     }
 }
