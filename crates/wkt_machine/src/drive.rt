@@ -7,8 +7,7 @@ ghost use Rattle.wkt_machine.specs.Room.{owed, HasRoom, RoomAt};
 
 use crate::builder::Builder;
 use crate::machine::{Machine, State};
-use crate::marks::{marks, members};
-use crate::part::Part;
+use crate::marks::marks;
 use crate::source::{At, Walk, Walked};
 use wkt_num::WktNum;
 
@@ -30,11 +29,7 @@ fn further<T: WktNum, S: Walk<T>, B: Builder<T>>(
     match machine.state {
         State::Kind => source.header(machine, builder),
         State::X => source.coordinates(machine, builder),
-        State::Opening => match machine.part {
-            Part::Member => members(machine, source, builder),
-            _ => marks(machine, source, builder),
-        },
-        State::Item | State::Geometry => marks(machine, source, builder),
+        State::Opening | State::Item | State::Geometry => marks(machine, source, builder),
         _ => machine.step(source, builder),
     }
 }

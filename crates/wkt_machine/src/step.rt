@@ -431,14 +431,3 @@ pub fn refused<S, B>(source: S, machine: Machine, builder: B) -> Walked<S, B>
         builder,
     })
 }
-
-/// The same, with the machine made anew: what fills it up isn't carried along.
-#[inline(always)]
-pub(crate) fn anew<S, B>(walked: Walked<S, B>) -> Walked<S, B>
-    ensures { result ≡ walked }
-{
-    match walked {
-        Ok(to) => on(to.source, to.machine.anew(), to.builder),
-        Err(to) => refused(to.source, to.machine.anew(), to.builder),
-    }
-}
