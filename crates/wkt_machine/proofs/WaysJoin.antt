@@ -14,7 +14,6 @@ use Rattle.wkt_machine.specs.declared.source.At.{At}
 use Rattle.wkt_machine.proofs.Stepping.{from_goes, from_refuses}
 use Rattle.wkt_machine.proofs.WholeRuns.{run_append}
 use Rattle.wkt_machine.specs.declared.machine.State.{State as Next}
-use Rattle.wkt_machine.specs.declared.part.Part.{Part}
 
 -- What is left as it was is made of no event.
 pub nothing_made : {N B : Type 0} (maker : Maker N B) (b c : B) (o : Option ℕ) → IfNone o (c ≡ b) → IfNone o (maker.makes b [] c)
@@ -180,21 +179,16 @@ module _ {N S B : Type 0} (read : List ℕ → Option N) (view : View N S) (make
   stays_refused m s t b (Ok to) stays h = tt
   stays_refused m s t b (Err to) stays h = from_refuses read view maker m s t b to stays h
 
--- A way goes on where the source was only looked at, with the machine at a state and a part that are known.
-
-pub known_machine : (m : Machine) (x : Next) (p : Part) → m.state ≡ x → m.part ≡ p → record { state = x; part = p; dim = m.dim; depth = m.depth } ≡ m
-known_machine m x p at_x in_p =
-    let in_part : record { state = x; part = p; dim = m.dim; depth = m.depth } ≡ record { state = x; part = m.part; dim = m.dim; depth = m.depth } = ap (λ (p : Part). record { state = x; part = p; dim = m.dim; depth = m.depth }) (sym in_p) in
-    in_part ∙ ap (λ (x : Next). standing m x) (sym at_x)
+-- A way goes on where the source was only looked at.
 
 module _ {N S B : Type 0} (view : View N S) (maker : Maker N B) where
-  pub looked_goes : (m n : Machine) (s t : S) (b : B) (a : At S B) (r : Result (At S B) (At S B)) → Goes_from view maker m s b a → n ≡ a.machine → Stays view a.source t → IfOk r (Goes_from view maker n t a.builder) → IfOk r (Goes_from view maker m s b)
-  looked_goes m n s t b a (Ok to) h same stays k = goes_then view maker m s b a to h (subst (λ x. Goes_from view maker x a.source a.builder to) same (from_goes (maker.reads a.builder) view maker n a.source t a.builder to stays k))
-  looked_goes m n s t b a (Err to) h same stays k = tt
+  pub looked_goes : (m : Machine) (s t : S) (b : B) (a : At S B) (r : Result (At S B) (At S B)) → Goes_from view maker m s b a → Stays view a.source t → IfOk r (Goes_from view maker a.machine t a.builder) → IfOk r (Goes_from view maker m s b)
+  looked_goes m s t b a (Ok to) h stays k = goes_then view maker m s b a to h (from_goes (maker.reads a.builder) view maker a.machine a.source t a.builder to stays k)
+  looked_goes m s t b a (Err to) h stays k = tt
 
-  pub looked_refuses : (m n : Machine) (s t : S) (b : B) (a : At S B) (r : Result (At S B) (At S B)) → Goes_from view maker m s b a → n ≡ a.machine → Stays view a.source t → IfErr r (Refuses_from view maker n t a.builder) → IfErr r (Refuses_from view maker m s b)
-  looked_refuses m n s t b a (Ok to) h same stays k = tt
-  looked_refuses m n s t b a (Err to) h same stays k = refuses_then view maker m s b a to h (subst (λ x. Refuses_from view maker x a.source a.builder to) same (from_refuses (maker.reads a.builder) view maker n a.source t a.builder to stays k))
+  pub looked_refuses : (m : Machine) (s t : S) (b : B) (a : At S B) (r : Result (At S B) (At S B)) → Goes_from view maker m s b a → Stays view a.source t → IfErr r (Refuses_from view maker a.machine t a.builder) → IfErr r (Refuses_from view maker m s b)
+  looked_refuses m s t b a (Ok to) h stays k = tt
+  looked_refuses m s t b a (Err to) h stays k = refuses_then view maker m s b a to h (from_refuses (maker.reads a.builder) view maker a.machine a.source t a.builder to stays k)
 
 -- Ways between the states of one part.
 

@@ -35,8 +35,6 @@ fn further<T: WktNum, S: Walk<T>, B: Builder<T>>(
 }
 
 /// Behind the geometry that comes next; or where it is refused.
-///
-/// Each part of a place is a variable of its own, so that what fills a place up isn't carried along.
 #[inline(always)]
 pub fn drive<T: WktNum, S: Walk<T>, B: Builder<T>>(source: S, builder: B) -> Walked<S, B>
     requires depth { length (S.view.remaining source) ≤ usize.MAX }
@@ -51,20 +49,9 @@ pub fn drive<T: WktNum, S: Walk<T>, B: Builder<T>>(source: S, builder: B) -> Wal
         machine: first,
         builder: made,
     } = source.first(Machine::start(), builder)?;
-    let (mut source, mut builder) = (begun, made);
-    let (mut state, mut part, mut dim, mut depth) = (
-        first.state,
-        first.part,
-        first.dim,
-        first.depth,
-    );
+    // Rebuilt here and below, so padding isn't copied.
+    let (mut source, mut machine, mut builder) = (begun, Machine { ..first }, made);
     'lexemes: loop {
-        let machine = Machine {
-            state,
-            part,
-            dim,
-            depth,
-        };
         if machine.is_over() {
             return Ok(At {
                 source,
@@ -77,10 +64,6 @@ pub fn drive<T: WktNum, S: Walk<T>, B: Builder<T>>(source: S, builder: B) -> Wal
             machine: next,
             builder: made,
         } = further(machine, source, builder)?;
-        (source, builder) = (behind, made);
-        state = next.state;
-        part = next.part;
-        dim = next.dim;
-        depth = next.depth;
+        (source, machine, builder) = (behind, Machine { ..next }, made);
     }
 }

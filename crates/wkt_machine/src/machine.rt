@@ -133,19 +133,6 @@ impl Machine {
         self.depth == 0 && matches!(self.state, State::Geometry)
     }
 
-    /// The same machine, made anew: what fills it up isn't carried along.
-    #[inline(always)]
-    pub(crate) fn anew(self) -> Machine
-        ensures { result ≡ self }
-    {
-        Machine {
-            state: self.state,
-            part: self.part,
-            dim: self.dim,
-            depth: self.depth,
-        }
-    }
-
     #[inline(always)]
     pub fn to(self, state: State) -> Machine
         ensures { result ≡ record { state = state; part = self.part; dim = self.dim; depth = self.depth } }

@@ -14,8 +14,6 @@ use crate::source::{At, Source, Walked};
 use wkt_num::WktNum;
 
 /// After one lexeme or more: as far as no parenthesis or comma comes next that a part, or a collection, has there.
-///
-/// The machine's parts are local variables, so that what fills it up isn't carried along.
 #[inline(always)]
 pub(crate) fn marks<T: WktNum, S: Source<T>, B: Builder<T>>(
     machine: Machine,
@@ -30,22 +28,10 @@ pub(crate) fn marks<T: WktNum, S: Source<T>, B: Builder<T>>(
     ensures room { IfOk result (RoomAt S.view B.maker) }
     ensures refused { IfErr result (Refuses (B.maker.reads builder) S.view B.maker machine source builder) }
 {
-    let (mut source, mut builder) = (source, builder);
-    let (mut state, mut part, mut dim, mut depth) = (
-        machine.state,
-        machine.part,
-        machine.dim,
-        machine.depth,
-    );
+    let (mut source, mut machine, mut builder) = (source, machine, builder);
     'marks: loop {
-        let machine = Machine {
-            state,
-            part,
-            dim,
-            depth,
-        };
         let (seen, looked) = source.look();
-        if !is_mark(state, seen) {
+        if !is_mark(machine.state, seen) {
             return machine.step(looked, builder);
         }
         let At {
@@ -53,17 +39,8 @@ pub(crate) fn marks<T: WktNum, S: Source<T>, B: Builder<T>>(
             machine: next,
             builder: made,
         } = mark(machine, seen, looked, builder)?;
-        (source, builder) = (behind, made);
-        state = next.state;
-        part = next.part;
-        dim = next.dim;
-        depth = next.depth;
-        let machine = Machine {
-            state,
-            part,
-            dim,
-            depth,
-        };
+        // Rebuilt, so padding isn't copied.
+        (source, machine, builder) = (behind, Machine { ..next }, made);
         if !has_mark(machine) {
             return Ok(At {
                 source,

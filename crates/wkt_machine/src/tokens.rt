@@ -107,9 +107,9 @@ impl<'t, 'a, T: WktNum> Walk<T> for OneByOne<'t, 'a, T> {
         match next.state {
             State::Dimension => {
                 let (seen, source) = behind.look();
-                next.anew().at_dimension(seen, source, made)
+                next.at_dimension(seen, source, made)
             }
-            _ => on(behind, next.anew(), made),
+            _ => on(behind, next, made),
         }
     }
 
@@ -129,9 +129,9 @@ impl<'t, 'a, T: WktNum> Walk<T> for OneByOne<'t, 'a, T> {
         match next.state {
             State::Y => {
                 let (seen, source) = behind.look();
-                next.anew().at_number(Axis::Y, seen, source, made)
+                next.at_number(Axis::Y, seen, source, made)
             }
-            _ => on(behind, next.anew(), made),
+            _ => on(behind, next, made),
         }
     }
 }

@@ -1,7 +1,6 @@
 -- Each way goes on from the one before.
 use Rattle.std.proofs.Common.{ap, arith, rules, IfErr}
 use Rattle.wkt_machine.specs.Goes.{Refuses}
-use Rattle.wkt_machine.specs.declared.machine.Machine.{Machine}
 use Rattle.wkt_machine.specs.Machine.{State}
 use Rattle.wkt_machine.proofs.WaysJoin.{from_start, refused_if}
 use Rattle.wkt_machine.proofs.WholeRuns.{goes_room}
@@ -31,6 +30,5 @@ lexemes-preserved g c =
 
 pub returns-in_err-behind-clause-refused : goal.returns-in_err-behind-clause-refused
 returns-in_err-behind-clause-refused g c =
-    let machine : Machine = record { state = c.lexemes.state; part = c.lexemes.part; dim = c.lexemes.dim; depth = c.lexemes.depth } in
-    let refused : IfErr c.from_residual-in_err-behind.result (Refuses (g.B.Builder.maker.reads c.lexemes.builder) g.S.Source.view g.B.Builder.maker machine c.lexemes.source c.lexemes.builder) = search rules in
-    refused_if g.S.Source.view g.B.Builder.maker c.args.source c.args.builder (record { source = c.lexemes.source; machine = machine; builder = c.lexemes.builder }) c.from_residual-in_err-behind.result c.lexemes.invariant.goes refused
+    let refused : IfErr c.from_residual-in_err-behind.result (Refuses (g.B.Builder.maker.reads c.lexemes.builder) g.S.Source.view g.B.Builder.maker c.lexemes.machine c.lexemes.source c.lexemes.builder) = search rules in
+    refused_if g.S.Source.view g.B.Builder.maker c.args.source c.args.builder (record { source = c.lexemes.source; machine = c.lexemes.machine; builder = c.lexemes.builder }) c.from_residual-in_err-behind.result c.lexemes.invariant.goes refused

@@ -35,12 +35,11 @@ marks-init g c = record {
 pub marks-preserved : goal.marks-preserved
 marks-preserved g c =
     let i = c.marks.invariant in
-    let machine : Machine = record { state = c.marks.state; part = c.marks.part; dim = c.marks.dim; depth = c.marks.depth } in
-    let way = from_goes (g.B.Builder.maker.reads c.marks.builder) g.S.Source.view g.B.Builder.maker machine c.marks.source c.look-seen.result.1 c.marks.builder c.in_ok-behind.field-0 c.look-seen.ensures.stays c.in_ok-behind.ensures.on in
-    let more = goes_room _ g.S.Source.view g.B.Builder.maker machine c.marks.source c.marks.builder c.in_ok-behind.field-0 way in
+    let way = from_goes (g.B.Builder.maker.reads c.marks.builder) g.S.Source.view g.B.Builder.maker c.marks.machine c.marks.source c.look-seen.result.1 c.marks.builder c.in_ok-behind.field-0 c.look-seen.ensures.stays c.in_ok-behind.ensures.on in
+    let more = goes_room _ g.S.Source.view g.B.Builder.maker c.marks.machine c.marks.source c.marks.builder c.in_ok-behind.field-0 way in
     record {
       leads = goes_leads (g.B.Builder.maker.reads c.args.builder) g.S.Source.view g.B.Builder.maker c.args.machine c.args.source c.args.builder c.in_ok-behind.field-0
-          (leads_goes g.S.Source.view g.B.Builder.maker c.args.machine c.args.source c.args.builder machine c.marks.source c.marks.builder c.in_ok-behind.field-0 i.leads way);
+          (leads_goes g.S.Source.view g.B.Builder.maker c.args.machine c.args.source c.args.builder c.marks.machine c.marks.source c.marks.builder c.in_ok-behind.field-0 i.leads way);
       sound = way.sound;
       unover = OnTrue_at c.if-not-has_mark.false c.has_mark.ensures;
       depth = omega (arith, more, i.depth);
@@ -49,25 +48,21 @@ marks-preserved g c =
 
 pub returns-then-not-has_mark-clause-on : goal.returns-then-not-has_mark-clause-on
 returns-then-not-has_mark-clause-on g c =
-    let machine : Machine = record { state = c.marks.state; part = c.marks.part; dim = c.marks.dim; depth = c.marks.depth } in
-    leads_goes g.S.Source.view g.B.Builder.maker c.args.machine c.args.source c.args.builder machine c.look-seen.result.1 c.marks.builder c.in_ok-behind.field-0
-    (leads_stays (g.B.Builder.maker.reads c.args.builder) g.S.Source.view g.B.Builder.maker c.args.machine c.args.source c.args.builder machine c.marks.source c.look-seen.result.1 c.marks.builder c.marks.invariant.leads c.look-seen.ensures.stays) c.in_ok-behind.ensures.on
+    leads_goes g.S.Source.view g.B.Builder.maker c.args.machine c.args.source c.args.builder c.marks.machine c.look-seen.result.1 c.marks.builder c.in_ok-behind.field-0
+    (leads_stays (g.B.Builder.maker.reads c.args.builder) g.S.Source.view g.B.Builder.maker c.args.machine c.args.source c.args.builder c.marks.machine c.marks.source c.look-seen.result.1 c.marks.builder c.marks.invariant.leads c.look-seen.ensures.stays) c.in_ok-behind.ensures.on
 
 pub returns-in_err-behind-clause-refused : goal.returns-in_err-behind-clause-refused
 returns-in_err-behind-clause-refused g c =
-    let machine : Machine = record { state = c.marks.state; part = c.marks.part; dim = c.marks.dim; depth = c.marks.depth } in
-    let refused : IfErr c.from_residual.result (Refuses (g.B.Builder.maker.reads c.marks.builder) g.S.Source.view g.B.Builder.maker machine c.look-seen.result.1 c.marks.builder) = search rules in
-    leads_refused g.S.Source.view g.B.Builder.maker c.args.machine c.args.source c.args.builder machine c.look-seen.result.1 c.marks.builder c.from_residual.result
-    (leads_stays (g.B.Builder.maker.reads c.args.builder) g.S.Source.view g.B.Builder.maker c.args.machine c.args.source c.args.builder machine c.marks.source c.look-seen.result.1 c.marks.builder c.marks.invariant.leads c.look-seen.ensures.stays) refused
+    let refused : IfErr c.from_residual.result (Refuses (g.B.Builder.maker.reads c.marks.builder) g.S.Source.view g.B.Builder.maker c.marks.machine c.look-seen.result.1 c.marks.builder) = search rules in
+    leads_refused g.S.Source.view g.B.Builder.maker c.args.machine c.args.source c.args.builder c.marks.machine c.look-seen.result.1 c.marks.builder c.from_residual.result
+    (leads_stays (g.B.Builder.maker.reads c.args.builder) g.S.Source.view g.B.Builder.maker c.args.machine c.args.source c.args.builder c.marks.machine c.marks.source c.look-seen.result.1 c.marks.builder c.marks.invariant.leads c.look-seen.ensures.stays) refused
 
 pub returns-then-not-is_mark-clause-on : goal.returns-then-not-is_mark-clause-on
 returns-then-not-is_mark-clause-on g c =
-    let machine : Machine = record { state = c.marks.state; part = c.marks.part; dim = c.marks.dim; depth = c.marks.depth } in
-    leads_ok g.S.Source.view g.B.Builder.maker c.args.machine c.args.source c.args.builder machine c.look-seen.result.1 c.marks.builder c.step.result
-    (leads_stays (g.B.Builder.maker.reads c.args.builder) g.S.Source.view g.B.Builder.maker c.args.machine c.args.source c.args.builder machine c.marks.source c.look-seen.result.1 c.marks.builder c.marks.invariant.leads c.look-seen.ensures.stays) c.step.ensures.on
+    leads_ok g.S.Source.view g.B.Builder.maker c.args.machine c.args.source c.args.builder c.marks.machine c.look-seen.result.1 c.marks.builder c.step.result
+    (leads_stays (g.B.Builder.maker.reads c.args.builder) g.S.Source.view g.B.Builder.maker c.args.machine c.args.source c.args.builder c.marks.machine c.marks.source c.look-seen.result.1 c.marks.builder c.marks.invariant.leads c.look-seen.ensures.stays) c.step.ensures.on
 
 pub returns-then-not-is_mark-clause-refused : goal.returns-then-not-is_mark-clause-refused
 returns-then-not-is_mark-clause-refused g c =
-    let machine : Machine = record { state = c.marks.state; part = c.marks.part; dim = c.marks.dim; depth = c.marks.depth } in
-    leads_refused g.S.Source.view g.B.Builder.maker c.args.machine c.args.source c.args.builder machine c.look-seen.result.1 c.marks.builder c.step.result
-    (leads_stays (g.B.Builder.maker.reads c.args.builder) g.S.Source.view g.B.Builder.maker c.args.machine c.args.source c.args.builder machine c.marks.source c.look-seen.result.1 c.marks.builder c.marks.invariant.leads c.look-seen.ensures.stays) c.step.ensures.refused
+    leads_refused g.S.Source.view g.B.Builder.maker c.args.machine c.args.source c.args.builder c.marks.machine c.look-seen.result.1 c.marks.builder c.step.result
+    (leads_stays (g.B.Builder.maker.reads c.args.builder) g.S.Source.view g.B.Builder.maker c.args.machine c.args.source c.args.builder c.marks.machine c.marks.source c.look-seen.result.1 c.marks.builder c.marks.invariant.leads c.look-seen.ensures.stays) c.step.ensures.refused

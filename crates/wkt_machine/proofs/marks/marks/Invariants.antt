@@ -9,12 +9,11 @@ use Rattle.wkt_machine.proofs.marks.marks.Given as goal
 abbrev pub invariant-marks : goal.invariant-marks
 invariant-marks g l =
     record {
-      leads : Leads (g.B.Builder.maker.reads l.fn.builder) g.S.Source.view g.B.Builder.maker l.fn.machine l.fn.source l.fn.builder
-          (record { state = l.state; part = l.part; dim = l.dim; depth = l.depth }) l.source l.builder;
-      sound : IsSound (record { state = l.state; part = l.part; dim = l.dim; depth = l.depth });
-      unover : is_over (state_of (record { state = l.state; part = l.part; dim = l.dim; depth = l.depth })) ≡ false;
-      depth : l.depth + length (g.S.Source.view.remaining l.source) ≤ l.fn.machine.depth + length (g.S.Source.view.remaining l.fn.source);
-      room : HasRoom g.S.Source.view g.B.Builder.maker (owed (state_of (record { state = l.state; part = l.part; dim = l.dim; depth = l.depth }))) l.source l.builder;
+      leads : Leads (g.B.Builder.maker.reads l.fn.builder) g.S.Source.view g.B.Builder.maker l.fn.machine l.fn.source l.fn.builder l.machine l.source l.builder;
+      sound : IsSound l.machine;
+      unover : is_over (state_of l.machine) ≡ false;
+      depth : l.machine.depth + length (g.S.Source.view.remaining l.source) ≤ l.fn.machine.depth + length (g.S.Source.view.remaining l.fn.source);
+      room : HasRoom g.S.Source.view g.B.Builder.maker (owed (state_of l.machine)) l.source l.builder;
     }
 
 abbrev pub decreases-marks : goal.decreases-marks

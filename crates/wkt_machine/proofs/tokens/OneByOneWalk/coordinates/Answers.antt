@@ -1,11 +1,9 @@
 -- The second number goes on from the first.
-use Rattle.std.proofs.Common.{◌≡◌, ◌∙◌, ap, rules, sym, subst, IfOk, IfErr}
+use Rattle.std.proofs.Common.{◌≡◌, rules, sym, subst, IfOk, IfErr}
 use Rattle.std.specs.Prelude.{Ok}
 use Rattle.wkt_machine.specs.Goes.{Goes, Refuses}
-use Rattle.wkt_machine.specs.Machines.{IsSound}
 use Rattle.wkt_machine.specs.Room.{RoomAt}
 use Rattle.wkt_machine.specs.View.{tokens_view}
-use Rattle.wkt_machine.specs.declared.machine.Machine.{Machine}
 use Rattle.wkt_machine.specs.declared.machine.State.TheVariants as next
 use Rattle.wkt_machine.proofs.RoomForRest.{stays_room, state_room}
 use Rattle.wkt_machine.proofs.Stepping.{from_goes}
@@ -13,7 +11,7 @@ use Rattle.wkt_machine.proofs.WaysJoin.{looked_goes, looked_refuses, stays_refus
 use Rattle.wkt_machine.proofs.tokens.OneByOneWalk.coordinates.Goals as goal
 
 pub at_number-requires-in-Y-clause-sound : goal.at_number-requires-in-Y-clause-sound
-at_number-requires-in-Y-clause-sound g c = subst IsSound (sym c.anew.ensures) c.in_ok-behind.ensures.on.sound
+at_number-requires-in-Y-clause-sound g c = c.in_ok-behind.ensures.on.sound
 
 pub at_number-requires-in-Y-clause-room : goal.at_number-requires-in-Y-clause-room
 at_number-requires-in-Y-clause-room g c =
@@ -29,17 +27,17 @@ returns-in_err-behind-clause-refused g c =
 pub returns-in-Y-clause-on : goal.returns-in-Y-clause-on
 returns-in-Y-clause-on g c =
     let way = from_goes (g.B.Builder.maker.reads c.args.builder) (tokens_view g.T.WktNum.read) g.B.Builder.maker c.args.machine c.args.self c.look-seen.result.1 c.args.builder c.in_ok-behind.field-0 c.look-seen.ensures.stays c.in_ok-behind.ensures.on in
-    looked_goes (tokens_view g.T.WktNum.read) g.B.Builder.maker c.args.machine _ c.args.self c.look-seen-in-Y.result.1 c.args.builder c.in_ok-behind.field-0 c.at_number-in-Y.result way c.anew.ensures c.look-seen-in-Y.ensures.stays c.at_number-in-Y.ensures.on
+    looked_goes (tokens_view g.T.WktNum.read) g.B.Builder.maker c.args.machine c.args.self c.look-seen-in-Y.result.1 c.args.builder c.in_ok-behind.field-0 c.at_number-in-Y.result way c.look-seen-in-Y.ensures.stays c.at_number-in-Y.ensures.on
 
 pub returns-in-Y-clause-refused : goal.returns-in-Y-clause-refused
 returns-in-Y-clause-refused g c =
     let way = from_goes (g.B.Builder.maker.reads c.args.builder) (tokens_view g.T.WktNum.read) g.B.Builder.maker c.args.machine c.args.self c.look-seen.result.1 c.args.builder c.in_ok-behind.field-0 c.look-seen.ensures.stays c.in_ok-behind.ensures.on in
-    looked_refuses (tokens_view g.T.WktNum.read) g.B.Builder.maker c.args.machine _ c.args.self c.look-seen-in-Y.result.1 c.args.builder c.in_ok-behind.field-0 c.at_number-in-Y.result way c.anew.ensures c.look-seen-in-Y.ensures.stays c.at_number-in-Y.ensures.refused
+    looked_refuses (tokens_view g.T.WktNum.read) g.B.Builder.maker c.args.machine c.args.self c.look-seen-in-Y.result.1 c.args.builder c.in_ok-behind.field-0 c.at_number-in-Y.result way c.look-seen-in-Y.ensures.stays c.at_number-in-Y.ensures.refused
 
 pub returns-in_default : goal.returns-in_default
 returns-in_default g c =
     let to = c.in_ok-behind.field-0 in
-    let is : c.on.result ≡ Ok to = c.on.ensures ∙ ap (λ (m : Machine). Ok (record { source = to.source; machine = m; builder = to.builder })) c.anew-in_default.ensures in
+    let is : c.on.result ≡ Ok to = c.on.ensures in
     record {
       on = subst (λ r. IfOk r (Goes (g.B.Builder.maker.reads c.args.builder) (tokens_view g.T.WktNum.read) g.B.Builder.maker c.args.machine c.args.self c.args.builder)) (sym is) (from_goes (g.B.Builder.maker.reads c.args.builder) (tokens_view g.T.WktNum.read) g.B.Builder.maker c.args.machine c.args.self c.look-seen.result.1 c.args.builder c.in_ok-behind.field-0 c.look-seen.ensures.stays c.in_ok-behind.ensures.on);
       room = subst (λ r. IfOk r (RoomAt (tokens_view g.T.WktNum.read) g.B.Builder.maker)) (sym is) c.in_ok-behind.ensures.room;
