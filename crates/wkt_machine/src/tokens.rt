@@ -93,7 +93,7 @@ impl<'t, 'a, T: WktNum> Source<T> for OneByOne<'t, 'a, T> {
 /// What begins in tokens is taken lexeme by lexeme: so none is looked at before those in front of it are taken.
 ///
 /// A kind word and what stands behind it, and two numbers, are taken by the steps for these lexemes, which are built into
-/// the loop: `from_str` may take 32 instructions a byte of mixed lines, and takes 14 more where each goes by a call.
+/// the loop: `from_str` takes 36 instructions a byte of mixed lines, and 15 more where each goes by a call.
 #[tactic(auto, using(crate::proofs::TokenSteps::kind_open, crate::proofs::TokenSteps::kind_sound, crate::proofs::RoomForRest::kind_room, crate::proofs::TokenSteps::x_open, crate::proofs::TokenSteps::x_sound, crate::proofs::RoomForRest::x_room))]
 impl<'t, 'a, T: WktNum> Walk<T> for OneByOne<'t, 'a, T> {
     #[inline(always)]
