@@ -2,9 +2,9 @@
  *
  * Numbers are decimals with up to `places` digits after the point, 0 to 36. Nothing is rounded: a text with more digits
  * after the point is refused (WKT_HINT_PLACES). A number is -2^127 to 2^127 - 1 units of ten to the minus `places`, and a
- * text with any other is refused (WKT_HINT_LARGE). So more places leave less room before the point: all numbers with up to
- * 38 - `places` digits there fit. 18 places hold numbers up to some 1.7e20, 35 up to 1701.4, and so all degrees, and 36 up
- * to 170.14. A text has the same canonical text with all places that read it. Arrays hold units of 64 bits: see wkt_arrays.
+ * text with any other is refused (WKT_HINT_LARGE; WKT_HINT_FEWER if 18 places surely hold it). So more places leave less
+ * room before the point: all numbers with up to 38 - `places` digits there fit. 18 places hold numbers up to some 1.7e20,
+ * 35 up to 1701.4, and so all degrees, and 36 up to 170.14. A text has the same canonical text with all places that read it. Arrays hold units of 64 bits: see wkt_arrays.
  *
  * Every function except wkt_version, wkt_supported and wkt_message returns a status. After any status but WKT_OK the
  * caller's buffers are unchanged (except by wkt_lines_some), and so are the results (*needed, *end, *same, *sizes ..), unless
@@ -126,7 +126,17 @@ enum {
     WKT_HINT_PLACES = 8, /* numbers have at most %u places here */
     WKT_HINT_LARGE = 9, /* the number is too large */
     WKT_HINT_DIMENSION = 10, /* a third number needs Z or M, as in POINT Z(1 2 3), and a fourth ZM */
-    WKT_HINT_EMPTY = 11 /* what holds nothing is written EMPTY, without parentheses */
+    WKT_HINT_EMPTY = 11, /* what holds nothing is written EMPTY, without parentheses */
+    WKT_HINT_FEWER = 12, /* with 18 places the number is read */
+    WKT_HINT_COMMA = 13, /* commas separate coordinates, and spaces their numbers; decimals have a point */
+    WKT_HINT_MISSING = 14, /* NULL, None and nan are not read; leave the row out, or write POINT EMPTY */
+    WKT_HINT_QUOTES = 15, /* quotes are not read; leave them out */
+    WKT_HINT_NO_BREAK_SPACE = 16, /* a no-break space is not read as a space; write a plain one */
+    WKT_HINT_MINUS = 17, /* a dash or a typographic minus is not read; write the plain - */
+    WKT_HINT_BOX = 18, /* boxes are not read; polygons are */
+    WKT_HINT_BRACES = 19, /* braces are not read; ST_AsText(ST_GeomFromGeoJSON(..)) gives the text of GeoJSON */
+    WKT_HINT_NO_KIND = 20, /* a geometry begins with its kind, as in POINT(1 2) */
+    WKT_HINT_PARENTHESIS = 21 /* numbers stand in parentheses, as in POINT(1 2) and POLYGON((0 0,1 0,0 1,0 0)) */
 };
 /* The words of a status, at its number. */
 #define WKT_MESSAGES { "", "Invalid WKT format", "Encountered non-ascii word", "Invalid type encountered", \
@@ -163,7 +173,14 @@ enum {
     "triangles and surfaces are not read; polygons are", "exponents are not read; write 0.0000001 for 1e-7", \
     "NaN and infinity are no decimals; EMPTY says that there is no point", "numbers have at most %u places here", \
     "the number is too large", "a third number needs Z or M, as in POINT Z(1 2 3), and a fourth ZM", \
-    "what holds nothing is written EMPTY, without parentheses" }
+    "what holds nothing is written EMPTY, without parentheses", "with 18 places the number is read", \
+    "commas separate coordinates, and spaces their numbers; decimals have a point", \
+    "NULL, None and nan are not read; leave the row out, or write POINT EMPTY", \
+    "quotes are not read; leave them out", "a no-break space is not read as a space; write a plain one", \
+    "a dash or a typographic minus is not read; write the plain -", "boxes are not read; polygons are", \
+    "braces are not read; ST_AsText(ST_GeomFromGeoJSON(..)) gives the text of GeoJSON", \
+    "a geometry begins with its kind, as in POINT(1 2)", \
+    "numbers stand in parentheses, as in POINT(1 2) and POLYGON((0 0,1 0,0 1,0 0))" }
 /* names.py: end */
 
 /* Whether this processor has what the library is built for: 1, or 0. On x86-64 that is SSE4.2 and POPCNT (x86-64-v2, all

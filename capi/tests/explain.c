@@ -16,9 +16,9 @@ static const struct {
     {"0101000000000000000000F03F0000000000000040", 6, WKT_HINT_HEXADECIMAL},
     {"00000000013ff00000000000004000000000000000", 6, WKT_HINT_HEXADECIMAL},
     {"0101000000", 6, WKT_HINT_HEXADECIMAL},
-    {"010100000", 6, WKT_HINT_NONE},
-    {"0201000000000000000000F03F0000000000000040", 6, WKT_HINT_NONE},
-    {"0101000000000000000000G03F0000000000000040", 6, WKT_HINT_NONE},
+    {"010100000", 6, WKT_HINT_NO_KIND},
+    {"0201000000000000000000F03F0000000000000040", 6, WKT_HINT_NO_KIND},
+    {"0101000000000000000000G03F0000000000000040", 6, WKT_HINT_NO_KIND},
     {"SRID=4326;POINT(1 2)", 6, WKT_HINT_SRID},
     {"srid=0; POINT(1 2)", 6, WKT_HINT_SRID},
     {"SRID4326;POINT(1 2)", 6, WKT_HINT_NONE},
@@ -62,12 +62,83 @@ static const struct {
     {"MULTIPOINT(1 2,())", 6, WKT_HINT_EMPTY},
     {"multipolygon z ()", 6, WKT_HINT_EMPTY},
     {"POINT( )", 6, WKT_HINT_NONE},
-    {"()", 6, WKT_HINT_NONE},
+    {"()", 6, WKT_HINT_NO_KIND},
     {")", 6, WKT_HINT_NONE},
     {"MULTIPOINT(1 2,)", 6, WKT_HINT_NONE},
     {"POINT(", 6, WKT_HINT_NONE},
     {"POINT(1)", 6, WKT_HINT_NONE},
     {"", 6, WKT_HINT_NONE},
+    {"POINT(180 90)", 36, WKT_HINT_FEWER},
+    {"POINT(0.000000000000000001 -1700.5)", 36, WKT_HINT_FEWER},
+    {"POINT(1701.4118346046923173168730371588410573 0)", 35, WKT_HINT_LARGE},
+    {"POINT(1.0000000000000000001 1800)", 36, WKT_HINT_FEWER},
+    {"POINT(180.0000000000000000001 0)", 36, WKT_HINT_LARGE},
+    {"POINT(100000000000000000000 0)", 36, WKT_HINT_LARGE},
+    {"POINT(170141183460469231732 0)", 18, WKT_HINT_LARGE},
+    {"POINT(1,5 2,5)", 6, WKT_HINT_COMMA},
+    {"POINT(1,2)", 6, WKT_HINT_COMMA},
+    {"POINT(52.5, 13.4)", 6, WKT_HINT_COMMA},
+    {"POINT(13 52,5)", 6, WKT_HINT_COMMA},
+    {"POINT(1 2,3 4)", 6, WKT_HINT_COMMA},
+    {"MULTIPOINT((1,5 2,5))", 6, WKT_HINT_COMMA},
+    {"POLYGON((0,0,1,0,0,1,0,0))", 6, WKT_HINT_COMMA},
+    {"LINESTRING Z(1 2,3 4)", 6, WKT_HINT_NONE},
+    {"LINESTRING(1 2,,3 4)", 6, WKT_HINT_NONE},
+    {"POINT,(1 2)", 6, WKT_HINT_NONE},
+    {"NULL", 6, WKT_HINT_MISSING},
+    {" null\n", 6, WKT_HINT_MISSING},
+    {"None", 6, WKT_HINT_MISSING},
+    {"nan", 6, WKT_HINT_MISSING},
+    {"POINT(None None)", 6, WKT_HINT_MISSING},
+    {"POINT Z(1 2 NULL)", 6, WKT_HINT_MISSING},
+    {"GEOMETRYCOLLECTION(NULL)", 6, WKT_HINT_MISSING},
+    {"NULLS", 6, WKT_HINT_NONE},
+    {"Nancy", 6, WKT_HINT_NONE},
+    {"POINT NULL", 6, WKT_HINT_NONE},
+    {"\"POINT(1 2)\"", 6, WKT_HINT_QUOTES},
+    {"'POINT(1 2)'", 6, WKT_HINT_QUOTES},
+    {"\"SRID=4326;POINT(1 2)\"", 6, WKT_HINT_QUOTES},
+    {"POINT('1' '2')", 6, WKT_HINT_QUOTES},
+    {"POINT(1' 2)", 6, WKT_HINT_NONE},
+    {"POINT(1\xc2\xa0"
+     "2)",
+     6, WKT_HINT_NO_BREAK_SPACE},
+    {"POINT\xc2\xa0(1 2)", 6, WKT_HINT_NO_BREAK_SPACE},
+    {"\xc2\xa0POINT(1 2)", 6, WKT_HINT_NO_BREAK_SPACE},
+    {"POINT Z\xc2\xa0(1 2 3)", 6, WKT_HINT_NO_BREAK_SPACE},
+    {"POINT(1 2\xc2\xa0)", 6, WKT_HINT_NO_BREAK_SPACE},
+    {"LINESTRING(1 2,\xc2\xa0"
+     "3 4)",
+     6, WKT_HINT_NO_BREAK_SPACE},
+    {"POINT\xc2\xa1(1 2)", 6, WKT_HINT_NONE},
+    {"POINT(\xe2\x88\x92"
+     "71.06 42.28)",
+     6, WKT_HINT_MINUS},
+    {"POINT(10 \xe2\x80\x93"
+     "20)",
+     6, WKT_HINT_MINUS},
+    {"POINT(10 \xe2\x80\x94"
+     "20)",
+     6, WKT_HINT_NONE},
+    {"BOX(0 0,1 1)", 6, WKT_HINT_BOX},
+    {"BOX3D(0 0 0,1 1 1)", 6, WKT_HINT_BOX},
+    {"ENVELOPE(-10, 20, 15, 10)", 6, WKT_HINT_BOX},
+    {"BO(0 0,1 1)", 6, WKT_HINT_NONE},
+    {"{\"type\":\"Point\",\"coordinates\":[1,2]}", 6, WKT_HINT_BRACES},
+    {"{\n  \"type\": \"Point\"}", 6, WKT_HINT_BRACES},
+    {"[1,2]", 6, WKT_HINT_NONE},
+    {"1 2", 6, WKT_HINT_NO_KIND},
+    {"-71.06,42.28", 6, WKT_HINT_NO_KIND},
+    {"(1 2)", 6, WKT_HINT_NO_KIND},
+    {"GEOMETRYCOLLECTION(1 2,3 4)", 6, WKT_HINT_NO_KIND},
+    {"-x", 6, WKT_HINT_NONE},
+    {"POLYGON(0 0,1 0,0 1,0 0)", 6, WKT_HINT_PARENTHESIS},
+    {"MULTIPOLYGON((0 0,1 0,0 1,0 0))", 6, WKT_HINT_PARENTHESIS},
+    {"MULTILINESTRING(-1 0,1 1)", 6, WKT_HINT_PARENTHESIS},
+    {"POINT 1 2", 6, WKT_HINT_PARENTHESIS},
+    {"POINT Z 1 2 3", 6, WKT_HINT_PARENTHESIS},
+    {"POLYGON((0 0,1 0,0 1,0 0),0 0)", 6, WKT_HINT_PARENTHESIS},
+    {"POINT x", 6, WKT_HINT_NONE},
 };
 
 static void test_hints(void) {
@@ -79,6 +150,25 @@ static void test_hints(void) {
         CHECK(wkt_hint(BYTES(hints[i].text), hints[i].places | WKT_WHOLE, &of_whole) == WKT_OK && of_whole == hint);
         CHECK(allocations == 0);
     }
+}
+
+/* Numbers of nines, with so many digits before and after the point: which have the hint that 18 places read them. By hand:
+ * they are refused where `before` + `places` are more than 38, as 2^127 has 39 digits and begins with 17. */
+static void test_fewer(void) {
+    static const char nines[] = "99999999999999999999999999999999999999999";
+    uint32_t before, after, places;
+    for (before = 1; before <= 40; before++)
+        for (after = 0; after <= 36; after++)
+            for (places = after; places <= 36; places++) {
+                char text[128];
+                uint32_t hint = 99;
+                int fewer = places > 18 && after <= 18 && before <= 20;
+                snprintf(text, sizeof text, "POINT(-%.*s.%.*s 2)", (int)before, nines, (int)after, nines);
+                CHECK(wkt_hint(BYTES(text), places, &hint) == (before + places > 38 ? WKT_OK : WKT_ACCEPTED));
+                if (before + places <= 38) continue;
+                CHECK(hint == (fewer ? WKT_HINT_FEWER : WKT_HINT_LARGE));
+                if (fewer) CHECK(wkt_canonical(BYTES(text), 18, out, ROOM, &needed, &end_at) == WKT_OK);
+            }
 }
 
 /* The hint's status where it isn't WKT_OK, and that it is left as it was. */
@@ -152,11 +242,12 @@ static void test_words(void) {
     CHECK(!strcmp(wkt_message(7), "Missing closing parenthesis for type"));
     CHECK(!strcmp(wkt_message(WKT_NOT_SUPPORTED), "The processor is not supported"));
     CHECK(!strcmp(wkt_message(WKT_TOO_LONG), "A size is more than PTRDIFF_MAX"));
-    CHECK(sizeof words / sizeof *words == WKT_HINT_EMPTY + 1 && strstr(words[WKT_HINT_PLACES], "%u"));
+    CHECK(sizeof words / sizeof *words == WKT_HINT_PARENTHESIS + 1 && strstr(words[WKT_HINT_PLACES], "%u"));
 }
 
 void test_explain(void) {
     test_hints();
+    test_fewer();
     test_no_hints();
     test_wholes();
     test_refused_wholes();

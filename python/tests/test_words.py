@@ -181,6 +181,9 @@ class Words(unittest.TestCase):
             ("POINT(nan nan)", "at 7: NaN and infinity are no decimals; EMPTY says that there is no point", 7),
             ("POINT()", "at 7: what holds nothing is written EMPTY, without parentheses", 7),
             ("\ufeffPOINT(1 2)", "at 1: the text begins with a byte order mark", 2),
+            ("POINT(1,2)", "at 8: commas separate coordinates, and spaces their numbers; decimals have a point", 7),
+            ("None", "at 1: NULL, None and nan are not read; leave the row out, or write POINT EMPTY", 3),
+            ("POINT(1\xa02)", "at 7: a no-break space is not read as a space; write a plain one", 7),
         ]
         for text, words, status in cases:
             for call in (wkt.canonical, wkt.to_arrays, lambda it, places: wkt.same(it, it, places)):
@@ -238,7 +241,7 @@ class Later(unittest.TestCase):
             put(11, given[6])
 
         def hint(status, *given):
-            put(12, given[3])
+            put(99, given[3])
 
         with patched("wkt_explain", explain), patched("wkt_hint", hint):
             for text, places in (("POINT(1 x)", 18), ("POINT(1 2.55)", 1)):

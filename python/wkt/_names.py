@@ -106,6 +106,16 @@ HINTS = (
     "the number is too large",
     "a third number needs Z or M, as in POINT Z(1 2 3), and a fourth ZM",
     "what holds nothing is written EMPTY, without parentheses",
+    "with 18 places the number is read",
+    "commas separate coordinates, and spaces their numbers; decimals have a point",
+    "NULL, None and nan are not read; leave the row out, or write POINT EMPTY",
+    "quotes are not read; leave them out",
+    "a no-break space is not read as a space; write a plain one",
+    "a dash or a typographic minus is not read; write the plain -",
+    "boxes are not read; polygons are",
+    "braces are not read; ST_AsText(ST_GeomFromGeoJSON(..)) gives the text of GeoJSON",
+    "a geometry begins with its kind, as in POINT(1 2)",
+    "numbers stand in parentheses, as in POINT(1 2) and POLYGON((0 0,1 0,0 1,0 0))",
 )
 # The same as one stable word, for tables: EXPECTED.
 EXPECTED_WORDS = (
@@ -135,6 +145,16 @@ HINT_WORDS = (
     "large",
     "dimension",
     "empty",
+    "fewer",
+    "comma",
+    "missing",
+    "quotes",
+    "no_break_space",
+    "minus",
+    "box",
+    "braces",
+    "no_kind",
+    "parenthesis",
 )
 # Statuses.
 OK = 0

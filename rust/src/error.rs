@@ -252,6 +252,26 @@ pub enum Hint {
     Dimension,
     /// `()`, which is written EMPTY.
     Empty,
+    /// A number with too many units for so many places, which 18 places read.
+    Fewer,
+    /// A comma within a coordinate: a decimal comma, or one between its numbers.
+    Comma,
+    /// NULL, None or nan, for a missing value.
+    Missing,
+    /// Quotes around a text or a number.
+    Quotes,
+    /// A no-break space.
+    NoBreakSpace,
+    /// A typographic minus sign, or a dash.
+    Minus,
+    /// A box.
+    Box,
+    /// GeoJSON, or another text in braces.
+    Braces,
+    /// A number or a parenthesis in place of a kind word.
+    NoKind,
+    /// A number in place of a parenthesis.
+    Parenthesis,
     /// What a later library names by another number of `include/wkt.h`.
     Other(u32),
 }
@@ -272,6 +292,16 @@ impl Hint {
             9 => Hint::Large,
             10 => Hint::Dimension,
             11 => Hint::Empty,
+            12 => Hint::Fewer,
+            13 => Hint::Comma,
+            14 => Hint::Missing,
+            15 => Hint::Quotes,
+            16 => Hint::NoBreakSpace,
+            17 => Hint::Minus,
+            18 => Hint::Box,
+            19 => Hint::Braces,
+            20 => Hint::NoKind,
+            21 => Hint::Parenthesis,
             number => Hint::Other(number),
         })
     }
@@ -289,6 +319,16 @@ impl Hint {
             Hint::Large => 9,
             Hint::Dimension => 10,
             Hint::Empty => 11,
+            Hint::Fewer => 12,
+            Hint::Comma => 13,
+            Hint::Missing => 14,
+            Hint::Quotes => 15,
+            Hint::NoBreakSpace => 16,
+            Hint::Minus => 17,
+            Hint::Box => 18,
+            Hint::Braces => 19,
+            Hint::NoKind => 20,
+            Hint::Parenthesis => 21,
             Hint::Other(number) => number as usize,
         }
     }

@@ -84,7 +84,7 @@ pub const EXPECTED: [&str; 11] = [
     "`)`",
 ];
 /// Why a text is refused, at the number of the hint; %u is the number of places.
-pub const HINTS: [&str; 12] = [
+pub const HINTS: [&str; 22] = [
     "",
     "the text begins with a byte order mark",
     "WKB in hexadecimal is not read; ST_AsText gives its text",
@@ -97,6 +97,16 @@ pub const HINTS: [&str; 12] = [
     "the number is too large",
     "a third number needs Z or M, as in POINT Z(1 2 3), and a fourth ZM",
     "what holds nothing is written EMPTY, without parentheses",
+    "with 18 places the number is read",
+    "commas separate coordinates, and spaces their numbers; decimals have a point",
+    "NULL, None and nan are not read; leave the row out, or write POINT EMPTY",
+    "quotes are not read; leave them out",
+    "a no-break space is not read as a space; write a plain one",
+    "a dash or a typographic minus is not read; write the plain -",
+    "boxes are not read; polygons are",
+    "braces are not read; ST_AsText(ST_GeomFromGeoJSON(..)) gives the text of GeoJSON",
+    "a geometry begins with its kind, as in POINT(1 2)",
+    "numbers stand in parentheses, as in POINT(1 2) and POLYGON((0 0,1 0,0 1,0 0))",
 ];
 /// Done.
 pub const OK: u32 = 0;

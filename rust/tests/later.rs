@@ -7,10 +7,10 @@ fn a_later_library() {
     let error = canonical("!", 6).unwrap_err();
     let why = *error.refusal().unwrap();
     assert_eq!(why.expected, Expected::Other(11));
-    assert_eq!(why.hint, Some(Hint::Other(12)));
+    assert_eq!(why.hint, Some(Hint::Other(99)));
     assert_eq!((why.status, why.message), (15, "A later message"));
     assert_eq!(explain("!", 6), Ok(Some(why)));
-    let shown = "1:1: something else (11) was expected (hint 12)";
+    let shown = "1:1: something else (11) was expected (hint 99)";
     assert_eq!(error.to_string(), shown);
 
     for (text, status, shown) in [("?", 34, "A later status"), ("~", 35, "Status 35")] {

@@ -265,7 +265,7 @@ def by_hand(groups):
         ),
         ("crates/wkt_calls/src/status.rt", "statuses", r"^pub const (\w+): u32 = (\d+);$", constants),
         (NUMBERED, "expectations", r"^expected_number expected\.(\w+) = (\d+)$", expected_numbers),
-        (HINTS, "hints", r'Hint::(\w+) => "(.*)",$', hints),
+        (HINTS, "hints", r'Hint::(\w+) =>\s+"(.*)",$', hints),
         (HINTS, "hints with a number", r'Hint::(\w+)\(places\) => return write!\(f, "(.*)"\),$', with_places),
         (NUMBERED, "hints", r"^hint_number \(Some \(?hint\.(\w+)(?: most\))?\) = (\d+)$", hint_numbers),
     ]

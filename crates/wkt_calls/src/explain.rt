@@ -47,6 +47,16 @@ pub fn number_of_hint(hint: Option<Hint>) -> u32
         Hint::Large => 9,
         Hint::Dimension => 10,
         Hint::Empty => 11,
+        Hint::Fewer => 12,
+        Hint::Comma => 13,
+        Hint::Missing => 14,
+        Hint::Quotes => 15,
+        Hint::NoBreakSpace => 16,
+        Hint::Minus => 17,
+        Hint::Box => 18,
+        Hint::Braces => 19,
+        Hint::NoKind => 20,
+        Hint::Parenthesis => 21,
     }
 }
 
