@@ -71,7 +71,7 @@ export function closeFile() {
 function showOpened() {
   document.body.classList.add('has-file');
   $('text').placeholder = 'Type or paste here to close the file';
-  for (const id of ['caret', 'hint', 'message', 'save', 'next', 'offer']) $(id).hidden = true;
+  for (const id of ['caret', 'hint', 'save', 'next', 'offer']) $(id).hidden = true;
   $('file-card').hidden = $('stop').hidden = false;
   $('text').setAttribute('aria-invalid', 'false');
   $('verdict').setAttribute('aria-busy', 'false');

@@ -82,16 +82,15 @@ function sayMany(row) {
   else say('bad', `${number(refused)} of ${count(rows.length, unit)} refused`, ...(row.accepted ? [`Line ${row.line} is accepted.`] : reason(row, true)));
 }
 
-/** The line with the mark, the hint, and the words of the library, of a row that is refused. */
+/** The line with the mark, and the hint, of a row that is refused. The library’s message may be about another place. */
 function showPlace(row) {
   const place = row && !row.accepted ? row.place : null;
-  $('caret').hidden = $('hint').hidden = $('message').hidden = !place;
+  $('caret').hidden = $('hint').hidden = !place;
   if (!place) return;
   const [text, mark] = place.caret.split('\n');
   fill($('caret'), `${text}\n`, element('b', {}, `${mark} ${withoutCode(place.expected)} was expected`));
   $('hint').hidden = !place.hint;
   fill($('hint'), element('b', {}, 'Why: '), ...withCode(place.hint || ''), '.');
-  fill($('message'), `In the library’s words: ${row.words} (status ${row.status}).`);
 }
 
 export function showVerdict() {

@@ -5,17 +5,35 @@
 #include <stdlib.h>
 #include <string.h>
 
-static const char *const messages[] = WKT_MESSAGES;
 #define TEXT(s) (const uint8_t *)(s), strlen(s)
+#define COUNT(list) (sizeof list / sizeof *list)
+
+/* Where a text is refused, what was expected there, and why. */
+static void explain(const char *text, uint32_t places) {
+    static const char *const expectations[] = WKT_EXPECTED;
+    static const char *const hints[] = WKT_HINTS;
+    uint32_t message, expected, hint;
+    size_t start, stop;
+    if (wkt_explain(TEXT(text), places, &message, &start, &stop, &expected) != WKT_OK) return;
+    if (expected < COUNT(expectations)) printf(", at byte %zu %s was expected", start, expectations[expected]);
+    if (wkt_hint(TEXT(text), places, &hint) != WKT_OK || hint == WKT_HINT_NONE || hint >= COUNT(hints)) return;
+    printf(": ");
+    printf(hints[hint], places);
+}
 
 static void canonical(const char *text, uint32_t places) {
     uint8_t out[256];
     size_t needed, end;
     wkt_status s = wkt_canonical(TEXT(text), places, out, sizeof out, &needed, &end);
+    printf("%-28s %2u places: ", text, places);
     if (s == WKT_OK)
-        printf("%-28s %2u places: %.*s (ends at %zu)\n", text, places, (int)needed, out, end);
-    else
-        printf("%-28s %2u places: status %u %s\n", text, places, s, s <= WKT_LAST_REFUSAL ? messages[s] : "");
+        printf("%.*s (ends at %zu)", (int)needed, out, end);
+    else if (s <= WKT_LAST_REFUSAL) {
+        printf("refused");
+        explain(text, places);
+    } else
+        printf("status %u, %s", s, wkt_message(s));
+    printf("\n");
 }
 
 int main(void) {
@@ -23,8 +41,11 @@ int main(void) {
     canonical("POINT(1.0000005 2)", 6);
     canonical("POINT(1.0000005 2)", 18);
     canonical("POINT(1)", 6);
+    canonical("POINT(1 2 3)", 6);
+    canonical("POINT(1,5 2,5)", 6);
     canonical("\xff", 6);
     canonical("POINT(1.0000005 170)", 36);
+    canonical("POINT(1.0000005 180)", 36);
     canonical("POINT(1 2)", 37);
 
     uint32_t same, kind, dimension;

@@ -93,7 +93,13 @@ cat "$dir/said"
 for example in show lines stream; do
     "$cc" -O2 -I"$out" -o "$dir/$example" capi/examples/$example.c "$out/libwkt.a" || fail "$example: not compiled"
 done
-"$dir/show" > /dev/null || fail "show fails"
+"$dir/show" > "$dir/said" || fail "show fails"
+# A refusal is said by its place and hint, and not by the message of the Rust crate, which may be about another place.
+! sed -n 's/^message\t.*\t//p' docs/names.tsv | grep -qF -f - "$dir/said" || fail "show: a message of the Rust crate"
+for words in 'at byte 10 `)` was expected: a third number needs Z or M' 'at byte 7 a second number was expected: commas separate' \
+    'at byte 16 a second number was expected: with 18 places the number is read' 'at byte 6 a first number was expected: numbers have at most 6'; do
+    grep -qF "$words" "$dir/said" || fail "show: it lacks $words"
+done
 "$dir/lines" < crates/wktline/stdin | cmp - crates/wktline/stdout || fail "lines: another output than wktline's"
 "$dir/stream" < crates/wktline/stdin | cmp - crates/wktline/stdout || fail "stream: another output than wktline's"
 echo "examples: the output of wktline"

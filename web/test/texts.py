@@ -1,4 +1,5 @@
 """Texts in the field: what is said of them, and what is drawn."""
+import os
 import re
 
 from chromium import Page
@@ -6,6 +7,9 @@ from selenium.webdriver.common.by import By
 from selenium.webdriver.common.keys import Keys
 from selenium.webdriver.support.ui import Select
 
+# The messages of the Rust crate, which may be about another place than the page says.
+with open(os.path.join(os.path.dirname(__file__), "../../docs/names.tsv"), encoding="utf-8") as rows:
+    MESSAGES = [row.split("\t")[3].strip() for row in rows if row.startswith("message\t")]
 # A text; the head of the answer; its words; the marked part of the text; words of the hint.
 REFUSED = [
     ("POINT (1 2", "Refused at line 1, column 11", "The text ends there, and ) was expected.", "", ""),
@@ -18,6 +22,12 @@ REFUSED = [
      "ST_AsText leaves it out"),
     ("POINT (1e-7 50)", "Refused at line 1, column 8", "It says 1e-7, and a first number", "1e-7",
      "exponents are not read"),
+    ("POINT(1,5 2,5)", "Refused at line 1, column 8", "It says ,, and a second number was expected.", ",",
+     "decimals have a point"),
+    ("'POINT(1 2)'", "Refused at line 1, column 1", "It says 'POINT, and a kind of geometry", "'POINT",
+     "quotes are not read"),
+    ("POLYGON(0 0,1 0,0 1,0 0)", "Refused at line 1, column 9", "It says 0, and ( or EMPTY was expected.", "0",
+     "numbers stand in parentheses"),
     ("POINT(1 2) POINT(3 4)", "Refused at line 1, column 12", "It says POINT(3, and the end of the text was expected.",
      "POINT(3 4)", ""),
     ("POLYGON ((0 0, 4 0,\n 2 4, 0 0)", "Refused at line 2, column 11", "The text ends there, and , or ) was expected.",
@@ -53,6 +63,8 @@ class Texts(Page):
                 self.assertEqual(text.split("\n")[-1], line[0])
                 self.assertIn(hint, self.said("hint") if hint else "")
                 self.assertEqual(bool(hint), self.by_id("hint").is_displayed())
+                shown = self.script("return document.body.innerText")
+                self.assertEqual([], [message for message in MESSAGES if message in shown])
                 self.assertEqual("true", self.by_id("text").get_attribute("aria-invalid"))
 
     def test_accepted(self):
@@ -160,7 +172,7 @@ class Texts(Page):
         self.assertEqual("Accepted: Point", self.said("say"))
         self.paste("POINT(180 0)")
         self.assertEqual("Refused at line 1, column 7", self.said("say"))
-        self.assertIn("too large", self.said("hint"))
+        self.assertIn("with 18 places", self.said("hint"))
 
     def test_links(self):
         self.open("#wkt=POINT%281%0A2%29&as=lines")
