@@ -1,1 +1,2 @@
 pub mod StopsAreRefusals
+mod Fewer

@@ -1,11 +1,12 @@
 -- What a refused lexeme may come from.
-use Rattle.std.specs.Prelude.{ℕ, suc, zero, ◌-◌, List, [], ◌∷◌, length, take, drop, Bool, true, false, not, ◌&&◌, ◌||◌, ◌==◌, nat_lt, nat_le, codes, Option, Some, None, if◌then◌else◌}
+use Rattle.std.specs.Prelude.{◌≡◌, ℕ, ℤ, suc, zero, ◌-◌, List, [], ◌∷◌, length, take, drop, Bool, true, false, not, ◌&&◌, ◌||◌, ◌==◌, nat_lt, nat_le, codes, Option, Some, None, if◌then◌else◌}
 use Rattle.std.specs.List.{list_any, list_all}
 use Rattle.std.specs.Char.{is_ascii_digit, is_ascii_hexdigit}
 use Rattle.std.specs.Str.{str_to_ascii_uppercase}
 use Rattle.std.specs.Str.Parse.{without_leading_sign}
-use Rattle.wkt_num.specs.Decimal.{before_point}
+use Rattle.wkt_num.specs.Decimal.{before_point, read_decimal}
 use Rattle.wkt_read.specs.Header.{begins, holds}
+use Rattle.wkt_read.specs.Lexemes.{without_plus}
 use Rattle.wkt_read.specs.declared.expected.Expected.{Expected}
 use Rattle.wkt_read.specs.declared.expected.Expected.TheVariants as expected
 use Rattle.wkt_explain.specs.declared.hint.Hint.{Hint}
@@ -130,3 +131,7 @@ is_empty_pair (suc before) text = begins (codes "()") (drop before text)
 -- What a text that is refused from one place to another may come from, by what was expected there.
 abbrev pub hint_at : List ℕ → ℕ → ℕ → Expected → ℕ → Option Hint
 hint_at text start end e most = if is_empty_pair start text then Some hint.Empty else word_hint e (take (end - start) (drop start text)) most
+
+-- Where the hint says that 18 places read a number, they do.
+abbrev pub FewerIsRead : Type 0
+FewerIsRead = (most : ℕ) (w : List ℕ) → number_hint most (without_leading_sign w) ≡ Some hint.Fewer → (u : ℤ) × (read_decimal 127 36 18 (without_plus w) ≡ Some u)

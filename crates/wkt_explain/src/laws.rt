@@ -1,5 +1,6 @@
 //! Laws of the definitions: each function does nothing, and its contract is the law.
 ghost use Rattle.wkt_read.specs.Explained.{OneRefusal, RefusedHasNoFront};
+ghost use Rattle.wkt_explain.specs.Hints.{FewerIsRead};
 
 use wkt_num::WktNum;
 
@@ -11,4 +12,9 @@ pub fn one_refusal<T: WktNum>()
 /// A text that is refused somewhere has no geometry at its front.
 pub fn refused_has_no_front<T: WktNum>()
     ensures { RefusedHasNoFront T.read }
+{}
+
+/// A number whose hint is `Fewer` is read with 18 places.
+pub fn fewer_is_read()
+    ensures { FewerIsRead }
 {}
