@@ -1,11 +1,13 @@
 # Instructions a byte, for scripts that source this. They set `work`, a folder of theirs, `workloads`, and `lines`, where
 # lines.py is.
 
-# count PROGRAM FLAG.. INPUT: what callgrind counts
-count() {
-    valgrind --tool=callgrind --callgrind-out-file=/dev/null "${@:2:$#-2}" "$1" < "${!#}" 2>&1 > /dev/null |
+# counted WORD..: what callgrind counts of a command, after flags of callgrind
+counted() {
+    valgrind --tool=callgrind --callgrind-out-file=/dev/null "$@" 2>&1 > /dev/null |
         sed -n 's/.*Collected *: *\([0-9]*\).*/\1/p'
 }
+# count PROGRAM FLAG.. INPUT: the same of a program over an input
+count() { counted "${@:2:$#-2}" "$1" < "${!#}"; }
 
 # head_of_table NAME: makes 3 MB of lines of each workload, and 1 MB, and prints the head of the table
 head_of_table() {

@@ -17,7 +17,7 @@ workloads=${WORKLOADS:-mixed-6 points-6 points-0}
 
 # calls CALL INPUT: the instructions of the calls alone
 calls() { echo $(($(all "$1" "$2") - $(all none "$2"))); }
-all() { valgrind --tool=callgrind --callgrind-out-file=/dev/null "$work/arrays" "$@" 2>&1 > /dev/null | sed -n 's/.*Collected *: *\([0-9]*\).*/\1/p'; }
+all() { counted "$work/arrays" "$@"; }
 
 head_of_table ''
 for call in line column; do

@@ -14,10 +14,10 @@ wrap="-Wl,--wrap=malloc -Wl,--wrap=realloc"
 # of PROGRAM CALL TEXT: the instructions of one call, less those of the program around it
 of() {
     local few many
-    few=$(count "$@" 10) many=$(count "$@" 110)
+    few=$(counted "$@" 10) many=$(counted "$@" 110)
     echo $(((many - few) / 100))
 }
-count() { valgrind --tool=callgrind --callgrind-out-file=/dev/null "$@" 2>&1 > /dev/null | sed -n 's/.*Collected *: *\([0-9]*\).*/\1/p'; }
+. "$here/../../bench/callgrind.sh"
 
 texts=('POINT EMPTY' 'POINT(1 2)' 'POINT(-171.244391 7.816492)' 'POINT(-171.244391234567891 7.816492345678912)'
     'POLYGON((0 0,10.5 0,10.5 1,9 2,8 3,7 4,6 5,5 6.25,0 7,0 0))' 'GEOMETRYCOLLECTION(POINT(1 2),LINESTRING(0 0,1 1),POINT EMPTY)'

@@ -4,6 +4,7 @@
 #
 # callgrind counts between a call and its return alone (--toggle-collect). As in bench/measure.sh, a figure is the count
 # on 3 MB of lines less that on 1 MB, over the difference in bytes. WORKLOADS may name others than the four there.
+# PLACES="18 35" adds a row for each: a program that reads numbers of so many places.
 set -eu
 here=$(cd "$(dirname "$0")" && pwd)
 lines=$here/../../bench/lines.py
@@ -15,7 +16,12 @@ cc=${CC:-gcc}
 workloads=${WORKLOADS:-mixed-6 points-6 mixed-15 points-15}
 . "$here/../../bench/callgrind.sh"
 
+"$cc" -O2 -I"$here/../out" "$here/time_lines.c" "$here/../out/libwkt.a" -o "$work/time_lines"
+# with_places PLACES INPUT: what wkt_lines takes with so many
+with_places() { counted "$work/time_lines" lines "$1" < "$2"; }
+
 head_of_table ''
 row 'the call wkt_lines' count "$work/wkt_lines" --toggle-collect=wkt_lines
 row 'examples/lines.c' count "$work/wkt_lines"
+for places in ${PLACES:-}; do row "wkt_lines, $places places" with_places "$places"; done
 [ ! -x "$work/geos_lines" ] || row 'geos_lines.c' count "$work/geos_lines"
