@@ -4,8 +4,8 @@
 `points` are lines of one POINT each; `mixed` are lines of all kinds, short and long; `nested` are collections in
 collections, up to eight levels; `refused` are points with a fault each; `empty` are lines with nothing in them. Half of
 the lines have a space after the kind word and after each comma, as some databases print them. Numbers have DECIMALS
-decimals, from 0 to 14, or, where DECIMALS is 15, thirteen to fifteen. The same arguments give the same bytes on every
-machine.
+decimals, from 0 to 14 or from 16 on; where DECIMALS is 15, thirteen to fifteen. The same arguments give the same bytes on
+every machine.
 """
 import sys
 
@@ -33,10 +33,11 @@ class Lines:
         return self.numbers.below(2 * limit * 10**15) - limit * 10**15
 
     def text(self, units):
-        places = 13 + self.numbers.below(3) if self.decimals == 15 else self.decimals
+        places = 13 + self.numbers.below(3) if self.decimals == 15 else min(self.decimals, 15)
         whole, fraction = divmod(abs(units) // 10 ** (15 - places), 10**places)
         sign = "-" if units < 0 else ""
-        return f"{sign}{whole}.{fraction:0{places}}" if places else f"{sign}{whole}"
+        more = "".join(str(self.numbers.below(10)) for _ in range(15, self.decimals))
+        return f"{sign}{whole}.{fraction:0{places}}{more}" if places else f"{sign}{whole}"
 
     def path(self, count, closed):
         """Coordinates that wander from a place, as those of a coast or a road do."""
