@@ -4,8 +4,8 @@
 `points` are lines of one POINT each; `mixed` are lines of all kinds, short and long; `nested` are collections in
 collections, up to eight levels; `refused` are points with a fault each; `empty` are lines with nothing in them. Half of
 the lines have a space after the kind word and after each comma, as some databases print them. Numbers have DECIMALS
-decimals, from 0 to 14 or from 16 on; where DECIMALS is 15, thirteen to fifteen. The same arguments give the same bytes on
-every machine.
+decimals, from 0 to 14 or from 16 on; where DECIMALS is 15, thirteen to fifteen. The same arguments give the same bytes
+on every machine.
 """
 import sys
 
