@@ -1,13 +1,18 @@
 /* Calls over columns of texts, and over arrays. */
 #include "calls.h"
 
-/* The column of these texts, none of which is null where valid is NULL. */
-static wkt_status column(const char *texts, const int64_t *offsets, const uint8_t *valid, size_t rows, size_t room) {
+/* Marks what a column of texts is written to, so that column_untouched finds what a call writes. */
+static void before_column(void) {
     size_t i;
     memset(out, '#', ROOM);
     for (i = 0; i < ROWS; i++) ends[i] = -7, statuses[i] = 77;
     ends[ROWS] = -7;
     needed = 99;
+}
+
+/* The column of these texts, none of which is null where valid is NULL. */
+static wkt_status column(const char *texts, const int64_t *offsets, const uint8_t *valid, size_t rows, size_t room) {
+    before_column();
     return wkt_column_canonical(BYTES(texts), offsets, rows + 1, valid, valid ? (rows + 7) / 8 : 0, 18, out, room, ends,
                                 rows + 1, statuses, rows, &needed);
 }
@@ -255,11 +260,7 @@ static void column_arrays(void) {
 
 /* The texts of the first rows of the arrays that wkt_column_arrays gave, with the bits of those that had any. */
 static wkt_status texts_of(size_t rows, const uint8_t *valid, uint32_t places, size_t room) {
-    size_t i;
-    memset(out, '#', ROOM);
-    for (i = 0; i < ROWS; i++) ends[i] = -7, statuses[i] = 77;
-    ends[ROWS] = -7;
-    needed = 99;
+    before_column();
     return wkt_column_from_arrays(got.kinds, rows, got.dimensions, rows, got.numbers, 32, got.number_ends, rows + 1,
                                   got.rings, 32, got.ring_ends, rows + 1, got.polygons, 32, got.polygon_ends, rows + 1,
                                   valid, valid ? (rows + 7) / 8 : 0, places, out, room, ends, rows + 1, statuses, rows,

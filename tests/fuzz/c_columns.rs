@@ -73,19 +73,19 @@ impl Column<'_> {
 
     /// The text of all rows, where each begins, and their statuses.
     fn answers(&self, places: u32) -> (Vec<u8>, Vec<i64>, Vec<u32>) {
-        let (mut text, mut ends, mut statuses) = (vec![], vec![0], vec![]);
-        for row in 0..self.rows() {
-            match if self.is_null(row) { Err(NULL_ROW) } else { canonical(self.row(row), places) } {
-                Ok(one) => {
-                    text.extend(one.into_bytes());
-                    statuses.push(0);
-                }
-                Err(status) => statuses.push(status),
-            }
-            ends.push(text.len() as i64);
-        }
-        (text, ends, statuses)
+        joined((0..self.rows()).map(|row| if self.is_null(row) { Err(NULL_ROW) } else { canonical(self.row(row), places) }))
     }
+}
+
+/// The texts of rows in one, where each begins, and the statuses.
+fn joined(rows: impl Iterator<Item = Result<String, u32>>) -> (Vec<u8>, Vec<i64>, Vec<u32>) {
+    let (mut text, mut ends, mut statuses) = (vec![], vec![0], vec![]);
+    for row in rows {
+        text.extend(row.as_deref().unwrap_or("").bytes());
+        statuses.push(row.err().unwrap_or(0));
+        ends.push(text.len() as i64);
+    }
+    (text, ends, statuses)
 }
 
 pub fn check_texts(asked: &Asked) {
@@ -316,17 +316,10 @@ fn check_back(asked: &Asked, column: &Column, places: u32) {
         .collect();
     let rows = Rows::of(given.iter().cloned());
     let none = Arrays { kind: 0, dimension: 0, numbers: vec![], rings: vec![], polygons: vec![] };
-    let (mut text, mut ends, mut statuses) = (vec![], vec![0], vec![]);
-    for (row, arrays) in given.iter().enumerate() {
-        match if column.is_null(row) { Err(NULL_ROW) } else { text_of_arrays(arrays.as_ref().unwrap_or(&none), places) } {
-            Ok(one) => {
-                text.extend(one.into_bytes());
-                statuses.push(0);
-            }
-            Err(status) => statuses.push(status),
-        }
-        ends.push(text.len() as i64);
-    }
+    let (text, ends, statuses) = joined(given.iter().enumerate().map(|(row, arrays)| match column.is_null(row) {
+        true => Err(NULL_ROW),
+        false => text_of_arrays(arrays.as_ref().unwrap_or(&none), places),
+    }));
     let wanted = Ok((&text[..], &ends[..], &statuses[..]));
     check_back_call(asked, &rows, &column.valid, places, wanted, [ends.len(), statuses.len()]);
     let mut wrong = rows.clone();
