@@ -4,4 +4,7 @@ pub use Rattle.wkt_num.proofs.SinkCalls
 pub use Rattle.wkt_access.proofs.Collections
 pub use Rattle.wkt_write.proofs.Members
 pub use Rattle.wkt_types.proofs.Displays
+pub use Rattle.wkt_read.proofs.OnePlacing
+pub use Rattle.wkt_machine.proofs.ByteViews
+pub use Rattle.wkt_machine.proofs.FrontValues
 pub mod Texts

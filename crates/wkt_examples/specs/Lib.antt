@@ -2,3 +2,4 @@ pub mod Ordered
 pub mod Mine
 pub mod Halves
 pub mod Served
+pub mod Empties

@@ -8,6 +8,7 @@
 pub mod every_geometry;
 pub mod json_service;
 pub mod key;
+pub mod my_builder;
 pub mod my_number;
 pub mod my_points;
 pub mod refusal;
