@@ -9,6 +9,7 @@ use std::test::Fail;
 use wkt::geo_types::Geometry;
 use wkt::geo_types_from_wkt::Error;
 use wkt::{AnyError, Decimal, TryFromWkt};
+use wkt_examples::my_builder::has_empty;
 use wkt_examples::my_number::Half;
 use wkt_examples::refusal::{Answer, answer_to};
 
@@ -16,7 +17,7 @@ type Number = Decimal<6>;
 
 /// The caller, of some another text, the text, and what it gives. Numbers have six places, but for `tidy_halves`,
 /// whose numbers are 0, .5 and 1.
-const ROWS: [(&str, &str, &str, &str); 21] = [
+const ROWS: [(&str, &str, &str, &str); 26] = [
     // The key, if it is read as the very geometry.
     ("flat_key", "", "point m (1 2.50 3)", "POINT(1 2.5)"),
     (
@@ -80,6 +81,17 @@ const ROWS: [(&str, &str, &str, &str); 21] = [
     ("answer_to", "", "point ( 1 2.50 )", "POINT(1 2.5)"),
     ("answer_to", "", "linestring (1 2.50)", "LINESTRING(1 2.5)"),
     ("answer_to", "", "POINT(1)", "7..8 Y"),
+    // Whether a part of the front is EMPTY.
+    ("has_empty", "", "POINT ZM EMPTY", "true"),
+    ("has_empty", "", "MULTIPOINT(1 2,EMPTY)", "true"),
+    (
+        "has_empty",
+        "",
+        "GEOMETRYCOLLECTION(POINT(1 2),MULTIPOLYGON(((0 0,4 0,2 4,0 0),EMPTY)))",
+        "true",
+    ),
+    ("has_empty", "", "MULTIPOINT(1 2,(3 4)) EMPTY", "false"),
+    ("has_empty", "", "MULTIPOINT(EMPTY,1 2", "none"),
 ];
 
 #[test]
@@ -114,6 +126,7 @@ fn given(alloc: Global, call: &str, of: &str, text: &str) -> Result<String, Allo
         "tidy_pair" => words(alloc, tidy_pair::<Number>(alloc, of, text)),
         "tidy_if_any" => tidy_or_none(alloc, text),
         "answer_to" => answered(alloc, text),
+        "has_empty" => empty_or_none(alloc, text),
         _ => String::from_str(alloc, "no such caller"),
     }
 }
@@ -156,6 +169,13 @@ fn is_read_as(alloc: Global, text: &str, geometry: &Geometry<Number>) -> Result<
 fn tidy_or_none(alloc: Global, text: &str) -> Result<String, AllocError> {
     match tidy_if_any::<Number>(alloc, text)? {
         Some(tidy) => Ok(tidy),
+        None => String::from_str(alloc, "none"),
+    }
+}
+
+fn empty_or_none(alloc: Global, text: &str) -> Result<String, AllocError> {
+    match has_empty::<Number>(text) {
+        Some(found) => found.to_string(alloc),
         None => String::from_str(alloc, "none"),
     }
 }
