@@ -1,7 +1,7 @@
 -- Lines that are answered, one after the other.
 use Rattle.std.proofs.Common.{◌≡◌, ◌≢◌, ℕ, List, [], ◌∷◌, ◌++◌, sym, ◌∙◌, ap, subst, take, length, refl, append_assoc, Option, Result, Ok, Err, OnOk, zero, suc, ◌+◌, ◌-◌, ◌<◌, ◌≤◌, drop, arith, Bool, true, false, IsUtf8, set, Some, inl, inr, codes, ◌⊎◌, get_or}
 use Rattle.std.specs.Prelude.{IfOk, ◌==◌, if◌then◌else◌, IfSome}
-use Rattle.std.proofs.lemmas.List.{append-nil, take_more_set}
+use Rattle.std.proofs.lemmas.List.{append-nil, take_more_set, drop_all}
 use Rattle.std.proofs.Math.Seq.{take-append_seam}
 use Rattle.std.proofs.lemmas.Str.{IsUtf8-append, IsUtf8-from_is_utf8, is_utf8-from_IsUtf8}
 use Rattle.std.specs.Io.KnownBytes.{Appends}
@@ -14,11 +14,12 @@ use Rattle.wkt_num.specs.Sink.{Sink, Adds, Breaks, GrewBy, next_count}
 use Rattle.wkt_lines.specs.declared.answer.AnswerError.{AnswerError}
 use Rattle.wkt_lines.proofs.Outcomes.{lines_step}
 use Rattle.wkt_lines.specs.declared.answer.AnswerError.TheVariants as answered
-use Rattle.wkt_lines.specs.First.{AnswersFirst, EndsLine, AnswersBehind, TestsFrom}
+use Rattle.wkt_lines.specs.First.{AnswersFirst, EndsLine, AnswersBehind, TestsFrom, EndsAll, AnswersWhole}
 use Rattle.wkt_access.specs.Shapes.{shape_of}
 use Rattle.wkt_access.specs.Texts.{shape_text}
 use Rattle.wkt_read.specs.Front.{HasNoFront}
 use Rattle.wkt_num.specs.Number.{ReadsTexts}
+use Rattle.wkt_num.specs.Bytes.{AllWhite}
 use Rattle.wkt_canonical.specs.Canonical.{HasWritten}
 use Rattle.wkt_events.proofs.Utf8Lines.{line-within, text-with-front, text-behind-front}
 
@@ -29,7 +30,7 @@ pub any_ok : {A E P : Type 0} (r : Result A E) → P → OnOk r P
 any_ok (Ok x) h = h
 any_ok (Err e) h = tt
 
-lines_on : (xs : List ℕ) → (xs ≢ []) → input_lines xs ≡ before_feed xs ∷ input_lines (after_feed xs)
+pub lines_on : (xs : List ℕ) → (xs ≢ []) → input_lines xs ≡ before_feed xs ∷ input_lines (after_feed xs)
 lines_on [] h = absurd (h refl)
 lines_on (b ∷ bs) h = lines_step b bs
 
@@ -183,7 +184,7 @@ pub ok-map : {A E : Type 0} (r : Result A E) (P Q : A → Type 0) → ((x : A) �
 ok-map (Ok x) P Q f h = f x h
 ok-map (Err e) P Q f h = tt
 
-feed-utf8 : IsUtf8 (10 ∷ [])
+pub feed-utf8 : IsUtf8 (10 ∷ [])
 unfolding encode
 feed-utf8 = (10 ∷ [], (refl, refl))
 
@@ -256,6 +257,23 @@ module _ {N : Type 0} (read : List ℕ → Option N) (num : N → List ℕ) wher
       utf8 = h.utf8;
       written = take_more_set new n 10 room ∙ ap (λ l. l ++ (10 ∷ [])) h.written ∙ append_assoc (take len old) (shape_text num (shape_of h.value)) (10 ∷ []);
       left = ends.after;
+    }
+
+    -- the line ends with its front
+    pub nothing-behind : (front : Bool) → EndsText rest from from → EndsAll front (before_feed rest) end
+    nothing-behind front at =
+        let n = at.ends in
+        let within : length (before_feed rest) ≤ end = elim tests [ inl t ↦ let same = t.0 in omega (arith, same, n) | inr z ↦ omega (arith, z, n) ] in
+        inr (subst AllWhite (sym (drop_all end (before_feed rest) within)) tt)
+
+    -- the line was read as a whole text
+    pub whole-line : (front : Bool) (line : ℕ) → n < length new → EndsText rest from line → EndsAll front (before_feed rest) end
+        → AnswersWhole read num front rest (take len old) (take (n + 1) (set new n 10))
+    whole-line front line room ends all = record {
+      answer = shape_text num (shape_of h.value);
+      is = record { utf8 = line-text ends.utf8; end = end; is = record { value = h.value; front = h.front; is = refl }; whole = all };
+      utf8 = h.utf8;
+      written = take_more_set new n 10 room ∙ ap (λ l. l ++ (10 ∷ [])) h.written ∙ append_assoc (take len old) (shape_text num (shape_of h.value)) (10 ∷ []);
     }
 
 -- A beginning of the answers to lines.

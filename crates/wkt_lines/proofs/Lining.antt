@@ -331,6 +331,11 @@ kept_gives (Some xs) None c line h k = absurd h
 kept_gives (Some xs) (Some ys) None line h k = k
 kept_gives (Some xs) (Some ys) (Some zs) line h k = ap input_lines (sym h) ∙ k
 
+-- what is to come, behind bytes that are passed
+pub passed : (left : Option (List ℕ)) (xs : List ℕ) (n : ℕ) → Consumes (prepend_known xs left) (prepend_known (drop n xs) left) (take n xs)
+passed None xs n = tt
+passed (Some ys) xs n = ap (λ (zs : List ℕ). zs ++ ys) (sym (take-append-drop n xs)) ∙ append_assoc (take n xs) (drop n xs) ys
+
 -- no byte came
 pub none_came : (old new fresh : List ℕ) → new ≡ old ++ fresh → length fresh ≡ 0 → new ≡ old
 none_came old new [] e h = e ∙ append-nil old

@@ -178,7 +178,7 @@ fits_whole done here rest tail w v = (
 fits_last : (done here : List ℕ) → IsWholeLines done → Fits done here (done ++ here)
 fits_last done here w = ([], ap (λ (ls : List (List ℕ)). input_lines done ++ ls) (append-nil (input_lines here)) ∙ sym (lines_of_parts done here w))
 
-both_whole : (xs ys : List ℕ) → IsWholeLines xs → IsWholeLines ys → IsWholeLines (xs ++ ys)
+pub both_whole : (xs ys : List ℕ) → IsWholeLines xs → IsWholeLines ys → IsWholeLines (xs ++ ys)
 both_whole xs ys w (inl e) = subst (λ (zs : List ℕ). IsWholeLines zs) (sym (ap (λ (zs : List ℕ). xs ++ zs) e ∙ append-nil xs)) w
 both_whole xs ys w (inr (zs, e)) = inr (xs ++ zs, ap (λ (us : List ℕ). xs ++ us) e ∙ sym (append_assoc xs zs (10 ∷ [])))
 

@@ -82,7 +82,7 @@ pub fn answer_line_by<N: Numbers>(
 
 /// From where on a line is to be tested for UTF-8, of which a front was read that ends there.
 #[inline(always)]
-fn tests_from<N: Numbers>(numbers: N, end: usize) -> usize
+pub(crate) fn tests_from<N: Numbers>(numbers: N, end: usize) -> usize
     ensures { TestsFrom (N.read numbers) end result }
 {
     if numbers.reads_texts() { end } else { 0 }

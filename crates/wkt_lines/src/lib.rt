@@ -27,15 +27,17 @@ mod output_buffer;
 mod reading;
 mod reply;
 mod streaming;
+mod whole;
 
 pub use answer::AnswerError;
 pub use answers::write_answers;
 pub use ends::line_end;
 pub use in_room::{Answer, answer_line, answer_line_by};
-pub use lines::{RunError, run, run_over};
+pub use lines::{RunError, after_line, run, run_over};
 pub use reading::Lines;
 pub use reply::{Canonical, Reply, write_replies};
 pub use streaming::{stream, stream_over, stream_with};
+pub use whole::{WholeLines, write_whole_lines};
 
 #[cfg(test)]
 mod tests;

@@ -95,8 +95,12 @@ fn answer_input<A: Answers, W: ByteSink>(
     }
 }
 
-/// What follows a line and its line feed.
-pub(crate) fn after_line(rest: &[u8], end: usize) -> &[u8]
+/// What follows a first line that ends there, and its line feed.
+///
+/// ```text
+/// after_line(b"POINT(1 2)\nPOINT(3 4)", 10) // `POINT(3 4)`
+/// ```
+pub fn after_line(rest: &[u8], end: usize) -> &[u8]
     requires { end ≤ length rest.now }
     ensures { result.now ≡ drop (end + 1) rest.now }
 {

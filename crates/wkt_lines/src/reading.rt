@@ -1,6 +1,6 @@
 //! A source read line by line.
 ghost use Rattle.std.specs.Prelude.{◌≡◌, ◌≢◌, ℕ, ◌+◌, ◌≤◌, [], IfOk, OnOk, OnErr, true, false, length, take, drop};
-ghost use Rattle.std.specs.Io.KnownBytes.{Keeps, IsAtEnd};
+ghost use Rattle.std.specs.Io.KnownBytes.{Consumes, Keeps, IsAtEnd};
 ghost use Rattle.wkt_num.specs.Sink.{next_count};
 ghost use Rattle.wkt_bytes.specs.Sinks.{OnRead, UnlessRead};
 ghost use Rattle.wkt_lines.specs.First.{EndsLine};
@@ -101,11 +101,25 @@ impl<R: ByteSource> Lines<R> {
         source
     }
 
-    /// What was read and not given yet.
-    fn rest(&self) -> &[u8]
+    /// What was read and not given yet: lines, of which the last may go on in the source.
+    pub fn rest(&self) -> &[u8]
         ensures { result.now ≡ unread self.now }
     {
         &self.buffer.front()[self.next..]
+    }
+
+    /// Goes past the first bytes of [`rest`](Self::rest), as whole lines of it that were looked at there. The next line is
+    /// the one behind them.
+    pub fn pass(&mut self, n: usize)
+        requires { n ≤ length (unread self.old) }
+        ensures past { Consumes (to_come R.left self.old) (to_come R.left self.new) (take n (unread self.old)) }
+        ensures unread { unread self.new ≡ drop n (unread self.old) }
+        ensures source { source_of self.new ≡ source_of self.old }
+        ensures line { line_of self.new ≡ [] }
+    {
+        self.start = 0;
+        self.end = 0;
+        self.next += n;
     }
 
     /// Reads on until a whole line is at hand or the source has ended, and returns where the line ends.
