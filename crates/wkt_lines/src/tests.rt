@@ -1,7 +1,7 @@
 //! Lines answered in a room, by hand.
-use crate::answer_line;
+use crate::{answer_line, write_whole_lines};
 use std::process::Abort;
-use wkt_num::Decimal;
+use wkt_num::{Decimal, OfType};
 
 // What lines are answered with: a canonical text, or `refused` for `None`.
 const LINES: [(&[u8], Option<&str>); 17] = [
@@ -64,5 +64,38 @@ fn lines(rt: HostRuntime) {
         two[..n].copy_from_slice(line);
         two[n] = b'\n';
         is_answered(&rt, &two, n + 1, want);
+    }
+}
+
+// Bytes, whether the fronts of their lines alone count, how many first lines are answered then, and how.
+const WHOLE: [(&[u8], bool, usize, &str); 9] = [
+    (
+        b"POINT(1 2.0)\nPOINT(3 4)\nPOINT(5)\n",
+        false,
+        2,
+        "POINT(1 2)\nPOINT(3 4)\n",
+    ),
+    (b"POINT(1 2) \t\r\nPOINT(3 4)", false, 1, "POINT(1 2)\n"),
+    (b"POINT(1 2) x\nPOINT(3 4)\n", false, 0, ""),
+    (
+        b"POINT(1 2) x\nPOINT(3 4)\n",
+        true,
+        2,
+        "POINT(1 2)\nPOINT(3 4)\n",
+    ),
+    (b"POINT(1 2)\xff\n", true, 0, ""),
+    (b"POINT(1 2)\xff\n", false, 0, ""),
+    (b"\nPOINT(1 2)\n", false, 0, ""),
+    (b"POINT(1.1234567 2)\n", false, 0, ""),
+    (b"", false, 0, ""),
+];
+
+#[test]
+fn whole_lines(rt: HostRuntime) {
+    for (bytes, front, lines, want) in WHOLE {
+        let mut room = [7u8; 300];
+        let whole = write_whole_lines(OfType::<Decimal<6>>::new(), front, bytes, &mut room);
+        assert!(&rt; whole.lines == lines);
+        assert!(&rt; str::from_utf8(&room[..whole.len]).ok() == Some(want));
     }
 }
