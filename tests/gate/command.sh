@@ -6,7 +6,7 @@
 #   # NAME          its name
 #   = FILE          a file that lies where it runs
 #   | TEXT          a line of that file
-#   < TEXT          a line that it is fed; `< 100 times TEXT`: so many such lines
+#   < TEXT          a line that it is fed; `< 100 times TEXT`: so many such lines, so also behind >
 #   $ wkt WORD..    how it is called, as a shell reads it
 #   > TEXT          a line that it writes on standard output; `> ...`: anything
 #   ! TEXT          the same on standard error
@@ -50,8 +50,8 @@ run() {
     like "$name" stdout
     like "$name" stderr
 }
-# many COUNT TEXT: so many lines to be fed
-many() { yes "$(printf '%b' "$2")" | head -n "$1" >> "$dir/want/stdin"; }
+# many FILE COUNT TEXT: so many lines of a file
+many() { yes "$(printf '%b' "$3")" | head -n "$2" >> "$dir/want/$1"; }
 
 count=0
 for transcript in "$cases"/*.txt; do
@@ -62,7 +62,8 @@ for transcript in "$cases"/*.txt; do
             '# '*) run "$@" && begin "$rest" ;;
             '= '*) file=data/$rest && mkdir -p "$(dirname "$dir/$file")" && : > "$dir/$file" ;;
             '|'*) line "$file" "$rest" ;;
-            '< '*' times '*) many "${rest%% *}" "${rest#* times }" ;;
+            '< '*' times '*) many stdin "${rest%% *}" "${rest#* times }" ;;
+            '> '*' times '*) many stdout "${rest%% *}" "${rest#* times }" ;;
             '<'*) line want/stdin "$rest" ;;
             '$ wkt'*) eval "words=(${text#"\$ wkt"})" ;;
             '>'*) line want/stdout "$rest" ;;

@@ -1,21 +1,27 @@
 -- What becomes of a text that `wkt canon` answers, bytes that are replaced one by one, and keys that are compared by
 -- their bytes.
 use Rattle.std.proofs.Common.{◌≡◌, ℕ, ℤ, List, [], ◌∷◌, ◌++◌, take, drop, min, Option, Result, Ok, Err, OnOk, IsUtf8, ⊎_elim, true, false, sym, ap, ◌∙◌, subst, refl, Bool, Some, None, if◌then◌else◌, unwrap_or, zero, suc, ◌+◌, ◌<◌, ◌≤◌, length, get_or, slice_set, map, add-one, arith, append_assoc, append-nil, IfSome}
-use Rattle.std.specs.Io.KnownBytes.{Appends, Keeps, IsAtEnd}
+use Rattle.std.specs.Io.KnownBytes.{Appends, Consumes, Keeps, IsAtEnd}
 use Rattle.std.proofs.KnownBytes.{Appends-kept, Appends-nil, Appends-trans}
 use Rattle.std.specs.Str.{bytes_eq}
+use Rattle.std.proofs.lemmas.Str.{IsUtf8-from_ascii}
 use Rattle.std.specs.Map.{lookup, KeepsOthers}
 use Rattle.std.specs.Cmp.Lexicographic.{bytes_decides, nat_list_eq_equiv}
-use Rattle.wkt_num.specs.Bytes.{AllWhite}
+use Rattle.wkt_num.specs.Bytes.{AllWhite, White, Run}
 use Rattle.wkt_num.specs.Decimal.{decimal_text, read_decimal}
 use Rattle.wkt_access.specs.Shapes.{shape_of}
 use Rattle.wkt_access.specs.Texts.{shape_text}
 use Rattle.wkt_access.specs.Values.{Value}
 use Rattle.wkt_read.proofs.OneForm.{front_one}
+use Rattle.wkt_read.proofs.HeaderPlaces.{run_or_ascii}
 use Rattle.wkt_explain.specs.declared.explanation.Explanation.{Explanation}
+use Rattle.wkt_lines.specs.Laws.{IsWholeLines}
 use Rattle.wkt_lines.specs.Lines.{input_lines}
+use Rattle.wkt_lines.specs.Replies.{AreReplies}
+use Rattle.wkt_lines.specs.First.{IsWholeAnswer}
+use Rattle.wkt_lines.proofs.Outcomes.{lines_of_parts}
 use Rattle.wkt_lines.specs.Reading.{GivesLine}
-use Rattle.wkt_command.specs.Canon.{IsReadAs, refused_line, AreAnswers, text_of, Canonizes, IsVerdict}
+use Rattle.wkt_command.specs.Canon.{IsReadAs, IsSkipped, IsAnswerTo, refused_line, AreAnswers, text_of, Canonizes, CanonizesAll, IsVerdict}
 use Rattle.wkt_command.specs.declared.options.Options.{Options}
 use Rattle.wkt_command.specs.declared.options.Ends.{Ends}
 use Rattle.wkt_command.specs.declared.options.Ends.TheVariants as ends
@@ -38,14 +44,20 @@ module _ (o : Options) (text : List ℕ) (old new : Option (List ℕ)) where
       read = λ u v e is.
           let same = front_one (read_decimal 127 36 (min o.places 36)) text w.value v end e w.front is.front in
           ap (λ bs. bs ++ 10 ∷ []) (w.is ∙ ap (λ x. shape_text (decimal_text (min o.places 36)) (shape_of x)) same.0);
-      refused = λ none. absurd (none utf8 w.value end (record { front = w.front; whole = whole }));
+      skipped = λ none skip. absurd (none utf8 w.value end (record { front = w.front; whole = whole }));
+      refused = λ none more. absurd (none utf8 w.value end (record { front = w.front; whole = whole }));
     },
     out,
   )
 
+  -- it is white space, which is passed over
+  pub canonizes-skipped : (IsUtf8 text → (v : Value ℤ) (end : ℕ) → IsReadAs o text v end → ⊥) → IsSkipped o text → Canonizes o text old old
+  canonizes-skipped none skip = ([], record { read = λ u v e is. absurd (none u v e is); skipped = λ _ _. refl; refused = λ _ other. absurd (other skip) }, Appends-nil old)
+
   -- it wasn't read, and what was asked for was put out
-  pub canonizes-refused : (IsUtf8 text → (v : Value ℤ) (end : ℕ) → IsReadAs o text v end → ⊥) → Appends old new (refused_line o.refused) → Canonizes o text old new
-  canonizes-refused none out = (refused_line o.refused, record { read = λ u v e is. absurd (none u v e is); refused = λ _. refl }, out)
+  pub canonizes-refused : (IsUtf8 text → (v : Value ℤ) (end : ℕ) → IsReadAs o text v end → ⊥) → (IsSkipped o text → ⊥) → Appends old new (refused_line o.refused) → Canonizes o text old new
+  canonizes-refused none other out =
+      (refused_line o.refused, record { read = λ u v e is. absurd (none u v e is); skipped = λ _ skip. absurd (other skip); refused = λ _ _. refl }, out)
 
   -- a text that is refused somewhere isn't read
   pub none-refused : (room : List ℕ) (why : Explanation) → IsVerdict (read_decimal 127 36 (min o.places 36)) (decimal_text (min o.places 36)) o.front text room (Refused why)
@@ -59,8 +71,49 @@ module _ (o : Options) (text : List ℕ) (old new : Option (List ℕ)) where
       let same = front_one (read_decimal 127 36 (min o.places 36)) text v w.value end stop is.front w.front in
       ⊎_elim (λ (e : o.front ≡ true). let clash : true ≡ false = sym e ∙ whole in cc) (λ white. more (subst (λ n. AllWhite (drop n text)) same.1 white)) is.whole
 
+-- White space is text, and so is what it ends with.
+white-ascii : (bs : List ℕ) → AllWhite bs → (i : ℕ) → get_or bs i 0 < 128
+white-ascii [] h i = omega arith
+white-ascii (b ∷ bs) h zero = run_or_ascii b (λ z. let q : White ≡ Run = sym h.0 ∙ z in cc)
+white-ascii (b ∷ bs) h (suc i) = white-ascii bs h.1 i
+
+pub white-utf8 : (bs : List ℕ) → AllWhite bs → IsUtf8 bs
+white-utf8 bs h = IsUtf8-from_ascii bs (white-ascii bs h)
+
+pub white-drop : (n : ℕ) (bs : List ℕ) → AllWhite bs → AllWhite (drop n bs)
+white-drop zero bs h = h
+white-drop (suc n) [] h = tt
+white-drop (suc n) (b ∷ bs) h = white-drop n bs h.1
+
 pub canonizes-kept : (o : Options) (text : List ℕ) (old middle new : Option (List ℕ)) → Canonizes o text old middle → Keeps middle new → Canonizes o text old new
 canonizes-kept o text old middle new (out, is, went) k = (out, is, Appends-kept old middle new out went k)
+
+-- Lines that are read as whole texts.
+
+module _ (o : Options) (lines : o.ends ≡ ends.Line) where
+  whole-answer : (line answer : List ℕ) → IsWholeAnswer (read_decimal 127 36 (min o.places 36)) (decimal_text (min o.places 36)) o.front line answer
+      → IsAnswerTo o (text_of o.ends line) (answer ++ 10 ∷ [])
+  whole-answer line answer w = subst (λ e. IsAnswerTo o (text_of e line) (answer ++ 10 ∷ [])) (sym lines) (record {
+    read = λ u v e is.
+        let same = front_one (read_decimal 127 36 (min o.places 36)) line w.is.value v w.end e w.is.front is.front in
+        ap (λ bs. bs ++ 10 ∷ []) (w.is.is ∙ ap (λ x. shape_text (decimal_text (min o.places 36)) (shape_of x)) same.0);
+    skipped = λ none skip. absurd (none w.utf8 w.is.value w.end (record { front = w.is.front; whole = w.whole }));
+    refused = λ none more. absurd (none w.utf8 w.is.value w.end (record { front = w.is.front; whole = w.whole }));
+  })
+
+  whole-answers : (ls : List (List ℕ)) (out : List ℕ) → AreReplies (IsWholeAnswer (read_decimal 127 36 (min o.places 36)) (decimal_text (min o.places 36)) o.front) ls out
+      → AreAnswers (IsAnswerTo o) (map (text_of o.ends) ls) out
+  whole-answers [] out h = h
+  whole-answers (l ∷ ls) out (answer, rest, e, one, more) = (answer ++ 10 ∷ [], rest, e, whole-answer l answer one, whole-answers ls rest more)
+
+  -- their canonical texts were put out
+  pub canonizes-whole : (xs out : List ℕ) (old new : Option (List ℕ)) → AreReplies (IsWholeAnswer (read_decimal 127 36 (min o.places 36)) (decimal_text (min o.places 36)) o.front) (input_lines xs) out
+      → Appends old new out → CanonizesAll o (Some xs) old new
+  canonizes-whole xs out old new are went = (out, whole-answers (input_lines xs) out are, went)
+
+-- there are none
+pub canonizes-none : (o : Options) (old : Option (List ℕ)) → CanonizesAll o (Some []) old old
+canonizes-none o old = ([], refl, Appends-nil old)
 
 -- The texts of an input, answered one by one.
 
@@ -72,6 +125,10 @@ text-plain ends.File line h = refl
 
 pub text-swapped : (e : Ends) (line text : List ℕ) → e ≡ ends.Nul → text ≡ map other_end line → text_of e line ≡ text
 text-swapped e line text is same = ap (λ e. text_of e line) is ∙ sym same
+
+map-append : {X Y : Type 0} (f : X → Y) (xs ys : List X) → map f (xs ++ ys) ≡ map f xs ++ map f ys
+map-append f [] ys = refl
+map-append f (x ∷ xs) ys = ap (λ l. f x ∷ l) (map-append f xs ys)
 
 module _ (is : List ℕ → List ℕ → Type 0) where
   -- the answers to some texts, and to those behind them
@@ -103,6 +160,21 @@ module _ (is : List ℕ → List ℕ → Type 0) where
       split ∙ (ap (λ ls. done ++ map f ls) k ∙ sym (append_assoc done (f line ∷ []) (map f (input_lines more)))),
       answers-on done (f line ∷ []) out first are (first, [], sym (append-nil first), one, refl),
       Appends-trans old middle new out first went goes,
+    )
+
+    -- some lines more
+    pub answered-lines : (input left more old middle new : Option (List ℕ)) (front : List ℕ) → Answered input left old middle → IsWholeLines front → Consumes left more front
+        → (out : List ℕ) × AreAnswers is (map f (input_lines front)) out × Appends middle new out → Answered input more old new
+    answered-lines None left more old middle new front h w k c = tt
+    answered-lines (Some input) None more old middle new front h w k c = absurd h
+    answered-lines (Some input) (Some left) None old middle new front h w k c = absurd k
+    answered-lines (Some input) (Some left) (Some more) old middle new front (done, out, split, are, went) w k (next, also, goes) = (
+      done ++ map f (input_lines front),
+      out ++ next,
+      split ∙ (ap (λ xs. done ++ map f (input_lines xs)) k ∙ (ap (λ ls. done ++ map f ls) (lines_of_parts front more w)
+          ∙ (ap (λ ls. done ++ ls) (map-append f (input_lines front) (input_lines more)) ∙ sym (append_assoc done (map f (input_lines front)) (map f (input_lines more)))))),
+      answers-on done (map f (input_lines front)) out next are also,
+      Appends-trans old middle new out next went goes,
     )
 
     pub answered-all : (input left old new : Option (List ℕ)) → Answered input left old new → IsAtEnd left

@@ -51,11 +51,16 @@ abbrev pub refused_line : Option (String Global) → List ℕ
 refused_line None = []
 refused_line (Some word) = if bytes_eq (codes "skip") (string_bytes word) then [] else string_bytes word ++ 10 ∷ []
 
--- What `wkt canon` writes for a text: of one that is read the canonical text, with a line feed, and of another what was asked for.
+-- The text is white space alone, and such texts are passed over.
+abbrev pub IsSkipped : Options → List ℕ → Type 0
+IsSkipped o text = (o.skip_blank ≡ true) × AllWhite text
+
+-- What `wkt canon` writes for a text: of one that is read the canonical text, with a line feed, of one that is passed over nothing, and of another what was asked for.
 pub record IsAnswerTo (o : Options) (text out : List ℕ) : Type 0 where
   pub read : IsUtf8 text → (v : Value ℤ) (end : ℕ) → IsReadAs o text v end
       → out ≡ shape_text (decimal_text (min o.places 36)) (shape_of v) ++ 10 ∷ []
-  pub refused : (IsUtf8 text → (v : Value ℤ) (end : ℕ) → IsReadAs o text v end → ⊥) → out ≡ refused_line o.refused
+  pub skipped : (IsUtf8 text → (v : Value ℤ) (end : ℕ) → IsReadAs o text v end → ⊥) → IsSkipped o text → out ≡ []
+  pub refused : (IsUtf8 text → (v : Value ℤ) (end : ℕ) → IsReadAs o text v end → ⊥) → (IsSkipped o text → ⊥) → out ≡ refused_line o.refused
 
 -- That was written.
 abbrev pub Canonizes : Options → List ℕ → Option (List ℕ) → Option (List ℕ) → Type 0
@@ -79,4 +84,4 @@ CanonizesAll o left old new = IfSome left (λ input. (out : List ℕ) × AreAnsw
 
 -- Where the geometry of this canonical text was seen first, if it was.
 abbrev pub first_of : Seen → List ℕ → Option Spot
-first_of s key = get_by (λ k. bytes_eq key k.items) s.first
+first_of s key = get_by (λ k. bytes_eq key (string_bytes k)) s.first

@@ -3,6 +3,8 @@ ghost use Rattle.std.specs.Prelude.{◌≡◌, ℕ, List, Some, IfOk, OnOk, OnEr
 ghost use Rattle.std.specs.Str.{bytes_eq};
 ghost use Rattle.wkt_command.specs.Canon.{first_of};
 
+use crate::error::CommandError;
+use crate::input::shown_name;
 use crate::output::Output;
 use crate::report::Origin;
 use crate::shown::Shown;
@@ -11,7 +13,7 @@ use std::collections::HashMap;
 use std::hash::RandomState;
 use std::io::{self, Write};
 
-// Where a text stands: the number of its file in the run, and its first line.
+/// Where a text stands: the number of its file in the run, and its first line.
 #[derive(Clone, Copy)]
 pub struct Spot {
     pub file: usize,
@@ -22,7 +24,8 @@ pub struct Spot {
 #[derive(Drop)]
 pub struct Seen {
     alloc: Global,
-    first: HashMap<Vec<u8>, Spot, RandomState>,
+    // Texts are hashed eight bytes at a time, and lists of bytes one by one.
+    first: HashMap<String, Spot, RandomState>,
 }
 
 impl Seen {
@@ -39,7 +42,7 @@ impl Seen {
     ///
     /// # Errors
     /// Out of memory. No geometry is kept then.
-    pub fn earlier(&mut self, canonical: &[u8], spot: Spot) -> Result<Option<Spot>, AllocError>
+    pub fn earlier(&mut self, canonical: &str, spot: Spot) -> Result<Option<Spot>, AllocError>
         ensures first { IfOk result (λ first. first ≡ first_of self.old canonical.now) }
         ensures kept { OnOk result ((key : List ℕ) → first_of self.new key
             ≡ if bytes_eq canonical.now key then Some (unwrap_or (first_of self.old key) spot) else first_of self.old key) }
@@ -48,26 +51,33 @@ impl Seen {
         if let Some(first) = self.first.get(canonical) {
             return Ok(Some(*first));
         }
-        let key = Vec::from_slice(self.alloc, canonical)?;
+        let key = String::from_str(self.alloc, canonical)?;
         self.first.insert(key, spot)?;
         Ok(None)
     }
 }
 
-/// Writes that a text names the geometry of an earlier one.
+/// Writes that a text names the geometry of an earlier one, if it does. Files have the names of these operands.
 ///
 /// # Errors
 /// Standard output's error, or out of memory.
-pub fn put<W: Write + Drop>(
-    alloc: Global,
+pub fn put_again<W: Write + Drop>(
     out: &mut Output<W>,
+    seen: &mut Seen,
+    operands: &[String],
     now: Origin<'_>,
-    first: Origin<'_>,
-) -> io::Result<()> {
-    let name = now.name;
+    file: usize,
+    canonical: &str,
+) -> Result<(), CommandError> {
     let line = now.line;
-    let first_name = Shown(first.name);
+    let Some(first) = seen.earlier(canonical, Spot { file, line })? else {
+        return Ok(());
+    };
+    let name = now.name;
+    let first_name = Shown(shown_name(operands.get(first.file)));
     let first_line = first.line;
-    let text = format!(in alloc; "{name}:{line}: the geometry of {first_name}:{first_line}\n")?;
-    out.put(text.as_bytes())
+    let text = format!(in seen.alloc;
+        "{name}:{line}: the geometry of {first_name}:{first_line}\n"
+    )?;
+    out.put(text.as_bytes()).map_err(CommandError::output)
 }

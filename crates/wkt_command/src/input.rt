@@ -6,6 +6,17 @@ use std::fs::File;
 use std::io::{self, Read, Stdin};
 use wkt_bytes::ByteSource;
 
+// What standard input is called.
+const STANDARD_INPUT: &str = "standard input";
+
+/// The name under which a file is reported; without one, that of standard input.
+pub fn shown_name(name: Option<&String>) -> &str {
+    match name {
+        Some(name) if name.as_str() != "-" => name.as_str(),
+        _ => STANDARD_INPUT,
+    }
+}
+
 /// Standard input, or a file.
 #[derive(Drop)]
 pub enum Input {

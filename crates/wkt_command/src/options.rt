@@ -49,6 +49,8 @@ pub struct Options {
     pub refused: Option<String>,
     /// After how many refusals `check` ends; 0: after none.
     pub max: u64,
+    /// Texts of white space alone are passed over.
+    pub skip_blank: bool,
     pub quiet: bool,
     /// Whether progress is shown, where the caller said so.
     pub progress: Option<bool>,
@@ -65,6 +67,7 @@ impl Options {
             front: false,
             refused: None,
             max: 100,
+            skip_blank: false,
             quiet: false,
             progress: None,
             operands: Vec::new(alloc),

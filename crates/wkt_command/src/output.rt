@@ -4,28 +4,26 @@ ghost use Rattle.std.specs.Io.KnownBytes.{Appends, Keeps};
 ghost use Rattle.wkt_command.specs.Canon.{out_bytes, refused_line};
 ghost use Rattle.std.specs.Str.{bytes_eq};
 
-use std::alloc::{AllocError, Global};
-use std::io::{self, BufWriter, IsTerminal, Stdout, Write};
-use wkt_read::infer_type;
+use std::alloc::Global;
+use std::io::{self, BufWriter, IsTerminal, Write};
 
-// How much is gathered before it is written, where standard output is no terminal.
+// How much is gathered before it is written, where that goes to no terminal.
 const BUFFERED: usize = 65536;
 
-/// Standard output, which gathers what is written; on a terminal, up to a text's end alone.
+/// Standard output or standard error, which gathers what is written; on a terminal, up to a text's end alone.
 #[derive(Drop)]
 pub struct Output<W: Write + Drop> {
     writer: BufWriter<W>,
     is_terminal: bool,
 }
 
-impl Output<Stdout> {
+impl<W: Write + IsTerminal + Drop> Output<W> {
     /// # Errors
     /// Out of memory.
-    pub fn new(rt: &HostRuntime, alloc: Global) -> io::Result<Output<Stdout>> {
-        let stdout = rt.stdout();
-        let is_terminal = stdout.is_terminal();
+    pub fn new(alloc: Global, writer: W) -> io::Result<Output<W>> {
+        let is_terminal = writer.is_terminal();
         Ok(Output {
-            writer: BufWriter::with_capacity(alloc, BUFFERED, stdout)?,
+            writer: BufWriter::with_capacity(alloc, BUFFERED, writer)?,
             is_terminal,
         })
     }
@@ -102,16 +100,96 @@ fn is_skip(word: &[u8]) -> bool
     b"skip".as_slice() == word
 }
 
-/// Writes the kind and the dimension of a text that is read.
+/// Writes the kind and the dimension of a canonical text.
 ///
 /// # Errors
-/// Standard output's error, or out of memory.
-pub fn put_kind<W: Write + Drop>(alloc: Global, out: &mut Output<W>, text: &str) -> io::Result<()> {
-    match infer_type(alloc, text) {
-        Ok((kind, dimension)) => {
-            let line = format!(in alloc; "{kind:?} {dimension:?}\n")?;
-            out.put(line.as_bytes())
-        }
-        Err(_) => Err(io::Error::from(AllocError)),
+/// Standard output's error.
+pub fn put_kind<W: Write + Drop>(out: &mut Output<W>, canonical: &[u8]) -> io::Result<()> {
+    out.put(kind_line(canonical).as_bytes())
+}
+
+/// The line for a canonical text, by its first word: no kind's word begins with another.
+fn kind_line(canonical: &[u8]) -> &'static str {
+    if let Some(rest) = canonical.strip_prefix(b"POINT") {
+        by_dimension(
+            rest,
+            ["Point XY\n", "Point XYZ\n", "Point XYM\n", "Point XYZM\n"],
+        )
+    } else if let Some(rest) = canonical.strip_prefix(b"LINESTRING") {
+        by_dimension(
+            rest,
+            [
+                "LineString XY\n",
+                "LineString XYZ\n",
+                "LineString XYM\n",
+                "LineString XYZM\n",
+            ],
+        )
+    } else if let Some(rest) = canonical.strip_prefix(b"POLYGON") {
+        by_dimension(
+            rest,
+            [
+                "Polygon XY\n",
+                "Polygon XYZ\n",
+                "Polygon XYM\n",
+                "Polygon XYZM\n",
+            ],
+        )
+    } else if let Some(rest) = canonical.strip_prefix(b"MULTIPOINT") {
+        by_dimension(
+            rest,
+            [
+                "MultiPoint XY\n",
+                "MultiPoint XYZ\n",
+                "MultiPoint XYM\n",
+                "MultiPoint XYZM\n",
+            ],
+        )
+    } else if let Some(rest) = canonical.strip_prefix(b"MULTILINESTRING") {
+        by_dimension(
+            rest,
+            [
+                "MultiLineString XY\n",
+                "MultiLineString XYZ\n",
+                "MultiLineString XYM\n",
+                "MultiLineString XYZM\n",
+            ],
+        )
+    } else if let Some(rest) = canonical.strip_prefix(b"MULTIPOLYGON") {
+        by_dimension(
+            rest,
+            [
+                "MultiPolygon XY\n",
+                "MultiPolygon XYZ\n",
+                "MultiPolygon XYM\n",
+                "MultiPolygon XYZM\n",
+            ],
+        )
+    } else if let Some(rest) = canonical.strip_prefix(b"GEOMETRYCOLLECTION") {
+        by_dimension(
+            rest,
+            [
+                "GeometryCollection XY\n",
+                "GeometryCollection XYZ\n",
+                "GeometryCollection XYM\n",
+                "GeometryCollection XYZM\n",
+            ],
+        )
+    } else {
+        ""
+    }
+}
+
+/// The line for the dimension that stands behind the word of a kind.
+fn by_dimension(rest: &[u8], lines: [&'static str; 4]) -> &'static str {
+    let [xy, xyz, xym, xyzm] = lines;
+    if rest.starts_with(b" ZM") {
+        xyzm
+    } else if rest.starts_with(b" Z") {
+        xyz
+    } else if rest.starts_with(b" M") {
+        xym
+    } else {
+        xy
     }
 }

@@ -18,6 +18,7 @@ enum Flag {
     Null,
     Front,
     Refused,
+    SkipBlank,
     Max,
     Quiet,
     Progress,
@@ -45,19 +46,20 @@ const fn option(flag: Flag, letter: char, word: &'static str, takes_value: bool)
 }
 
 // An option with no letter has a blank.
-fn rows() -> [Row; 11] {
+fn rows() -> [Row; 12] {
     [
         option(Flag::Places, 'p', "places", true),
         option(Flag::Whole, 'w', "whole", false),
         option(Flag::Null, '0', "null", false),
         option(Flag::Front, 'f', "front", false),
         option(Flag::Refused, ' ', "refused", true),
+        option(Flag::SkipBlank, ' ', "skip-blank", false),
         option(Flag::Max, 'n', "max", true),
         option(Flag::Quiet, 'q', "quiet", false),
         option(Flag::Progress, ' ', "progress", false),
         option(Flag::NoProgress, ' ', "no-progress", false),
         option(Flag::Help, 'h', "help", false),
-        option(Flag::Version, ' ', "version", false),
+        option(Flag::Version, 'V', "version", false),
     ]
 }
 
@@ -68,9 +70,12 @@ impl Flag {
             Flag::Places | Flag::Quiet | Flag::Help | Flag::Version => true,
             Flag::Refused => matches!(command, Command::Canon | Command::Kind),
             Flag::Max => matches!(command, Command::Check),
-            Flag::Whole | Flag::Null | Flag::Front | Flag::Progress | Flag::NoProgress => {
-                !matches!(command, Command::Same)
-            }
+            Flag::Whole
+            | Flag::Null
+            | Flag::Front
+            | Flag::SkipBlank
+            | Flag::Progress
+            | Flag::NoProgress => !matches!(command, Command::Same),
         }
     }
 }
@@ -103,8 +108,8 @@ pub fn parse(alloc: Global, words: &[String]) -> Result<Request, UsageError> {
         return Err(UsageError::NoCommand);
     };
     match word {
-        "-h" | "--help" => return Ok(Request::Help),
-        "--version" => return Ok(Request::Version),
+        "help" | "-h" | "--help" => return Ok(Request::Help),
+        "-V" | "--version" => return Ok(Request::Version),
         _ => {}
     }
     let Some(command) = Command::named(word) else {
@@ -202,7 +207,7 @@ fn read_letters(
             let rest = at.saturating_add(letter.len_utf8());
             let value = match letters.get(rest..) {
                 None | Some("") => words.next(),
-                joined => joined,
+                Some(joined) => Some(joined.strip_prefix('=').unwrap_or(joined)),
             };
             return match value {
                 Some(value) => set(alloc, word, row.flag, value, options),
@@ -237,6 +242,7 @@ fn set(
         Flag::Null => options.ends = ends(options.ends, Ends::Nul)?,
         Flag::Refused => options.refused = Some(copy(alloc, value)?),
         Flag::Front => options.front = true,
+        Flag::SkipBlank => options.skip_blank = true,
         Flag::Quiet => options.quiet = true,
         Flag::Progress => options.progress = Some(true),
         Flag::NoProgress => options.progress = Some(false),

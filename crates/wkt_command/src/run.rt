@@ -1,24 +1,27 @@
 //! A run over files.
-ghost use Rattle.std.specs.Prelude.{◌≡◌, [], ◌∷◌, ◌++◌, OnOk, take, false};
+ghost use Rattle.std.specs.Prelude.{◌≡◌, ◌≤◌, [], ◌∷◌, ◌++◌, IfOk, IsTrue, ◌↔◌, OnOk, Some, length, take, false};
 ghost use Rattle.std.specs.Io.KnownBytes.{Appends};
+ghost use Rattle.wkt_lines.specs.Laws.{IsWholeLines};
 ghost use Rattle.wkt_lines.specs.Reading.{to_come};
-ghost use Rattle.wkt_command.specs.Canon.{out_bytes, refused_line, text_of, Canonizes, CanonizesAll};
+ghost use Rattle.wkt_command.specs.Canon.{out_bytes, refused_line, text_of, IsSkipped, Canonizes, CanonizesAll};
 ghost use Rattle.wkt_command.specs.declared.options.Command.TheVariants.{Canon};
 
-use crate::dups::{self, Seen, Spot};
+use crate::dups::{Seen, put_again};
 use crate::error::CommandError;
-use crate::input::{Input, NulLines, swap_ends};
+use crate::input::{Input, NulLines, shown_name, swap_ends};
 use crate::options::{Command, Ends, Options};
 use crate::output::{Output, put_canonical, put_kind, put_refused};
 use crate::place::place_after;
 use crate::progress::{Progress, Tally};
 use crate::report::{Origin, TextRefusal, Thousands, push_not_utf8, push_refusal};
 use crate::shown::Shown;
-use crate::verdict::{Verdict, verdict_at, written};
+use crate::verdict::{Verdict, verdict_at, whole_lines_at, written};
 use std::alloc::{AllocError, Global};
-use std::io::{Stdout, Write};
+use std::io::{Stderr, Stdout, Write};
 use wkt_bytes::{ByteSource, Counted, ReadAllError, read_all};
-use wkt_lines::Lines;
+use wkt_canonical::make_room;
+use wkt_lines::{Lines, after_line, line_end};
+use wkt_read::words::is_blank;
 
 /// A run over files, and what came of it so far.
 #[derive(Drop)]
@@ -26,6 +29,8 @@ pub struct Run<'a, W: Write + Drop> {
     alloc: Global,
     options: &'a Options,
     out: Output<W>,
+    // Where refusals are printed, except by `check`. Where it fails, the status still says that texts were refused.
+    aside: Output<Stderr>,
     room: Vec<u8>,
     report: String,
     seen: Seen,
@@ -36,14 +41,6 @@ pub struct Run<'a, W: Write + Drop> {
     line: u64,
 }
 
-/// What standard input is called.
-const STANDARD_INPUT: &str = "standard input";
-
-/// The name under which a file is reported.
-fn shown_name(name: &str) -> &str {
-    if name == "-" { STANDARD_INPUT } else { name }
-}
-
 impl<'a> Run<'a, Stdout> {
     /// # Errors
     /// Out of memory, or the system gives no random numbers.
@@ -52,7 +49,8 @@ impl<'a> Run<'a, Stdout> {
         Ok(Run {
             alloc,
             options,
-            out: Output::new(rt, alloc).map_err(CommandError::output)?,
+            out: Output::new(alloc, rt.stdout()).map_err(CommandError::output)?,
+            aside: Output::new(alloc, rt.stderr()).map_err(CommandError::output)?,
             room: Vec::new(alloc),
             report: String::new(alloc),
             seen: Seen::new(rt).map_err(CommandError::input)?,
@@ -97,7 +95,7 @@ impl<'a, W: Write + Drop> Run<'a, W> {
         self.progress = Progress::new(rt, self.options.progress, input.size());
         self.file = file;
         self.line = 1;
-        let shown = Shown(shown_name(name));
+        let shown = Shown(shown_name(self.options.operands.get(file)));
         let shown = format!(in self.alloc; "{shown}")?;
         let name = shown.as_str();
         let source = Counted::new(input);
@@ -107,6 +105,7 @@ impl<'a, W: Write + Drop> Run<'a, W> {
             Ends::File => self.read_whole(rt, name, source),
         };
         self.progress.wipe(rt);
+        let _ = self.aside.finish();
         read
     }
 
@@ -126,6 +125,10 @@ impl<'a, W: Write + Drop> Run<'a, W> {
             if self.is_over() {
                 return Ok(());
             }
+            match self.take_whole(rt, name, lines.rest()) {
+                Ok(taken) => lines.pass(taken),
+                Err(error) => return Err(error),
+            }
             match lines.advance() {
                 Ok(true) => {}
                 Ok(false) => return Ok(()),
@@ -138,6 +141,97 @@ impl<'a, W: Write + Drop> Run<'a, W> {
         }
         // The source never ends.
         Err(CommandError::Memory(AllocError))
+    }
+
+    /// Answers the first lines of these, up to the first that is refused or has no line feed, and returns how many bytes
+    /// they take: most lines, in less time than one by one.
+    fn take_whole(
+        &mut self,
+        rt: &HostRuntime,
+        name: &str,
+        lines: &[u8],
+    ) -> Result<usize, CommandError>
+        ensures options { self.new.options ≡ self.old.options }
+        ensures within { IfOk result (λ taken. taken ≤ length lines.now) }
+        ensures whole { IfOk result (λ taken. IsWholeLines (take taken lines.now)) }
+        ensures canon { self.old.options.now.command ≡ Canon → IfOk result (λ taken. CanonizesAll self.old.options.now
+            (Some (take taken lines.now)) (out_bytes W.contents self.old.out) (out_bytes W.contents self.new.out)) }
+    {
+        // Where texts end at a NUL, these are none yet.
+        if self.options.ends != Ends::Line {
+            return Ok(0);
+        }
+        if let Err(error) = make_room(&mut self.room, 0, lines.len()) {
+            return Err(CommandError::Memory(error));
+        }
+        let options = self.options;
+        let whole = whole_lines_at(options.places, options.front, lines, &mut self.room);
+        match self.put_whole(name, whole.len) {
+            Ok(()) => {}
+            Err(error) => return Err(error),
+        }
+        match self.out.end_text() {
+            Ok(()) => {}
+            Err(error) => return Err(CommandError::output(error)),
+        }
+        self.tally.texts = self.tally.texts.saturating_add(whole.lines as u64);
+        self.line = self.line.saturating_add(whole.lines as u64);
+        self.progress.advance(rt, whole.taken, self.tally);
+        Ok(whole.taken)
+    }
+
+    /// Answers texts that are read, whose canonical texts have so many bytes in the room, each with a line feed.
+    fn put_whole(&mut self, name: &str, len: usize) -> Result<(), CommandError>
+        ensures options { self.new.options ≡ self.old.options }
+        ensures canon { self.old.options.now.command ≡ Canon → OnOk result
+            (Appends (out_bytes W.contents self.old.out) (out_bytes W.contents self.new.out)
+            (take len self.old.room.items)) }
+    {
+        if self.options.command != Command::Canon {
+            return self.put_each(name, len);
+        }
+        match self.out.put(written(&self.room, len)) {
+            Ok(()) => Ok(()),
+            Err(error) => Err(CommandError::output(error)),
+        }
+    }
+
+    /// Answers the texts whose canonical texts have so many bytes in the room, with a line feed between them.
+    fn put_each(&mut self, name: &str, len: usize) -> Result<(), CommandError>
+        ensures options { self.new.options ≡ self.old.options }
+    {
+        let command = self.options.command;
+        if command != Command::Kind && command != Command::Dups {
+            return Ok(());
+        }
+        let mut rest = written(&self.room, len);
+        let mut line = self.line;
+        'lines: while !rest.is_empty() {
+            let end = line_end(rest);
+            let canonical = &rest[..end];
+            if command == Command::Kind {
+                match put_kind(&mut self.out, canonical) {
+                    Ok(()) => {}
+                    Err(error) => return Err(CommandError::output(error)),
+                }
+            } else {
+                let operands = self.options.operands.as_slice();
+                let now = Origin { name, line };
+                // Canonical text is ASCII.
+                let canonical = str::from_utf8(canonical).unwrap_or("");
+                put_again(
+                    &mut self.out,
+                    &mut self.seen,
+                    operands,
+                    now,
+                    self.file,
+                    canonical,
+                )?;
+            }
+            line = line.saturating_add(1);
+            rest = after_line(rest, end);
+        }
+        Ok(())
     }
 
     /// Answers the text that a line stands for. What the vector holds means nothing.
@@ -221,10 +315,26 @@ impl<'a, W: Write + Drop> Run<'a, W> {
         let places = self.options.places;
         let front = self.options.front;
         match verdict_at(self.alloc, text, places, front, &mut self.room)? {
-            Verdict::Read(len) => self.put_answer(origin, text, len),
-            Verdict::Refused(why) => self.refuse_text(rt, origin, TextRefusal::Text(why)),
+            Verdict::Read(len) => self.put_answer(name, len),
+            Verdict::Refused(why) => {
+                if self.is_skipped(text) {
+                    self.tally.texts = self.tally.texts.saturating_sub(1);
+                    return Ok(());
+                }
+                self.refuse_text(rt, origin, TextRefusal::Text(why))
+            }
             Verdict::Rest(end) => self.refuse_text(rt, origin, TextRefusal::Rest(text, end)),
         }
+    }
+
+    /// Whether the text is white space alone, and such texts are passed over.
+    fn is_skipped(&self, text: &str) -> bool
+        ensures { IsTrue result ↔ IsSkipped self.now.options.now text.now }
+    {
+        if !self.options.skip_blank {
+            return false;
+        }
+        is_blank(text.as_bytes())
     }
 
     /// Makes the report of a text that is refused, and refuses it.
@@ -246,43 +356,16 @@ impl<'a, W: Write + Drop> Run<'a, W> {
     }
 
     /// Answers a text that is read, whose canonical text has so many bytes in the room.
-    fn put_answer(&mut self, origin: Origin<'_>, text: &str, len: usize) -> Result<(), CommandError>
+    fn put_answer(&mut self, name: &str, len: usize) -> Result<(), CommandError>
         ensures options { self.new.options ≡ self.old.options }
         ensures canon { self.old.options.now.command ≡ Canon → OnOk result
             (Appends (out_bytes W.contents self.old.out) (out_bytes W.contents self.new.out)
             (take len self.old.room.items ++ 10 ∷ [])) }
     {
-        let canonical = written(&self.room, len);
-        let put = match self.options.command {
-            Command::Check | Command::Same => Ok(()),
-            Command::Canon => put_canonical(&mut self.out, canonical),
-            Command::Kind => put_kind(self.alloc, &mut self.out, text),
-            Command::Dups => {
-                let spot = Spot {
-                    file: self.file,
-                    line: origin.line,
-                };
-                match self.seen.earlier(canonical, spot)? {
-                    Some(first) => {
-                        let name = match self.options.operands.get(first.file) {
-                            Some(name) => shown_name(name.as_str()),
-                            None => STANDARD_INPUT,
-                        };
-                        dups::put(
-                            self.alloc,
-                            &mut self.out,
-                            origin,
-                            Origin {
-                                name,
-                                line: first.line,
-                            },
-                        )
-                    }
-                    None => Ok(()),
-                }
-            }
-        };
-        match put {
+        if self.options.command != Command::Canon {
+            return self.put_each(name, len);
+        }
+        match put_canonical(&mut self.out, written(&self.room, len)) {
             Ok(()) => Ok(()),
             Err(error) => Err(CommandError::output(error)),
         }
@@ -310,8 +393,8 @@ impl<'a, W: Write + Drop> Run<'a, W> {
                 .put(self.report.as_bytes())
                 .map_err(CommandError::output);
         }
-        // Where standard error fails, the status still says it.
-        let _ = rt.eprint(self.report.as_str());
+        let _ = self.aside.put(self.report.as_bytes());
+        let _ = self.aside.end_text();
         Ok(())
     }
 
@@ -319,7 +402,7 @@ impl<'a, W: Write + Drop> Run<'a, W> {
     ///
     /// # Errors
     /// Standard output fails, or out of memory.
-    pub fn finish(&mut self, rt: &HostRuntime) -> Result<(), CommandError> {
+    pub fn finish(&mut self) -> Result<(), CommandError> {
         if !self.options.quiet {
             let count = self.count()?;
             if self.options.command == Command::Check {
@@ -327,7 +410,8 @@ impl<'a, W: Write + Drop> Run<'a, W> {
                     .put(count.as_bytes())
                     .map_err(CommandError::output)?;
             } else if self.tally.refused > 0 {
-                let _ = rt.eprint(count.as_str());
+                let _ = self.aside.put(count.as_bytes());
+                let _ = self.aside.finish();
             }
         }
         self.put_out()

@@ -81,7 +81,7 @@ fn do_run(rt: &HostRuntime, options: &Options) -> Result<u8, CommandError> {
     let mut run = Run::new(rt, options)?;
     match read_all(rt, &mut run, options) {
         Ok(status) => {
-            run.finish(rt)?;
+            run.finish()?;
             Ok(if run.tally().refused > 0 {
                 status.max(REFUSED)
             } else {

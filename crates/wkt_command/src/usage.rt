@@ -7,7 +7,7 @@ pub const VERSION: &str = "wkt 1.0.0\n";
 
 /// How the program is called, in a line.
 pub const USAGE: &str =
-    "usage: wkt check|canon|kind|dups [OPTIONS] [FILE..], wkt same [OPTIONS] A B, wkt --help\n";
+    "usage: wkt check|canon|kind|dups [OPTIONS] [FILE..], wkt same [OPTIONS] A B, wkt help\n";
 
 /// What `--help` prints.
 pub const HELP: &str = "\
@@ -16,7 +16,7 @@ usage: wkt check [OPTIONS] [FILE..]   where texts are refused, and what was expe
        wkt kind [OPTIONS] [FILE..]    the kind and the dimension of each text
        wkt dups [OPTIONS] [FILE..]    the texts that name a geometry which an earlier text names
        wkt same [OPTIONS] A B         whether two texts name one geometry
-       wkt --help | --version
+       wkt help | --help | --version
 
 Each line of a FILE is a text of well-known text. With no FILE, or where FILE is -, standard input is read.
 
@@ -26,13 +26,14 @@ Each line of a FILE is a text of well-known text. With no FILE, or where FILE is
   -f, --front       what follows a geometry in its text isn't looked at
   --refused WORD    canon, kind: write WORD in place of the answer to a refused text; skip: leave its line out, as
                     without the option
+  --skip-blank      pass over texts of white space alone, which are refused without it
   -n, --max N       check: end after N refusals (100); 0: no limit
   -q, --quiet       print no refusals: canon, kind and dups write their answers alone, check and same nothing
   --progress, --no-progress
                     show on standard error how far the run is, or don't. By itself it is shown for a FILE of more
                     than 64 MB, where standard error is a terminal
   -h, --help        print this
-  --version         print the version
+  -V, --version     print the version
 
 check writes FILE:LINE:COLUMN, what was expected there, the line and a mark below the place. The other commands write
 that on standard error. LINE and COLUMN count from 1, COLUMN in characters.

@@ -1,11 +1,16 @@
 //! Whether a text is read, over numbers of so many places, as the caller says at run time.
-ghost use Rattle.std.specs.Prelude.{◌≡◌, IfOk, take, min};
+ghost use Rattle.std.specs.Prelude.{◌≡◌, ◌≤◌, IfOk, length, take, min};
+ghost use Rattle.wkt_lines.specs.First.{IsWholeAnswer};
+ghost use Rattle.wkt_lines.specs.Laws.{IsWholeLines};
+ghost use Rattle.wkt_lines.specs.Lines.{input_lines};
+ghost use Rattle.wkt_lines.specs.Replies.{AreReplies};
 ghost use Rattle.wkt_command.specs.Canon.{IsVerdict};
 ghost use Rattle.wkt_num.specs.Decimal.{decimal_text, read_decimal};
 
 use std::alloc::{AllocError, Global};
 use wkt_canonical::{TextWritten, write_growing_by};
 use wkt_explain::{Explanation, explain_by};
+use wkt_lines::{WholeLines, write_whole_lines};
 use wkt_num::{Numbers, Places};
 use wkt_read::words::is_blank;
 
@@ -67,4 +72,16 @@ pub fn verdict_at<'a>(
     ensures { IfOk result (IsVerdict (read_decimal 127 36 (min places 36)) (decimal_text (min places 36)) front text.now room.new.items) }
 {
     judge(Places::new(places.min(36)), alloc, text, front, room)
+}
+
+/// Writes the canonical texts of the first lines, as [`write_whole_lines`] does, over decimals of so many places (36 where
+/// more are asked for).
+pub fn whole_lines_at(places: u32, front: bool, lines: &[u8], room: &mut [u8]) -> WholeLines
+    ensures within { result.taken ≤ length lines.now }
+    ensures whole { IsWholeLines (take result.taken lines.now) }
+    ensures written { AreReplies
+        (IsWholeAnswer (read_decimal 127 36 (min places 36)) (decimal_text (min places 36)) front)
+        (input_lines (take result.taken lines.now)) (take result.len room.new) }
+{
+    write_whole_lines(Places::new(places.min(36)), front, lines, room)
 }

@@ -1,6 +1,6 @@
 -- Lines that are read as whole texts, one after the other.
-use Rattle.std.proofs.Common.{◌≡◌, ◌≢◌, ℕ, zero, suc, ◌+◌, ◌-◌, ◌<◌, ◌≤◌, List, [], ◌∷◌, ◌++◌, length, take, drop, refl, sym, ap, ◌∙◌, arith, subst, Bool, true, false, ◌==◌, if◌then◌else◌, IsUtf8, length-append, Option}
-use Rattle.std.proofs.lemmas.List.{length-take-le, drop_all, drop-take, length-drop}
+use Rattle.std.proofs.Common.{◌≡◌, ◌≢◌, ℕ, zero, suc, ◌+◌, ◌-◌, ◌≤◌, List, [], ◌∷◌, ◌++◌, length, take, drop, refl, sym, ap, ◌∙◌, arith, subst, Bool, true, false, ◌==◌, if◌then◌else◌, IsUtf8, length-append, Option}
+use Rattle.std.proofs.lemmas.List.{length-take-le, drop_all, drop-take}
 use Rattle.std.proofs.lemmas.Str.{IsUtf8-append}
 use Rattle.std.proofs.Math.Seq.{take-add}
 use Rattle.wkt_lines.specs.Laws.{IsWholeLines}

@@ -20,7 +20,7 @@ _wkt() {
     case ${COMP_WORDS[1]} in
         help | -*) return ;;
         same) ;;
-        *) words+=' --whole --null --front --progress --no-progress' ;;
+        *) words+=' --whole --null --front --skip-blank --progress --no-progress' ;;
     esac
     case ${COMP_WORDS[1]} in
         check) words+=' --max' ;;
