@@ -2,8 +2,9 @@
 ghost use Rattle.std.specs.Prelude.{◌≡◌, None, map};
 ghost use Rattle.wkt_command.specs.Place.{other_end};
 
+use crate::part::{Part, feeds_before};
 use std::fs::File;
-use std::io::{self, Read, Stdin};
+use std::io::{self, Read, Seek, SeekFrom, Stdin};
 use wkt_bytes::ByteSource;
 
 // What standard input is called.
@@ -21,7 +22,8 @@ pub fn shown_name(name: Option<&String>) -> &str {
 #[derive(Drop)]
 pub enum Input {
     Standard(Stdin),
-    File(File),
+    /// A file, and how many bytes more are read of it.
+    File(File, u64),
 }
 
 impl Input {
@@ -33,16 +35,31 @@ impl Input {
         if name == "-" {
             Ok(Input::Standard(rt.stdin()))
         } else {
-            Ok(Input::File(File::open(rt, name)?))
+            Ok(Input::File(File::open(rt, name)?, u64::MAX))
         }
+    }
+
+    /// Goes to a part of the file, and returns how many lines stand before it, or 0 where nobody asks.
+    ///
+    /// # Errors
+    /// The file can't be read, or has no places to go to.
+    pub fn go_to(&mut self, part: Part, asks: bool) -> io::Result<u64> {
+        let Input::File(file, left) = self else {
+            return Ok(0);
+        };
+        let (begin, end) = part.bounds(file)?;
+        let before = if asks { feeds_before(file, begin)? } else { 0 };
+        file.seek(SeekFrom::Start(begin))?;
+        *left = end.saturating_sub(begin);
+        Ok(before)
     }
 
     /// How many bytes the file has, or 0 where that isn't known.
     pub fn size(&self) -> u64 {
         match self {
             Input::Standard(_) => 0,
-            Input::File(file) => match file.metadata() {
-                Ok(found) if found.is_file() => found.len(),
+            Input::File(file, left) => match file.metadata() {
+                Ok(found) if found.is_file() => found.len().min(*left),
                 _ => 0,
             },
         }
@@ -53,7 +70,12 @@ impl Read for Input {
     fn read(&mut self, buf: &mut [u8]) -> io::Result<usize> {
         match self {
             Input::Standard(stdin) => stdin.read(buf),
-            Input::File(file) => file.read(buf),
+            Input::File(file, left) => {
+                let most = usize::try_from(*left).unwrap_or(buf.len()).min(buf.len());
+                let n = file.read(&mut buf[..most])?;
+                *left = left.saturating_sub(n as u64);
+                Ok(n)
+            }
         }
     }
 }

@@ -4,12 +4,14 @@
 //! Below stand `wkt_lines`, `wkt_explain` and `wkt_canonical`.
 #![tactic(auto)]
 
+mod csv;
 mod dups;
 mod error;
 mod input;
 mod options;
 mod output;
 mod parse;
+mod part;
 mod place;
 mod progress;
 mod report;

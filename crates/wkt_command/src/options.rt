@@ -1,4 +1,5 @@
 //! What a run was asked to do.
+use crate::part::Part;
 use std::alloc::Global;
 
 /// The commands.
@@ -43,6 +44,8 @@ pub struct Options {
     /// How many digits a number may have after its point, 0 to 36.
     pub places: u32,
     pub ends: Ends,
+    /// Which part of each file is read, if not all of it.
+    pub part: Option<Part>,
     /// What follows a geometry in its text isn't looked at.
     pub front: bool,
     /// What is written in place of the answer to a refused text; `skip`, or none: nothing.
@@ -64,6 +67,7 @@ impl Options {
             command,
             places: 18,
             ends: Ends::Line,
+            part: None,
             front: false,
             refused: None,
             max: 100,

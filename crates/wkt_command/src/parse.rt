@@ -1,5 +1,6 @@
 //! The arguments of a run.
 use crate::options::{Command, Ends, Options};
+use crate::part::Part;
 use crate::usage::UsageError;
 use std::alloc::{AllocError, Global};
 
@@ -19,6 +20,7 @@ enum Flag {
     Front,
     Refused,
     SkipBlank,
+    Part,
     Max,
     Quiet,
     Progress,
@@ -46,7 +48,7 @@ const fn option(flag: Flag, letter: char, word: &'static str, takes_value: bool)
 }
 
 // An option with no letter has a blank.
-fn rows() -> [Row; 12] {
+fn rows() -> [Row; 13] {
     [
         option(Flag::Places, 'p', "places", true),
         option(Flag::Whole, 'w', "whole", false),
@@ -54,6 +56,7 @@ fn rows() -> [Row; 12] {
         option(Flag::Front, 'f', "front", false),
         option(Flag::Refused, ' ', "refused", true),
         option(Flag::SkipBlank, ' ', "skip-blank", false),
+        option(Flag::Part, ' ', "part", true),
         option(Flag::Max, 'n', "max", true),
         option(Flag::Quiet, 'q', "quiet", false),
         option(Flag::Progress, ' ', "progress", false),
@@ -70,6 +73,8 @@ impl Flag {
             Flag::Places | Flag::Quiet | Flag::Help | Flag::Version => true,
             Flag::Refused => matches!(command, Command::Canon | Command::Kind),
             Flag::Max => matches!(command, Command::Check),
+            // Another part may name the same geometry.
+            Flag::Part => matches!(command, Command::Check | Command::Canon | Command::Kind),
             Flag::Whole
             | Flag::Null
             | Flag::Front
@@ -122,7 +127,18 @@ pub fn parse(alloc: Global, words: &[String]) -> Result<Request, UsageError> {
     if command == Command::Same && options.operands.len() != 2 {
         return Err(UsageError::TwoTexts);
     }
+    if options.part.is_some() && !has_files_of_lines(&options) {
+        return Err(UsageError::PartOfNone);
+    }
     Ok(Request::Run(options))
+}
+
+/// Whether files are read, and no standard input, line by line.
+fn has_files_of_lines(options: &Options) -> bool {
+    let operands = options.operands.as_slice();
+    options.ends == Ends::Line
+        && !operands.is_empty()
+        && !operands.iter().any(|name| name.as_str() == "-")
 }
 
 /// Reads the words after the command into the options; returns what is asked for besides a run.
@@ -243,6 +259,7 @@ fn set(
         Flag::Refused => options.refused = Some(copy(alloc, value)?),
         Flag::Front => options.front = true,
         Flag::SkipBlank => options.skip_blank = true,
+        Flag::Part => options.part = Some(part(alloc, value)?),
         Flag::Quiet => options.quiet = true,
         Flag::Progress => options.progress = Some(true),
         Flag::NoProgress => options.progress = Some(false),
@@ -269,5 +286,12 @@ fn max(alloc: Global, value: &str) -> Result<u64, UsageError> {
     match value.parse::<u64>() {
         Ok(n) => Ok(n),
         Err(_) => Err(UsageError::Max(copy(alloc, value)?)),
+    }
+}
+
+fn part(alloc: Global, value: &str) -> Result<Part, UsageError> {
+    match Part::named(value) {
+        Some(part) => Ok(part),
+        None => Err(UsageError::Part(copy(alloc, value)?)),
     }
 }

@@ -6,6 +6,7 @@ ghost use Rattle.wkt_lines.specs.Reading.{to_come};
 ghost use Rattle.wkt_command.specs.Canon.{out_bytes, refused_line, text_of, IsSkipped, Canonizes, CanonizesAll};
 ghost use Rattle.wkt_command.specs.declared.options.Command.TheVariants.{Canon};
 
+use crate::csv::looks_like_row;
 use crate::dups::{Seen, put_again};
 use crate::error::CommandError;
 use crate::input::{Input, NulLines, shown_name, swap_ends};
@@ -36,6 +37,9 @@ pub struct Run<'a, W: Write + Drop> {
     seen: Seen,
     tally: Tally,
     progress: Progress,
+    // Whether a refused line of the file looks like a row of a table, and whether the run has said so.
+    is_table: bool,
+    is_told: bool,
     // The number of the file that is read, and the number of its next text's first line.
     file: usize,
     line: u64,
@@ -59,6 +63,8 @@ impl<'a> Run<'a, Stdout> {
                 refused: 0,
             },
             progress: Progress::new(rt, Some(false), 0),
+            is_table: false,
+            is_told: false,
             file: 0,
             line: 1,
         })
@@ -91,10 +97,16 @@ impl<'a, W: Write + Drop> Run<'a, W> {
         file: usize,
         name: &str,
     ) -> Result<(), CommandError> {
-        let input = Input::open(rt, name).map_err(CommandError::input)?;
+        let mut input = Input::open(rt, name).map_err(CommandError::input)?;
+        self.line = 1;
+        if let Some(part) = self.options.part {
+            let before = input
+                .go_to(part, !self.options.quiet)
+                .map_err(CommandError::input)?;
+            self.line = before.saturating_add(1);
+        }
         self.progress = Progress::new(rt, self.options.progress, input.size());
         self.file = file;
-        self.line = 1;
         let shown = Shown(shown_name(self.options.operands.get(file)));
         let shown = format!(in self.alloc; "{shown}")?;
         let name = shown.as_str();
@@ -105,8 +117,24 @@ impl<'a, W: Write + Drop> Run<'a, W> {
             Ends::File => self.read_whole(rt, name, source),
         };
         self.progress.wipe(rt);
+        if self.is_table {
+            self.is_table = false;
+            self.tell_of_table(name)?;
+        }
         let _ = self.aside.finish();
         read
+    }
+
+    /// Says once what reads a table.
+    fn tell_of_table(&mut self, name: &str) -> Result<(), AllocError> {
+        if !self.is_told {
+            self.is_told = true;
+            let words = format!(in self.alloc;
+                "wkt: {name} looks like comma-separated values: python3 -m wkt.table reads a column of them\n"
+            )?;
+            let _ = self.aside.put(words.as_bytes());
+        }
+        Ok(())
     }
 
     // Where texts end at a NUL, `NulLines` has swapped it with the line feed, which is undone for each text.
@@ -351,6 +379,10 @@ impl<'a, W: Write + Drop> Run<'a, W> {
     {
         if !self.options.quiet {
             push_refusal(&mut self.report, origin, refusal, self.options.places)?;
+            if let TextRefusal::Text(why) = refusal {
+                let lines = self.options.ends == Ends::Line;
+                self.is_table = self.is_table || lines && looks_like_row(why.text.as_bytes());
+            }
         }
         self.refuse(rt)
     }

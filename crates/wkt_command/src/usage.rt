@@ -27,6 +27,8 @@ Each line of a FILE is a text of well-known text. With no FILE, or where FILE is
   --refused WORD    canon, kind: write WORD in place of the answer to a refused text; skip: leave its line out, as
                     without the option
   --skip-blank      pass over texts of white space alone, which are refused without it
+  --part I/N        check, canon, kind: read the I-th of N parts of each FILE, whole lines, so that N runs read it
+                    at once. Together the parts are the FILE
   -n, --max N       check: end after N refusals (100); 0: no limit
   -q, --quiet       print no refusals: canon, kind and dups write their answers alone, check and same nothing
   --progress, --no-progress
@@ -62,6 +64,10 @@ pub enum UsageError {
     Places(String),
     #[error("--max takes a number, not {0}")]
     Max(String),
+    #[error("--part takes a part of so many, as 2/4, not {0}")]
+    Part(String),
+    #[error("--part goes with lines of FILEs")]
+    PartOfNone,
     #[error("--whole and --null exclude each other")]
     TwoEnds,
     #[error("same takes two texts")]

@@ -15,6 +15,10 @@ _wkt() {
             mapfile -t COMPREPLY < <(compgen -W 'skip refused' -- "$word")
             return
             ;;
+        --part)
+            mapfile -t COMPREPLY < <(compgen -W '1/4 2/4 3/4 4/4' -- "$word")
+            return
+            ;;
         -n | --max) return ;;
     esac
     case ${COMP_WORDS[1]} in
@@ -23,8 +27,8 @@ _wkt() {
         *) words+=' --whole --null --front --skip-blank --progress --no-progress' ;;
     esac
     case ${COMP_WORDS[1]} in
-        check) words+=' --max' ;;
-        canon | kind) words+=' --refused' ;;
+        check) words+=' --max --part' ;;
+        canon | kind) words+=' --refused --part' ;;
     esac
     if [[ $word == -* ]]; then
         mapfile -t COMPREPLY < <(compgen -W "$words" -- "$word")
