@@ -111,6 +111,14 @@ module _ (o : Options) (lines : o.ends ≡ ends.Line) where
       → Appends old new out → CanonizesAll o (Some xs) old new
   canonizes-whole xs out old new are went = (out, whole-answers (input_lines xs) out are, went)
 
+-- a room that was lent to be written has what was written at its front
+pub room-kept : (n len : ℕ) (new old : List ℕ) → length new ≡ len → take n (take len (new ++ drop (length new) old)) ≡ take n new
+room-kept n len new old same = ap (λ l. take n l) (ap (λ k. take k (new ++ drop (length new) old)) (sym same) ∙ front new (drop (length new) old))
+  where
+    front : (xs ys : List ℕ) → take (length xs) (xs ++ ys) ≡ xs
+    front [] ys = refl
+    front (x ∷ xs) ys = ap (λ l. x ∷ l) (front xs ys)
+
 -- there are none
 pub canonizes-none : (o : Options) (old : Option (List ℕ)) → CanonizesAll o (Some []) old old
 canonizes-none o old = ([], refl, Appends-nil old)

@@ -6,7 +6,7 @@ use wkt_read::words::kind_front;
 pub fn looks_like_row(line: &[u8]) -> bool {
     let mut before = b'\n';
     let mut rest = line;
-    while let Some((byte, others)) = rest.split_first() {
+    'bytes: while let Some((byte, others)) = rest.split_first() {
         if !before.is_ascii_alphabetic() && kind_front(rest).is_some() {
             return before == b',' || before == b'"';
         }

@@ -12,6 +12,7 @@ use std::alloc::{AllocError, Global};
 use std::collections::HashMap;
 use std::hash::RandomState;
 use std::io::{self, Write};
+use wkt_lines::{after_line, line_end};
 
 /// Where a text stands: the number of its file in the run, and its first line.
 #[derive(Clone, Copy)]
@@ -57,7 +58,8 @@ impl Seen {
     }
 }
 
-/// Writes that a text names the geometry of an earlier one, if it does. Files have the names of these operands.
+/// Writes which of the texts name the geometry of an earlier one. Their canonical texts have a line feed between them, the
+/// first stands there, and files have the names of these operands.
 ///
 /// # Errors
 /// Standard output's error, or out of memory.
@@ -65,19 +67,40 @@ pub fn put_again<W: Write + Drop>(
     out: &mut Output<W>,
     seen: &mut Seen,
     operands: &[String],
-    now: Origin<'_>,
+    first: Origin<'_>,
     file: usize,
-    canonical: &str,
+    canonical: &[u8],
 ) -> Result<(), CommandError> {
-    let line = now.line;
-    let Some(first) = seen.earlier(canonical, Spot { file, line })? else {
-        return Ok(());
-    };
+    let mut line = first.line;
+    let mut rest = canonical;
+    'lines: while !rest.is_empty() {
+        let end = line_end(rest);
+        // Canonical text is ASCII.
+        let text = str::from_utf8(&rest[..end]).unwrap_or("");
+        if let Some(earlier) = seen.earlier(text, Spot { file, line })? {
+            let now = Origin {
+                name: first.name,
+                line,
+            };
+            let said = report_again(seen.alloc, operands, now, earlier)?;
+            out.put(said.as_bytes()).map_err(CommandError::output)?;
+        }
+        line = line.saturating_add(1);
+        rest = after_line(rest, end);
+    }
+    Ok(())
+}
+
+/// That a text names the geometry of an earlier one.
+fn report_again(
+    alloc: Global,
+    operands: &[String],
+    now: Origin<'_>,
+    earlier: Spot,
+) -> Result<String, AllocError> {
     let name = now.name;
-    let first_name = Shown(shown_name(operands.get(first.file)));
-    let first_line = first.line;
-    let text = format!(in seen.alloc;
-        "{name}:{line}: the geometry of {first_name}:{first_line}\n"
-    )?;
-    out.put(text.as_bytes()).map_err(CommandError::output)
+    let line = now.line;
+    let first_name = Shown(shown_name(operands.get(earlier.file)));
+    let first_line = earlier.line;
+    format!(in alloc; "{name}:{line}: the geometry of {first_name}:{first_line}\n")
 }

@@ -6,6 +6,7 @@ ghost use Rattle.std.specs.Str.{bytes_eq};
 
 use std::alloc::Global;
 use std::io::{self, BufWriter, IsTerminal, Write};
+use wkt_lines::{after_line, line_end};
 
 // How much is gathered before it is written, where that goes to no terminal.
 const BUFFERED: usize = 65536;
@@ -100,12 +101,18 @@ fn is_skip(word: &[u8]) -> bool
     b"skip".as_slice() == word
 }
 
-/// Writes the kind and the dimension of a canonical text.
+/// Writes the kinds and the dimensions of canonical texts, which have a line feed between them.
 ///
 /// # Errors
 /// Standard output's error.
-pub fn put_kind<W: Write + Drop>(out: &mut Output<W>, canonical: &[u8]) -> io::Result<()> {
-    out.put(kind_line(canonical).as_bytes())
+pub fn put_kinds<W: Write + Drop>(out: &mut Output<W>, canonical: &[u8]) -> io::Result<()> {
+    let mut rest = canonical;
+    'lines: while !rest.is_empty() {
+        let end = line_end(rest);
+        out.put(kind_line(&rest[..end]).as_bytes())?;
+        rest = after_line(rest, end);
+    }
+    Ok(())
 }
 
 /// The line for a canonical text, by its first word: no kind's word begins with another.

@@ -11,7 +11,7 @@ use crate::dups::{Seen, put_again};
 use crate::error::CommandError;
 use crate::input::{Input, NulLines, shown_name, swap_ends};
 use crate::options::{Command, Ends, Options};
-use crate::output::{Output, put_canonical, put_kind, put_refused};
+use crate::output::{Output, put_canonical, put_kinds, put_refused};
 use crate::place::place_after;
 use crate::progress::{Progress, Tally};
 use crate::report::{Origin, TextRefusal, Thousands, push_not_utf8, push_refusal};
@@ -21,7 +21,7 @@ use std::alloc::{AllocError, Global};
 use std::io::{Stderr, Stdout, Write};
 use wkt_bytes::{ByteSource, Counted, ReadAllError, read_all};
 use wkt_canonical::make_room;
-use wkt_lines::{Lines, after_line, line_end};
+use wkt_lines::Lines;
 use wkt_read::words::is_blank;
 
 /// A run over files, and what came of it so far.
@@ -228,38 +228,26 @@ impl<'a, W: Write + Drop> Run<'a, W> {
     fn put_each(&mut self, name: &str, len: usize) -> Result<(), CommandError>
         ensures options { self.new.options ≡ self.old.options }
     {
-        let command = self.options.command;
-        if command != Command::Kind && command != Command::Dups {
-            return Ok(());
-        }
-        let mut rest = written(&self.room, len);
-        let mut line = self.line;
-        'lines: while !rest.is_empty() {
-            let end = line_end(rest);
-            let canonical = &rest[..end];
-            if command == Command::Kind {
-                match put_kind(&mut self.out, canonical) {
-                    Ok(()) => {}
-                    Err(error) => return Err(CommandError::output(error)),
-                }
-            } else {
+        let canonical = written(&self.room, len);
+        match self.options.command {
+            Command::Kind => match put_kinds(&mut self.out, canonical) {
+                Ok(()) => Ok(()),
+                Err(error) => Err(CommandError::output(error)),
+            },
+            Command::Dups => {
                 let operands = self.options.operands.as_slice();
-                let now = Origin { name, line };
-                // Canonical text is ASCII.
-                let canonical = str::from_utf8(canonical).unwrap_or("");
+                let line = self.line;
                 put_again(
                     &mut self.out,
                     &mut self.seen,
                     operands,
-                    now,
+                    Origin { name, line },
                     self.file,
                     canonical,
-                )?;
+                )
             }
-            line = line.saturating_add(1);
-            rest = after_line(rest, end);
+            _ => Ok(()),
         }
-        Ok(())
     }
 
     /// Answers the text that a line stands for. What the vector holds means nothing.

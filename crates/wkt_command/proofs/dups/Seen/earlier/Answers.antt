@@ -10,7 +10,7 @@ pub returns-clause-kept : goal.returns-clause-kept
 returns-clause-kept c =
     let old = c.args.self.now.first.entries in
     let new = c.insert.new.self.entries in
-    let same = c.in_ok-key.ensures in
+    let same = c.in_ok-key.ensures.ok in
     subst
     (λ (bs : List ℕ). (key : List ℕ) → first_of record { alloc = c.args.self.now.alloc; first = c.insert.new.self } key ≡ (if bytes_eq bs key then Some (unwrap_or (first_of c.args.self.now key) c.args.spot) else first_of c.args.self.now key))
     same

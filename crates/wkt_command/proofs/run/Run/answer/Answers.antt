@@ -14,19 +14,18 @@ returns-in-Read g c = record {
 
 pub returns-then-is_skipped-clause-canon : goal.returns-then-is_skipped-clause-canon
 returns-then-is_skipped-clause-canon g c = λ is.
+    let out = out_bytes g.W.Write.contents c.args.self.now.out in
     let verdict = rw (c.in-Refused.is, c.in-Ok.ensures.cases.0) at c.in_ok-len.ensures in
     let skip = rw c.in-Ok.ensures.cases.0 at c.is_skipped.ensures.0 c.if-is_skipped.true in
-    canonizes-skipped c.args.self.now.options.now c.args.text.now _ _ (none-refused c.args.self.now.options.now c.args.text.now (out_bytes g.W.Write.contents c.args.self.now.out) (out_bytes g.W.Write.contents c.args.self.now.out) c.verdict_at.new.room.items c.in-Refused.why verdict) skip
+    canonizes-skipped c.args.self.now.options.now c.args.text.now out out (none-refused c.args.self.now.options.now c.args.text.now out out c.verdict_at.new.room.items c.in-Refused.why verdict) skip
 
-pub returns-in-Refused : goal.returns-in-Refused
-returns-in-Refused g c = record {
-  options = c.refuse_text.ensures.options;
-  canon = λ is.
-      let verdict = rw (c.in-Refused.is, c.in-Ok.ensures.cases.0) at c.in_ok-len.ensures in
-      let test = rw c.in-Ok.ensures.cases.0 at c.is_skipped.ensures.1 in
-      ok-map c.refuse_text.result _ _ (canonizes-refused c.args.self.now.options.now c.args.text.now _ _ (none-refused c.args.self.now.options.now c.args.text.now (out_bytes g.W.Write.contents c.args.self.now.out) (out_bytes g.W.Write.contents c.args.self.now.out) c.verdict_at.new.room.items c.in-Refused.why verdict)
-      (λ skip. let q : true ≡ false = sym (test skip) ∙ c.if-is_skipped.false in cc)) (c.refuse_text.ensures.canon is);
-}
+pub returns-else-is_skipped-clause-canon : goal.returns-else-is_skipped-clause-canon
+returns-else-is_skipped-clause-canon g c = λ is.
+    let out = out_bytes g.W.Write.contents c.args.self.now.out in
+    let verdict = rw (c.in-Refused.is, c.in-Ok.ensures.cases.0) at c.in_ok-len.ensures in
+    let test = rw c.in-Ok.ensures.cases.0 at c.is_skipped.ensures.1 in
+    ok-map c.refuse_text.result _ _ (canonizes-refused c.args.self.now.options.now c.args.text.now _ _ (none-refused c.args.self.now.options.now c.args.text.now out out c.verdict_at.new.room.items c.in-Refused.why verdict)
+    (λ skip. let q : true ≡ false = sym (test skip) ∙ c.if-is_skipped.false in cc)) (c.refuse_text.ensures.canon is)
 
 pub returns-in-Rest : goal.returns-in-Rest
 returns-in-Rest g c = record {

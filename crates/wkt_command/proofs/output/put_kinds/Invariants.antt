@@ -1,5 +1,5 @@
 use Rattle.std.proofs.Common.{length}
-use Rattle.wkt_command.proofs.run.Run.put_each.Given as goal
+use Rattle.wkt_command.proofs.output.put_kinds.Given as goal
 
 abbrev pub decreases-lines : goal.decreases-lines
 decreases-lines g l = length l.rest
