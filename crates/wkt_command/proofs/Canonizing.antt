@@ -38,7 +38,7 @@ module _ (o : Options) (text : List ℕ) (old new : Option (List ℕ)) where
   -- it was read, and its canonical text was put out
   pub canonizes-read : (room : List ℕ) (len : ℕ) → IsVerdict (read_decimal 127 36 (min o.places 36)) (decimal_text (min o.places 36)) o.front text room (Read len)
       → IsUtf8 text → Appends old new (take len room ++ 10 ∷ []) → Canonizes o text old new
-  canonizes-read room len (end, w, whole) utf8 out = (
+  canonizes-read room len (end, w, whole, _) utf8 out = (
     take len room ++ 10 ∷ [],
     record {
       read = λ u v e is.

@@ -1,1 +1,2 @@
 pub mod Canonizing
+pub mod TextLines

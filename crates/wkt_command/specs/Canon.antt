@@ -31,7 +31,7 @@ use Rattle.wkt_command.specs.declared.dups.Spot.{Spot}
 module _ {N : Type 0} (read : List ℕ → Option N) (num : N → List ℕ) where
   -- A text is read that has a front with nothing but white space after it, or, where the front alone counts, with whatever. Another is refused where the library refuses it, or for what follows its front.
   abbrev pub IsVerdict : Bool → List ℕ → List ℕ → Verdict → Type 0
-  IsVerdict front text room (Read len) = (end : ℕ) × IsCanonicalTo read num text (take len room) end × ((front ≡ true) ⊎ AllWhite (drop end text))
+  IsVerdict front text room (Read len) = (end : ℕ) × IsCanonicalTo read num text (take len room) end × ((front ≡ true) ⊎ AllWhite (drop end text)) × IsUtf8 (take len room)
   IsVerdict front text room (Refused why) = (why.text.now ≡ text) × IsRefusedAt read text why.start why.end why.expected × HasNoFront read text
   IsVerdict front text room (Rest end) = (front ≡ false) × ((len : ℕ) × IsCanonicalTo read num text (take len room) end) × (AllWhite (drop end text) → ⊥)
 

@@ -1,5 +1,5 @@
 //! `wkt dups`: the texts that name a geometry which an earlier text names.
-ghost use Rattle.std.specs.Prelude.{◌≡◌, ℕ, List, Some, IfOk, OnOk, OnErr, if◌then◌else◌, unwrap_or};
+ghost use Rattle.std.specs.Prelude.{◌≡◌, ℕ, List, Some, IfOk, OnOk, OnErr, IsUtf8, if◌then◌else◌, unwrap_or};
 ghost use Rattle.std.specs.Str.{bytes_eq};
 ghost use Rattle.wkt_command.specs.Canon.{first_of};
 
@@ -70,13 +70,14 @@ pub fn put_again<W: Write + Drop>(
     first: Origin<'_>,
     file: usize,
     canonical: &[u8],
-) -> Result<(), CommandError> {
+) -> Result<(), CommandError>
+    requires utf8 { IsUtf8 canonical.now }
+{
     let mut line = first.line;
     let mut rest = canonical;
     'lines: while !rest.is_empty() {
         let end = line_end(rest);
-        // Canonical text is ASCII.
-        let text = str::from_utf8(&rest[..end]).unwrap_or("");
+        let text = unsafe { str::from_utf8_unchecked(&rest[..end]) };
         if let Some(earlier) = seen.earlier(text, Spot { file, line })? {
             let now = Origin {
                 name: first.name,

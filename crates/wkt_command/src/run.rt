@@ -1,5 +1,5 @@
 //! A run over files.
-ghost use Rattle.std.specs.Prelude.{◌≡◌, ◌≤◌, [], ◌∷◌, ◌++◌, IfOk, IsTrue, ◌↔◌, OnOk, Some, length, take, false};
+ghost use Rattle.std.specs.Prelude.{◌≡◌, ◌≤◌, [], ◌∷◌, ◌++◌, IfOk, IsTrue, IsUtf8, ◌↔◌, OnOk, Some, length, take, false};
 ghost use Rattle.std.specs.Io.KnownBytes.{Appends};
 ghost use Rattle.wkt_lines.specs.Laws.{IsWholeLines};
 ghost use Rattle.wkt_lines.specs.Reading.{to_come};
@@ -210,6 +210,7 @@ impl<'a, W: Write + Drop> Run<'a, W> {
 
     /// Answers texts that are read, whose canonical texts have so many bytes in the room, each with a line feed.
     fn put_whole(&mut self, name: &str, len: usize) -> Result<(), CommandError>
+        requires utf8 { IsUtf8 (take len self.old.room.items) }
         ensures options { self.new.options ≡ self.old.options }
         ensures canon { self.old.options.now.command ≡ Canon → OnOk result
             (Appends (out_bytes W.contents self.old.out) (out_bytes W.contents self.new.out)
@@ -226,6 +227,7 @@ impl<'a, W: Write + Drop> Run<'a, W> {
 
     /// Answers the texts whose canonical texts have so many bytes in the room, with a line feed between them.
     fn put_each(&mut self, name: &str, len: usize) -> Result<(), CommandError>
+        requires utf8 { IsUtf8 (take len self.old.room.items) }
         ensures options { self.new.options ≡ self.old.options }
     {
         let canonical = written(&self.room, len);
@@ -377,6 +379,7 @@ impl<'a, W: Write + Drop> Run<'a, W> {
 
     /// Answers a text that is read, whose canonical text has so many bytes in the room.
     fn put_answer(&mut self, name: &str, len: usize) -> Result<(), CommandError>
+        requires utf8 { IsUtf8 (take len self.old.room.items) }
         ensures options { self.new.options ≡ self.old.options }
         ensures canon { self.old.options.now.command ≡ Canon → OnOk result
             (Appends (out_bytes W.contents self.old.out) (out_bytes W.contents self.new.out)

@@ -1,5 +1,5 @@
 //! Whether a text is read, over numbers of so many places, as the caller says at run time.
-ghost use Rattle.std.specs.Prelude.{◌≡◌, ◌≤◌, IfOk, length, take, min};
+ghost use Rattle.std.specs.Prelude.{◌≡◌, ◌≤◌, IfOk, IsUtf8, length, take, min};
 ghost use Rattle.wkt_lines.specs.First.{IsWholeAnswer};
 ghost use Rattle.wkt_lines.specs.Laws.{IsWholeLines};
 ghost use Rattle.wkt_lines.specs.Lines.{input_lines};
@@ -82,6 +82,7 @@ pub fn whole_lines_at(places: u32, front: bool, lines: &[u8], room: &mut [u8]) -
     ensures written { AreReplies
         (IsWholeAnswer (read_decimal 127 36 (min places 36)) (decimal_text (min places 36)) front)
         (input_lines (take result.taken lines.now)) (take result.len room.new) }
+    ensures utf8 { IsUtf8 (take result.len room.new) }
 {
     write_whole_lines(Places::new(places.min(36)), front, lines, room)
 }

@@ -4,6 +4,11 @@ use Rattle.wkt_command.specs.Canon.{out_bytes}
 use Rattle.wkt_command.proofs.Canonizing.{ok-map, canonizes-read, canonizes-refused, canonizes-skipped, none-refused, none-rest, white-utf8, white-drop}
 use Rattle.wkt_command.proofs.run.Run.answer.Goals as goal
 
+pub put_answer-requires : goal.put_answer-requires
+put_answer-requires g c =
+    let verdict = rw (c.in-Read.is, c.in-Ok.ensures.cases.0) at c.in_ok-len.ensures in
+    record { utf8 = verdict.3 }
+
 pub returns-in-Read : goal.returns-in-Read
 returns-in-Read g c = record {
   options = c.put_answer.ensures.options;

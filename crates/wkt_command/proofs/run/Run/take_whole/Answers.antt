@@ -1,5 +1,5 @@
 -- The lines that are read are answered, and there are none where texts end at a NUL.
-use Rattle.std.proofs.Common.{◌≡◌, sym, subst, ◌∙◌, take, length, arith}
+use Rattle.std.proofs.Common.{◌≡◌, sym, subst, ◌∙◌, take, length, arith, IsUtf8}
 use Rattle.std.proofs.lemmas.Grind.{common_steps}
 use denote.Enum.Bare.{differs_false}
 use Rattle.wkt_command.specs.contracts.options.Ends.{the_type}
@@ -12,6 +12,12 @@ use Rattle.wkt_command.proofs.run.Run.take_whole.Goals as goal
 
 pub returns-then-ne-clause-canon : goal.returns-then-ne-clause-canon
 returns-then-ne-clause-canon g c = λ is. canonizes-none c.args.self.now.options.now _
+
+pub put_whole-requires : goal.put_whole-requires
+put_whole-requires g c =
+    let room = c.whole_lines_at-whole.new.room in
+    let same : length room ≡ c.make_room.new.room.len = grind (arith, common_steps) in
+    record { utf8 = subst IsUtf8 (sym (room-kept c.whole_lines_at-whole.result.len c.make_room.new.room.len room c.make_room.new.room.items same)) c.whole_lines_at-whole.ensures.utf8 }
 
 pub returns-clause-canon : goal.returns-clause-canon
 returns-clause-canon g c = λ is.
