@@ -2,7 +2,6 @@
 #include "wkt_pg.h"
 
 #include "mb/pg_wchar.h"
-#include "miscadmin.h"
 #include "utils/builtins.h"
 #include "utils/memutils.h"
 
@@ -54,14 +53,13 @@ static size_t room_for(size_t length) { return Min(2 * length + 16, MaxAllocSize
 
 /* The canonical text of a whole text, if `answer` is asked for; false where it is refused. */
 bool canonical_of(const Question *asked, text **answer) {
-    size_t needed = 0, end, room = answer ? room_for(asked->length) : 0;
-    text *made = answer ? palloc(VARHDRSZ + room) : NULL;
+    size_t needed = 0, end;
+    text *made = answer ? palloc(VARHDRSZ + room_for(asked->length)) : NULL;
     wkt_status status;
 
-    CHECK_FOR_INTERRUPTS();
-    status = wkt_canonical(asked->utf8, asked->length, asked->places | WKT_WHOLE,
-                           made ? (uint8_t *)VARDATA(made) : NULL, room, &needed, &end);
-    CHECK_FOR_INTERRUPTS(); /* what came during the call, which looks for none */
+    CALL(status, asked->length,
+         wkt_canonical(asked->utf8, asked->length, asked->places | WKT_WHOLE, made ? (uint8_t *)VARDATA(made) : NULL,
+                       made ? room_for(asked->length) : 0, &needed, &end));
     if (status == WKT_TOO_SMALL && answer)
         ereport(ERROR, (errcode(ERRCODE_PROGRAM_LIMIT_EXCEEDED),
                         errmsg("the canonical text is too long: it has %zu bytes", needed)));
@@ -80,10 +78,9 @@ bool are_same(const Question asked[2], bool *same) {
     uint32_t answer = 0;
     wkt_status status;
 
-    CHECK_FOR_INTERRUPTS();
-    status =
-        wkt_same(asked[0].utf8, asked[0].length, asked[1].utf8, asked[1].length, asked[0].places | WKT_WHOLE, &answer);
-    CHECK_FOR_INTERRUPTS();
+    CALL(
+        status, Max(asked[0].length, asked[1].length),
+        wkt_same(asked[0].utf8, asked[0].length, asked[1].utf8, asked[1].length, asked[0].places | WKT_WHOLE, &answer));
     if (status != WKT_OK && !is_refusal(status)) fail_with(status);
     *same = answer;
     return status == WKT_OK;

@@ -10,7 +10,7 @@
 #include <string.h>
 #include <wkt.h>
 
-/* Called for each point and each part. */
+/* Called for each point, and for each comma at least. */
 #ifndef SCAN_PAUSE
 #define SCAN_PAUSE() ((void)0)
 #endif
@@ -69,6 +69,7 @@ static void scan_header(Scanner *scan) {
 
 /* A token that is no number. */
 static void scan_token(Scanner *scan) {
+    SCAN_PAUSE();
     switch (*scan->at) {
     case '(': scan_opening(scan); break;
     case ')':
@@ -156,6 +157,7 @@ static Span scan_body(Scanner *scan) {
         scan_bytes(scan, strlen("EMPTY"));
     else
         do {
+            if (scan_sees(scan, ',')) SCAN_PAUSE();
             open += scan_sees(scan, '(');
             open -= scan_sees(scan, ')');
             scan_bytes(scan, 1);

@@ -3,7 +3,6 @@
 
 #include "lib/stringinfo.h"
 #include "mb/pg_wchar.h"
-#include "miscadmin.h"
 #include "utils/builtins.h"
 #if PG_VERSION_NUM >= 160000
 #include "nodes/miscnodes.h"
@@ -12,13 +11,14 @@
 #define ereturn(context, dummy, rest) ereport(ERROR, rest)
 #endif
 
-/* Where a whole text is refused, and what could stand there; NULL where no place is known. */
+/* Where a whole text is refused, and what could stand there; NULL where no place is known. What is read before that place is
+ * ASCII, and so each of its characters a byte. */
 static const char *expected_of(const Question *asked, size_t *start, wkt_status *status) {
     static const char *const expected[] = WKT_EXPECTED;
     uint32_t message, what;
     size_t stop;
-    *status = wkt_explain(asked->utf8, asked->length, asked->places | WKT_WHOLE, &message, start, &stop, &what);
-    CHECK_FOR_INTERRUPTS();
+    CALL(*status, asked->length,
+         wkt_explain(asked->utf8, asked->length, asked->places | WKT_WHOLE, &message, start, &stop, &what));
     return *status == WKT_OK ? expected[what] : *status == WKT_NOT_WHOLE ? "the end of the text" : NULL;
 }
 
@@ -26,18 +26,13 @@ static const char *expected_of(const Question *asked, size_t *start, wkt_status 
 static const char *hint_of(const Question *asked) {
     static const char *const hints[] = WKT_HINTS;
     uint32_t hint = WKT_HINT_NONE;
-    wkt_status status = wkt_hint(asked->utf8, asked->length, asked->places, &hint);
+    wkt_status status;
     char *said;
-    CHECK_FOR_INTERRUPTS();
+    CALL(status, asked->length, wkt_hint(asked->utf8, asked->length, asked->places, &hint));
     if (status != WKT_OK || hint == WKT_HINT_NONE) return NULL;
     said = psprintf(hints[hint], asked->places);
     said[0] = (char)pg_toupper((unsigned char)said[0]);
     return psprintf("%s.", said);
-}
-
-/* The number of the character at a place, from 1 on. */
-static int character_at(const Question *asked, size_t place) {
-    return pg_mbstrlen_with_len(asked->given, (int)place) + 1;
 }
 
 /* The error of a refusal, soft where the caller has a context for it. */
@@ -49,7 +44,7 @@ Datum refuse(Node *context, const Question *asked) {
 
     if ((expected = expected_of(asked, &start, &status)) != NULL) {
         hint = hint_of(asked);
-        detail = psprintf("At character %d: %s was expected.", character_at(asked, start), expected);
+        detail = psprintf("At character %d: %s was expected.", (int)start + 1, expected);
     } else
         detail = psprintf("%s.", wkt_message(status));
     ereturn(context, (Datum)0,
@@ -65,7 +60,7 @@ static void put_refusal(const Question *asked, Datum *row, bool *nulls) {
     const char *expected = expected_of(asked, &start, &status), *hint = expected ? hint_of(asked) : wkt_message(status);
     nulls[0] = nulls[1] = expected == NULL;
     nulls[2] = hint == NULL;
-    if (expected) row[0] = Int32GetDatum(character_at(asked, start));
+    if (expected) row[0] = Int32GetDatum((int)start + 1);
     if (expected) row[1] = CStringGetTextDatum(expected);
     if (hint) row[2] = CStringGetTextDatum(hint);
 }
@@ -89,29 +84,26 @@ Datum pg_wkt_read(PG_FUNCTION_ARGS) {
 /* From the place back, and on, so many characters at most, and not past the line. */
 #define AROUND 60
 
+static bool ends_line(char c) { return c == '\n' || c == '\r'; }
+
 /* The line of the text where it is refused, and below it a caret at the place and what was expected there. */
 text *explained(const Question *asked) {
     StringInfoData said;
     wkt_status status;
-    size_t start, from, to, end;
+    size_t start, from, to, end, most;
     const char *given = asked->given, *expected = expected_of(asked, &start, &status);
-    int before;
 
     if (expected == NULL) return cstring_to_text(wkt_message(status));
-    for (from = start; from > 0 && given[from - 1] != '\n';) from--;
-    for (end = start; end < asked->length && given[end] != '\n' && given[end] != '\r';) end++;
-    before = pg_mbstrlen_with_len(given + from, (int)(start - from));
-    initStringInfo(&said);
-    if (before > AROUND) {
-        from += pg_mbcharcliplen(given + from, (int)(start - from), before - AROUND);
-        appendStringInfoString(&said, "..");
-    }
+    for (from = start; from > 0 && start - from < AROUND && given[from - 1] != '\n';) from--;
+    most = Min(asked->length, start + (AROUND + 1) * MAX_MULTIBYTE_CHAR_LEN);
+    for (end = start; end < most && !ends_line(given[end]);) end++;
     to = start + pg_mbcharcliplen(given + start, (int)(end - start), AROUND);
+    initStringInfo(&said);
+    if (from > 0 && given[from - 1] != '\n') appendStringInfoString(&said, "..");
     appendBinaryStringInfo(&said, given + from, (int)(to - from));
     appendStringInfoString(&said, to < end ? "..\n" : "\n");
-    if (before > AROUND) appendStringInfoString(&said, "  ");
-    for (; from < start; from += Max(1, pg_mbcharcliplen(given + from, (int)(start - from), 1)))
-        appendStringInfoChar(&said, given[from] == '\t' ? '\t' : ' ');
+    if (from > 0 && given[from - 1] != '\n') appendStringInfoString(&said, "  ");
+    for (; from < start; from++) appendStringInfoChar(&said, given[from] == '\t' ? '\t' : ' ');
     appendStringInfo(&said, "^ %s was expected", expected);
     return cstring_to_text_with_len(said.data, said.len);
 }

@@ -4,7 +4,10 @@
 
 #include "postgres.h"
 
+#include <setjmp.h>
+
 #include "fmgr.h"
+#include "miscadmin.h"
 #include "nodes/nodes.h"
 #if PG_VERSION_NUM >= 160000
 #include "varatt.h"
@@ -26,6 +29,31 @@ typedef struct Question {
     size_t length;
     uint32_t places;
 } Question;
+
+/* Calls the library. A cancel or a timeout ends the call within a second, also amid a long text (calls.c). */
+#define CALL(status, length, call) \
+    do { \
+        CHECK_FOR_INTERRUPTS(); \
+        if ((length) < LONG_CALL) { \
+            (status) = (call); \
+            break; \
+        } \
+        begin_call(); \
+        while (sigsetjmp(call_left, 1) != 0) serve_interrupt(); \
+        enter_call(); \
+        (status) = (call); \
+        end_call(); \
+        CHECK_FOR_INTERRUPTS(); \
+    } while (0)
+/* What the library reads within some 30 milliseconds. */
+#define LONG_CALL (1 << 20)
+
+/* calls.c */
+extern sigjmp_buf call_left;
+extern void begin_call(void);
+extern void enter_call(void);
+extern void end_call(void);
+extern void serve_interrupt(void);
 
 /* answers.c */
 extern uint32_t places_of(int32 places, int32 most);

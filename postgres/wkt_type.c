@@ -31,6 +31,7 @@ static uint32_t places_needed(const Question *asked) {
             if (!is_behind && digits > 20) is_large = true;
             if (is_behind && asked->utf8[i] != '0') needed = Max(needed, digits);
         } else {
+            CHECK_FOR_INTERRUPTS();
             is_behind = asked->utf8[i] == '.';
             digits = 0;
         }

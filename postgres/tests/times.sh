@@ -1,50 +1,68 @@
 # Sourced by test.sh: how long calls take, and what wkt_same keeps from row to row.
 
-# cancel: texts of some 100 MB under a statement_timeout that comes amid the library's call: it takes effect
-# when the call returns, within three seconds on a machine that does nothing else. The fifth shape takes longest.
+# cancel: a cancel, or a timeout, that comes amid a call of the library on some 100 MB ends it. The fifth shape takes longest.
 ask postgres "create database cancel"
 ask cancel "create extension wkt" "create table long (id int, t text)" "alter table long alter t set storage external" "insert into long
     select 1, 'LINESTRING(' || repeat('12.345678 34.567891,', 5000000) || '0 0)' union all
     select 2, 'LINESTRING(' || repeat('0 0,', 25000000) || '0 0)' union all
-    select 3, 'GEOMETRYCOLLECTION(' || repeat('POINT(1 2),', 9000000) || 'POINT EMPTY)' union all
-    select 4, repeat('GEOMETRYCOLLECTION(', 2500000) || 'POINT(1 2)' || repeat(')', 2500000) union all
     select 5, 'LINESTRING(' || repeat('.1 .1,', 16000000) || '0 0)'"
-# took TIMEOUT SQL: milliseconds of the statement by the clock, and of the server's processor; its output is in $dir/said
-took() {
-    printf '%s\n' "select pg_backend_pid() as pid \\gset" "\\setenv PID :pid" "set statement_timeout = $1;" \
-        "\\! awk '{ print \"cpu\", \$14 + \$15 }' /proc/\$PID/stat" '\timing on' "$2;" '\timing off' \
-        "\\! awk '{ print \"cpu\", \$14 + \$15 }' /proc/\$PID/stat" | "$bin/psql" -X -q -At -d cancel > "$dir/said" 2>&1 || true
-    awk -v hz="$(getconf CLK_TCK)" '$1 == "cpu" { before = after; after = $2 } $1 == "Time:" { clock = int($2) }
-        END { print clock, int((after - before) * 1000 / hz) }' "$dir/said"
+# processor PID: milliseconds of it that the process has taken
+processor() { awk -v hz="$(getconf CLK_TCK)" '{ print int(($14 + $15) * 1000 / hz) }' "/proc/$1/stat"; }
+# meanwhile MS STATEMENT SQL..: once the session of the SQL has taken so much of the processor for the last of it, another one says
+# the statement, of its process :pid. It prints how much the session takes from then on; what the SQL prints is in $dir/said.
+meanwhile() {
+    local pid begin at ms=$1 other=$2
+    shift 2
+    rm -f "$dir/pid"
+    printf '%s;\n' "select pg_backend_pid() as pid \\gset" "\\setenv PID :pid" "${@:1:$#-1}" "\\! echo \$PID > '$dir/pid'" "${@: -1}" \
+        "\\! awk '{ print \"ticks\", \$14 + \$15 }' /proc/\$PID/stat; grep RssAnon /proc/\$PID/status" |
+        sed '/^\\/s/;$//; /gset;$/s/;$//' | "$bin/psql" -X -q -At -d cancel > "$dir/said" 2>&1 &
+    until [ -s "$dir/pid" ]; do sleep 0.01; done
+    pid=$(cat "$dir/pid")
+    begin=$(processor "$pid")
+    while at=$(processor "$pid") && [ $((at - begin)) -lt "$ms" ]; do sleep 0.01; done
+    [ -z "$other" ] || ask cancel "${other//:pid/$pid}" > /dev/null
+    wait $! || true
+    awk -v hz="$(getconf CLK_TCK)" -v at="$at" '$1 == "ticks" { print int($2 * 1000 / hz) - at }' "$dir/said"
 }
 most=0
-for row in "wkt_canonical(t) 1" "wkt_canonical(t) 2" "wkt_canonical(t) 3" "wkt_canonical(t) 4" "wkt_canonical(t) 5" "wkt_reads(t) 1" "wkt_same(t,t) 1" \
-    "wkt_explain(t||',') 2" "wkt_explain(t||',') 5" "t::wkt 1" "t::wkt(6) 5"; do
-    read -r call id <<< "$row"
-    # The processor's time, since by the clock another program's work counts too: no longer than the call alone. Another
-    # program slows it down by the caches too, so a call that takes longer is measured again.
-    for _ in 1 2 3; do
-        read -r from_length _ <<< "$(took 0 "select length(t || '') from long where id = $id")"
-        read -r whole whole_cpu <<< "$(took 0 "select length(($call)::text) from long where id = $id")"
-        timeout=$(((from_length + whole) / 2))
-        # A machine with other work may be faster the next time, and the call end before its timeout.
-        for _ in 1 2 3 4 5 6; do
-            read -r clock cpu <<< "$(took $timeout "select length(($call)::text) from long where id = $id")"
-            ! grep -q 'canceling statement due to statement timeout' "$dir/said" || break
-            timeout=$((timeout / 2 + 1))
-        done
-        grep -q 'canceling statement due to statement timeout' "$dir/said" || wrong "cancel: $row: $(head -c 200 "$dir/said")"
-        [ "$cpu" -gt $((whole_cpu * 3 / 2 + 500)) ] || break
-    done
-    [ "$cpu" -le $((whole_cpu * 3 / 2 + 500)) ] || wrong "cancel: $row took $cpu ms, and $whole_cpu ms without a timeout"
-    [ "$cpu" -le $most ] || most=$cpu which=$row
-    [ -z "${VERBOSE:-}" ] || echo "$row: timeout $timeout ms, ended at $clock ms, processor $cpu of $whole_cpu ms"
+while read -r ms id call; do
+    after=$(meanwhile "$ms" "select pg_cancel_backend(:pid)" "select length(($call)::text) from long where id = $id")
+    grep -q 'canceling statement due to user request' "$dir/said" || wrong "cancel: $call $id: $(head -c 200 "$dir/said")"
+    [ "$after" -le 600 ] || wrong "cancel: $call $id takes $after ms of the processor after a cancel"
+    [ "$after" -le $most ] || most=$after which="$call $id"
+    [ -z "${VERBOSE:-}" ] || echo "$call $id: $after ms of the processor after a cancel"
+done <<'CALLS'
+300 1 wkt_canonical(t)
+600 5 wkt_canonical(t)
+600 5 wkt_reads(t)
+600 5 wkt_or_null(t)
+600 5 t::wkt(6)
+600 5 wkt_same(t, t || ' ')
+600 5 wkt_same(t, 'POINT(1 2)')
+400 2 wkt_explain(t || ',')
+1400 2 wkt_explain(t || ',')
+1800 2 (wkt_read(t || ',')).hint
+CALLS
+echo "cancel: calls on some 100 MB take at most $most ms of the processor after a cancel ($which)"
+# One session goes on after it, with its memory given back. By the timeout of the statement, whatever the clock is beside the processor's time.
+after=$(meanwhile 0 "" "set statement_timeout = 700" "select wkt_canonical(t) from long where id = 5" "select wkt_reads(t) from long where id = 5" \
+    "select wkt_same(t, t || ' ') from long where id = 5" "set statement_timeout = 0" "select wkt_canonical('point(1 2.0)')")
+is "cancel: by timeouts" "3 POINT(1 2)" "$(grep -c 'canceling statement due to statement timeout' "$dir/said") $(grep POINT "$dir/said")"
+[ "$(sed -n 's/^RssAnon:[^0-9]*\([0-9]*\) kB/\1/p' "$dir/said")" -lt 100000 ] || wrong "cancel: memory is kept: $(grep RssAnon "$dir/said")"
+# An interrupt that is no error, as that of pg_log_backend_memory_contexts of 14 and later: the answer is the same.
+if [ "$(ask cancel "show server_version_num")" -ge 140000 ]; then
+    meanwhile 600 "select pg_log_backend_memory_contexts(:pid)" "select md5(wkt_canonical(t)) from long where id = 5" > /dev/null
+    is "cancel: an interrupt that is no error" "$(ask cancel "select md5(replace(t, '.1', '0.1')) from long where id = 5")" "$(head -n 1 "$dir/said")"
+fi
+meanwhile 600 "select pg_terminate_backend(:pid)" "select wkt_canonical(t) from long where id = 5" > /dev/null
+grep -q 'terminating connection due to administrator command' "$dir/said" || wrong "cancel: terminated: $(head -c 200 "$dir/said")"
+# What is asked of a value.
+for call in "count(*) from long, wkt_points(t::wkt)" "count(*) from long, wkt_each(t::wkt)"; do
+    after=$(meanwhile 1200 "select pg_cancel_backend(:pid)" "select $call where id = 2")
+    grep -q 'canceling statement due to user request' "$dir/said" || wrong "cancel: $call: $(head -c 200 "$dir/said")"
+    [ "$after" -le 600 ] || wrong "cancel: $call takes $after ms of the processor after a cancel"
 done
-echo "cancel: calls on some 100 MB ended by their timeout with at most $most ms of the processor ($which)"
-# Rows of a long value come one by one, and there are 25 million: most of a minute.
-read -r clock cpu <<< "$(took 2000 "select count(*) from long, wkt_points(t::wkt) where id = 2")"
-grep -q 'canceling statement due to statement timeout' "$dir/said" || wrong "cancel: wkt_points: $(head -c 200 "$dir/said")"
-[ "$cpu" -le 5000 ] || wrong "cancel: wkt_points took $cpu ms of the processor after a timeout of 2000 ms"
 is "cancel: the server goes on" "POINT(1 2)" "$(ask cancel "select wkt_canonical('point(1 2)')")"
 ask postgres "drop database cancel"
 
