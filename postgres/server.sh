@@ -5,8 +5,9 @@
 # and no other user can reach the folder, since whoever connects is superuser. As root the server runs as the user
 # postgres. It sets dir, bin, from, PGHOST, PGUSER and PGDATABASE. When the shell ends the server is stopped, and its
 # folder and those that the caller put into `removed` are removed; what it put into `server_flags` are flags of the server.
-# Run psql as "$bin/psql", the client's other programs as "$from/pg_dump".
-removed=() server_flags=()
+# Run psql as "$bin/psql", the client's other programs as "$from/pg_dump". SANITIZED=yes builds the extension with ASan and UBSan,
+# which end the server's process at an error, and write it into the server's log.
+removed=() server_flags=() under=()
 ended() {
     [ -z "${started:-}" ] || as "$bin/pg_ctl" -D "$dir/base/data" -m immediate stop > /dev/null
     rm -rf "${removed[@]}"
@@ -53,6 +54,14 @@ build_extension() {
     cp "$dir"/work/*.control "$dir"/work/wkt*--*.sql "$dir$share/extension/"
 }
 
+# ASan's library has to be loaded first. With it the server would wait for ever as it looks for translations.
+sanitize() {
+    echo 'char *bindtextdomain(const char *of, const char *from) { return of ? (char *)from : 0; }' | gcc -fPIC -shared -x c - -o "$dir/no_translations.so"
+    under=(env LD_PRELOAD="$(gcc -print-file-name=libasan.so) $(gcc -print-file-name=libubsan.so) $dir/no_translations.so"
+        ASAN_OPTIONS=detect_leaks=0:quarantine_size_mb=8)
+    CFLAGS_MORE="-g -O1 -fsanitize=address,undefined -fno-sanitize-recover=all"
+}
+
 start_server() {
     find_server || { echo "no PostgreSQL server: not run"; exit "${LACKING:-1}"; }
     # A short name: the path of a socket has at most 107 bytes. mktemp gives it mode 0700.
@@ -61,12 +70,13 @@ start_server() {
     trap ended EXIT
     bin=$dir$from
     copy_server
+    [ -z "${SANITIZED:-}" ] || sanitize
     [ -z "${wkt:-}" ] || build_extension
     [ "$(id -u)" != 0 ] || chown -R postgres "$dir"
     export PGHOST=$dir/base PGUSER=wkt PGDATABASE=postgres
     cd "$dir/base" || exit 1
     as "$bin/initdb" -D data -A trust -U wkt -E UTF8 --locale C.UTF-8 --no-sync > init.log 2>&1 || { cat init.log; exit 1; }
-    as "$bin/pg_ctl" -D data -w -o "-k $PGHOST -h '' -F ${server_flags[*]}" -l log start > /dev/null || { cat log; exit 1; }
+    as "${under[@]}" "$bin/pg_ctl" -D data -w -o "-k $PGHOST -h '' -F ${server_flags[*]}" -l log start > /dev/null || { cat log; exit 1; }
     started=yes
 }
 

@@ -3,7 +3,7 @@
 #
 # FOLDER has wkt.h and libwkt.a; it is WKT_LIB_DIR without an argument, and capi/out without that. It needs PostgreSQL
 # with the headers of its server, gcc and make, and no root. RESULTS=FOLDER keeps what the statements print, VERBOSE=1
-# says more.
+# says more, SANITIZED=yes looks for errors of memory and of arithmetic.
 set -eu
 . "$(dirname "$0")/server.sh"
 here=$(cd "$(dirname "$0")" && pwd)
@@ -54,5 +54,7 @@ ask shared "alter schema geo rename to other"
 is "roles: its schema has another name" t "$(ask shared "set search_path = other" "select 'point(1 2)'::wkt = 'POINT(1 2)'")"
 echo "roles: as expected"
 . "$here/tests/tenant.sh"
+. "$here/tests/hostile.sh"
+[ -z "${SANITIZED:-}" ] || is "sanitizers: errors" "" "$(grep -E 'Sanitizer|runtime error|terminated by signal' "$dir/base/log")"
 [ $status = 0 ] && echo "PostgreSQL $("$bin/postgres" --version | sed 's/[^0-9.]* //;s/ .*//'): all as expected"
 exit $status

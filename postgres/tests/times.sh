@@ -8,46 +8,56 @@ ask cancel "create extension wkt" "create table long (id int, t text)" "alter ta
     select 5, 'LINESTRING(' || repeat('.1 .1,', 16000000) || '0 0)'"
 # processor PID: milliseconds of it that the process has taken
 processor() { awk -v hz="$(getconf CLK_TCK)" '{ print int(($14 + $15) * 1000 / hz) }' "/proc/$1/stat"; }
-# meanwhile MS STATEMENT SQL..: once the session of the SQL has taken so much of the processor for the last of it, another one says
-# the statement, of its process :pid. It prints how much the session takes from then on; what the SQL prints is in $dir/said.
+# session SQL..: what one session prints is in $dir/said, in the end with its ticks of the processor and its memory; before the last
+# of the SQL its process is in $dir/pid.
+session() {
+    { printf '%s\n' "select pg_backend_pid() as pid \\gset" "\\setenv PID :pid"
+        printf '%s;\n' "${@:1:$#-1}"
+        printf '%s\n' "\\! echo \$PID > '$dir/pid'" "${*: -1};" "\\! awk '{ print \"ticks\", \$14 + \$15 }' /proc/\$PID/stat; grep RssAnon /proc/\$PID/status"
+    } | "$bin/psql" -X -q -At -d cancel > "$dir/said" 2>&1 || true
+}
+# meanwhile MS STATEMENT SQL: once the SQL has taken so much of the processor another session says the statement, of the process
+# :pid. It prints how much the SQL takes from then on.
 meanwhile() {
-    local pid begin at ms=$1 other=$2
-    shift 2
+    local pid begin at
     rm -f "$dir/pid"
-    printf '%s;\n' "select pg_backend_pid() as pid \\gset" "\\setenv PID :pid" "${@:1:$#-1}" "\\! echo \$PID > '$dir/pid'" "${@: -1}" \
-        "\\! awk '{ print \"ticks\", \$14 + \$15 }' /proc/\$PID/stat; grep RssAnon /proc/\$PID/status" |
-        sed '/^\\/s/;$//; /gset;$/s/;$//' | "$bin/psql" -X -q -At -d cancel > "$dir/said" 2>&1 &
+    session "$3" &
     until [ -s "$dir/pid" ]; do sleep 0.01; done
     pid=$(cat "$dir/pid")
     begin=$(processor "$pid")
-    while at=$(processor "$pid") && [ $((at - begin)) -lt "$ms" ]; do sleep 0.01; done
-    [ -z "$other" ] || ask cancel "${other//:pid/$pid}" > /dev/null
-    wait $! || true
+    while at=$(processor "$pid") && [ $((at - begin)) -lt "$1" ]; do sleep 0.01; done
+    ask cancel "${2//:pid/$pid}" > /dev/null
+    wait $!
     awk -v hz="$(getconf CLK_TCK)" -v at="$at" '$1 == "ticks" { print int($2 * 1000 / hz) - at }' "$dir/said"
 }
 most=0
-while read -r ms id call; do
-    after=$(meanwhile "$ms" "select pg_cancel_backend(:pid)" "select length(($call)::text) from long where id = $id")
-    grep -q 'canceling statement due to user request' "$dir/said" || wrong "cancel: $call $id: $(head -c 200 "$dir/said")"
-    [ "$after" -le 600 ] || wrong "cancel: $call $id takes $after ms of the processor after a cancel"
-    [ "$after" -le $most ] || most=$after which="$call $id"
-    [ -z "${VERBOSE:-}" ] || echo "$call $id: $after ms of the processor after a cancel"
+while read -r ms sql; do
+    # Where the machine is faster it comes earlier.
+    while after=$(meanwhile "$ms" "select pg_cancel_backend(:pid)" "select $sql") &&
+        ! grep -q 'canceling statement due to user request' "$dir/said" && [ "$ms" -gt 20 ]; do ms=$((ms / 2)); done
+    grep -q 'canceling statement due to user request' "$dir/said" || wrong "cancel: $sql: $(head -c 200 "$dir/said")"
+    [ "$after" -le 600 ] || wrong "cancel: $sql takes $after ms of the processor after a cancel"
+    [ "$after" -le "$most" ] || most=$after which=$sql
+    [ -z "${VERBOSE:-}" ] || echo "$sql: $after ms of the processor after a cancel at $ms ms"
 done <<'CALLS'
-300 1 wkt_canonical(t)
-600 5 wkt_canonical(t)
-600 5 wkt_reads(t)
-600 5 wkt_or_null(t)
-600 5 t::wkt(6)
-600 5 wkt_same(t, t || ' ')
-600 5 wkt_same(t, 'POINT(1 2)')
-400 2 wkt_explain(t || ',')
-1400 2 wkt_explain(t || ',')
-1800 2 (wkt_read(t || ',')).hint
+300 length(wkt_canonical(t)) from long where id = 1
+600 length(wkt_canonical(t)) from long where id = 5
+600 wkt_reads(t) from long where id = 5
+600 length(wkt_or_null(t)) from long where id = 5
+600 length(t::wkt(6)) from long where id = 5
+600 wkt_same(t, t || ' ') from long where id = 5
+600 wkt_same(t, 'POINT(1 2)') from long where id = 5
+400 wkt_explain(t || ',') from long where id = 2
+1400 wkt_explain(t || ',') from long where id = 2
+1800 (wkt_read(t || ',')).hint from long where id = 2
+1200 count(*) from long, wkt_points(t::wkt) where id = 2
+1300 wkt_num_points(t::wkt) from long where id = 2
+1100 count(*) from long, wkt_each(t::wkt) where id = 2
 CALLS
 echo "cancel: calls on some 100 MB take at most $most ms of the processor after a cancel ($which)"
-# One session goes on after it, with its memory given back. By the timeout of the statement, whatever the clock is beside the processor's time.
-after=$(meanwhile 0 "" "set statement_timeout = 700" "select wkt_canonical(t) from long where id = 5" "select wkt_reads(t) from long where id = 5" \
-    "select wkt_same(t, t || ' ') from long where id = 5" "set statement_timeout = 0" "select wkt_canonical('point(1 2.0)')")
+# A session goes on after timeouts, and has given their memory back.
+session "set statement_timeout = 700" "select wkt_canonical(t) from long where id = 5" "select wkt_reads(t) from long where id = 5" \
+    "select wkt_same(t, t || ' ') from long where id = 5" "set statement_timeout = 0" "select wkt_canonical('point(1 2.0)')"
 is "cancel: by timeouts" "3 POINT(1 2)" "$(grep -c 'canceling statement due to statement timeout' "$dir/said") $(grep POINT "$dir/said")"
 [ "$(sed -n 's/^RssAnon:[^0-9]*\([0-9]*\) kB/\1/p' "$dir/said")" -lt 100000 ] || wrong "cancel: memory is kept: $(grep RssAnon "$dir/said")"
 # An interrupt that is no error, as that of pg_log_backend_memory_contexts of 14 and later: the answer is the same.
@@ -57,12 +67,6 @@ if [ "$(ask cancel "show server_version_num")" -ge 140000 ]; then
 fi
 meanwhile 600 "select pg_terminate_backend(:pid)" "select wkt_canonical(t) from long where id = 5" > /dev/null
 grep -q 'terminating connection due to administrator command' "$dir/said" || wrong "cancel: terminated: $(head -c 200 "$dir/said")"
-# What is asked of a value.
-for call in "count(*) from long, wkt_points(t::wkt)" "count(*) from long, wkt_each(t::wkt)"; do
-    after=$(meanwhile 1200 "select pg_cancel_backend(:pid)" "select $call where id = 2")
-    grep -q 'canceling statement due to user request' "$dir/said" || wrong "cancel: $call: $(head -c 200 "$dir/said")"
-    [ "$after" -le 600 ] || wrong "cancel: $call takes $after ms of the processor after a cancel"
-done
 is "cancel: the server goes on" "POINT(1 2)" "$(ask cancel "select wkt_canonical('point(1 2)')")"
 ask postgres "drop database cancel"
 
@@ -80,7 +84,7 @@ cpu() {
 each=$(cpu "select count(*) from short, long where wkt_reads(long.t || short.t)")
 for call in "wkt_same(t, (select t from long))" "wkt_same((select t from long), t)"; do
     once=$(cpu "select count(*) from short where $call")
-    [ $((once * 5)) -lt "$each" ] || wrong "same: $call of 200 rows takes $once ms, and $each ms where each row's is read"
+    [ -n "${SANITIZED:-}" ] || [ $((once * 5)) -lt "$each" ] || wrong "same: $call of 200 rows takes $once ms, and $each ms where each row's is read"
     is "same: $call" 0 "$(grep -v cpu "$dir/said")"
 done
 is "same: a constant" 20 "$(ask same "select count(*) from short where wkt_same(t, 'POINT ( 3 1.0 )')")"
