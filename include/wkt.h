@@ -181,6 +181,13 @@ enum {
     "braces are not read; ST_AsText(ST_GeomFromGeoJSON(..)) gives the text of GeoJSON", \
     "a geometry begins with its kind, as in POINT(1 2)", \
     "numbers stand in parentheses, as in POINT(1 2) and POLYGON((0 0,1 0,0 1,0 0))" }
+/* The same as one stable word, for tables: EXPECTED. */
+#define WKT_EXPECTED_WORDS { "kind", "member", "dimension", "opening", "point", "x", "y", "z", "m", "more", \
+    "closing" }
+/* The same as one stable word, for tables: HINT. */
+#define WKT_HINT_WORDS { "none", "byte_order_mark", "hexadecimal", "srid", "curve", "surface", "exponent", \
+    "no_number", "places", "large", "dimension", "empty", "fewer", "comma", "missing", "quotes", "no_break_space", \
+    "minus", "box", "braces", "no_kind", "parenthesis" }
 /* names.py: end */
 
 /* Whether this processor has what the library is built for: 1, or 0. On x86-64 that is SSE4.2 and POPCNT (x86-64-v2, all

@@ -11,72 +11,93 @@
 #define ereturn(context, dummy, rest) ereport(ERROR, rest)
 #endif
 
-/* Where a whole text is refused, and what could stand there; NULL where no place is known. What is read before that place is
- * ASCII, and so each of its characters a byte. */
-static const char *expected_of(const Question *asked, size_t *start, wkt_status *status) {
-    static const char *const expected[] = WKT_EXPECTED;
-    uint32_t message, what;
-    size_t stop;
-    CALL(*status, asked->length,
-         wkt_explain(asked->utf8, asked->length, asked->places | WKT_WHOLE, &message, start, &stop, &what));
-    return *status == WKT_OK ? expected[what] : *status == WKT_NOT_WHOLE ? "the end of the text" : NULL;
-}
+/* Why a whole text is refused: at which byte, and what could stand there, which is NULL where no place is known; one stable
+ * word; what may be done, which is NULL where that isn't known; the place and what was expected as a sentence. What is read before the place is ASCII, and
+ * so each of its characters a byte. */
+typedef struct Refusal {
+    size_t start;
+    const char *expected, *cause, *hint, *message;
+} Refusal;
 
-/* What the text may come from, or what would be read, as a sentence; NULL where nothing is known. */
-static const char *hint_of(const Question *asked) {
-    static const char *const hints[] = WKT_HINTS;
+/* What the text may come from, or what would be read. */
+static void add_hint(Refusal *refusal, const Question *asked) {
+    static const char *const hints[] = WKT_HINTS, *const words[] = WKT_HINT_WORDS;
     uint32_t hint = WKT_HINT_NONE;
     wkt_status status;
     char *said;
     CALL(status, asked->length, wkt_hint(asked->utf8, asked->length, asked->places, &hint));
-    if (status != WKT_OK || hint == WKT_HINT_NONE) return NULL;
+    if (status != WKT_OK || hint == WKT_HINT_NONE) return;
     said = psprintf(hints[hint], asked->places);
     said[0] = (char)pg_toupper((unsigned char)said[0]);
-    return psprintf("%s.", said);
+    refusal->hint = psprintf("%s.", said);
+    refusal->cause = words[hint];
+}
+
+static Refusal refusal_of(const Question *asked) {
+    static const char *const expected[] = WKT_EXPECTED, *const words[] = WKT_EXPECTED_WORDS;
+    Refusal refusal = {0};
+    uint32_t message, what;
+    size_t stop;
+    wkt_status status;
+    CALL(status, asked->length,
+         wkt_explain(asked->utf8, asked->length, asked->places | WKT_WHOLE, &message, &refusal.start, &stop, &what));
+    if (status == WKT_OK) {
+        refusal.expected = expected[what];
+        refusal.cause = psprintf("expected_%s", words[what]);
+        add_hint(&refusal, asked);
+    } else if (status == WKT_NOT_WHOLE) {
+        refusal.expected = "the end of the text";
+        refusal.cause = "not_whole";
+    } else
+        refusal.cause = status == WKT_NOT_UTF8 ? "not_utf8" : "other";
+    if (refusal.expected)
+        refusal.message = psprintf("At character %d: %s was expected.", (int)refusal.start + 1, refusal.expected);
+    else
+        refusal.message = psprintf("%s.", wkt_message(status));
+    return refusal;
 }
 
 /* The error of a refusal, soft where the caller has a context for it. */
 Datum refuse(Node *context, const Question *asked) {
     int shown = pg_mbcliplen(asked->given, (int)asked->length, 60);
-    const char *more = (size_t)shown < asked->length ? ".." : "", *hint = NULL, *detail, *expected;
-    wkt_status status;
-    size_t start;
+    const char *more = (size_t)shown < asked->length ? ".." : "";
+    Refusal refusal = refusal_of(asked);
 
-    if ((expected = expected_of(asked, &start, &status)) != NULL) {
-        hint = hint_of(asked);
-        detail = psprintf("At character %d: %s was expected.", (int)start + 1, expected);
-    } else
-        detail = psprintf("%s.", wkt_message(status));
     ereturn(context, (Datum)0,
             (errcode(ERRCODE_INVALID_TEXT_REPRESENTATION),
-             errmsg("invalid well-known text: \"%.*s%s\"", shown, asked->given, more), errdetail("%s", detail),
-             hint ? errhint("%s", hint) : 0));
+             errmsg("invalid well-known text: \"%.*s%s\"", shown, asked->given, more), errdetail("%s", refusal.message),
+             refusal.hint ? errhint("%s", refusal.hint) : 0));
 }
 
-/* The columns place, expected and hint of a text that is refused. */
-static void put_refusal(const Question *asked, Datum *row, bool *nulls) {
-    wkt_status status;
-    size_t start;
-    const char *expected = expected_of(asked, &start, &status), *hint = expected ? hint_of(asked) : wkt_message(status);
-    nulls[0] = nulls[1] = expected == NULL;
-    nulls[2] = hint == NULL;
-    if (expected) row[0] = Int32GetDatum((int)start + 1);
-    if (expected) row[1] = CStringGetTextDatum(expected);
-    if (hint) row[2] = CStringGetTextDatum(hint);
+static void put_text(Datum *row, bool *nulls, int column, const char *said) {
+    nulls[column] = said == NULL;
+    if (said) row[column] = CStringGetTextDatum(said);
+}
+
+/* The columns place, expected, cause, hint and message. */
+#define REFUSAL_COLUMNS 5
+static void put_refusal(const Refusal *refusal, Datum *row, bool *nulls) {
+    nulls[0] = refusal->expected == NULL;
+    row[0] = Int32GetDatum((int)refusal->start + 1);
+    put_text(row, nulls, 1, refusal->expected);
+    put_text(row, nulls, 2, refusal->cause);
+    put_text(row, nulls, 3, refusal->hint);
+    put_text(row, nulls, 4, refusal->message);
 }
 
 /* The value of a text, or why there is none: a row, and no error. */
 PG_FUNCTION_INFO_V1(pg_wkt_read);
 Datum pg_wkt_read(PG_FUNCTION_ARGS) {
     Question asked = question_of_text(PG_GETARG_TEXT_PP(0), places_of(PG_GETARG_INT32(1), TYPE_PLACES));
-    Datum row[4] = {0};
-    bool nulls[4] = {false, true, true, true};
+    Datum row[1 + REFUSAL_COLUMNS] = {0};
+    bool nulls[1 + REFUSAL_COLUMNS] = {false, true, true, true, true, true};
     text *answer;
     if (canonical_of(&asked, &answer))
         row[0] = PointerGetDatum(answer);
     else {
+        Refusal refusal = refusal_of(&asked);
         nulls[0] = true;
-        put_refusal(&asked, row + 1, nulls + 1);
+        put_refusal(&refusal, row + 1, nulls + 1);
     }
     return row_of(fcinfo, row, nulls);
 }
@@ -87,13 +108,12 @@ Datum pg_wkt_read(PG_FUNCTION_ARGS) {
 static bool ends_line(char c) { return c == '\n' || c == '\r'; }
 
 /* The line of the text where it is refused, and below it a caret at the place and what was expected there. */
-text *explained(const Question *asked) {
+static text *shown(const Question *asked, const Refusal *refusal) {
     StringInfoData said;
-    wkt_status status;
-    size_t start, from, to, end, most;
-    const char *given = asked->given, *expected = expected_of(asked, &start, &status);
+    size_t start = refusal->start, from, to, end, most;
+    const char *given = asked->given;
 
-    if (expected == NULL) return cstring_to_text(wkt_message(status));
+    if (refusal->expected == NULL) return cstring_to_text(refusal->message);
     for (from = start; from > 0 && start - from < AROUND && given[from - 1] != '\n';) from--;
     most = Min(asked->length, start + (AROUND + 1) * MAX_MULTIBYTE_CHAR_LEN);
     for (end = start; end < most && !ends_line(given[end]);) end++;
@@ -104,6 +124,20 @@ text *explained(const Question *asked) {
     appendStringInfoString(&said, to < end ? "..\n" : "\n");
     if (from > 0 && given[from - 1] != '\n') appendStringInfoString(&said, "  ");
     for (; from < start; from++) appendStringInfoChar(&said, given[from] == '\t' ? '\t' : ' ');
-    appendStringInfo(&said, "^ %s was expected", expected);
+    appendStringInfo(&said, "^ %s was expected", refusal->expected);
     return cstring_to_text_with_len(said.data, said.len);
+}
+
+/* Why a text is refused: a row; null where it is read. */
+PG_FUNCTION_INFO_V1(pg_wkt_explain);
+Datum pg_wkt_explain(PG_FUNCTION_ARGS) {
+    Question asked = question_of_text(PG_GETARG_TEXT_PP(0), places_of(PG_GETARG_INT32(1), MOST_PLACES));
+    Datum row[REFUSAL_COLUMNS + 1];
+    bool nulls[REFUSAL_COLUMNS + 1] = {false};
+    Refusal refusal;
+    if (canonical_of(&asked, NULL)) PG_RETURN_NULL();
+    refusal = refusal_of(&asked);
+    put_refusal(&refusal, row, nulls);
+    row[REFUSAL_COLUMNS] = PointerGetDatum(shown(&asked, &refusal));
+    return row_of(fcinfo, row, nulls);
 }

@@ -14,10 +14,12 @@ COMMENT ON FUNCTION @extschema@.wkt_same(pg_catalog.text, pg_catalog.text, pg_ca
 CREATE FUNCTION @extschema@.wkt_reads(pg_catalog.text, places pg_catalog.int4 DEFAULT 18) RETURNS pg_catalog.bool
     AS 'MODULE_PATHNAME', 'pg_wkt_reads' LANGUAGE C IMMUTABLE STRICT PARALLEL SAFE COST 10;
 COMMENT ON FUNCTION @extschema@.wkt_reads(pg_catalog.text, pg_catalog.int4) IS 'whether a text has a canonical text';
-CREATE FUNCTION @extschema@.wkt_explain(pg_catalog.text, places pg_catalog.int4 DEFAULT 18) RETURNS pg_catalog.text
+CREATE FUNCTION @extschema@.wkt_explain(pg_catalog.text, places pg_catalog.int4 DEFAULT 18, OUT place pg_catalog.int4,
+    OUT expected pg_catalog.text, OUT cause pg_catalog.text, OUT hint pg_catalog.text, OUT message pg_catalog.text,
+    OUT shown pg_catalog.text) RETURNS pg_catalog.record
     AS 'MODULE_PATHNAME', 'pg_wkt_explain' LANGUAGE C IMMUTABLE STRICT PARALLEL SAFE COST 20;
 COMMENT ON FUNCTION @extschema@.wkt_explain(pg_catalog.text, pg_catalog.int4)
-    IS 'where a text is refused, and what was expected there; null where it is read';
+    IS 'where and why a text is refused; null where it is read';
 CREATE FUNCTION @extschema@.wkt_kind(pg_catalog.text) RETURNS pg_catalog.text
     AS 'MODULE_PATHNAME', 'pg_wkt_kind' LANGUAGE C IMMUTABLE STRICT PARALLEL SAFE;
 COMMENT ON FUNCTION @extschema@.wkt_kind(pg_catalog.text) IS 'the kind and dimension that the header of a text names';
@@ -108,9 +110,10 @@ CREATE FUNCTION @extschema@.wkt_bounds(@extschema@.wkt, OUT min_x pg_catalog.num
     AS 'MODULE_PATHNAME', 'pg_wkt_bounds' LANGUAGE C IMMUTABLE STRICT PARALLEL SAFE COST 20;
 COMMENT ON FUNCTION @extschema@.wkt_bounds(@extschema@.wkt) IS 'the least and the greatest number of each axis; null where there is none';
 
--- A text that is read once: its value, or where it is refused, what was expected there, and what helps.
+-- A text that is read once: its value, or what wkt_explain says of it.
 CREATE FUNCTION @extschema@.wkt_read(pg_catalog.text, places pg_catalog.int4 DEFAULT 18, OUT value @extschema@.wkt,
-    OUT place pg_catalog.int4, OUT expected pg_catalog.text, OUT hint pg_catalog.text) RETURNS pg_catalog.record
+    OUT place pg_catalog.int4, OUT expected pg_catalog.text, OUT cause pg_catalog.text, OUT hint pg_catalog.text,
+    OUT message pg_catalog.text) RETURNS pg_catalog.record
     AS 'MODULE_PATHNAME', 'pg_wkt_read' LANGUAGE C IMMUTABLE STRICT PARALLEL SAFE COST 10;
 COMMENT ON FUNCTION @extschema@.wkt_read(pg_catalog.text, pg_catalog.int4) IS 'the value of a text, or why it is refused';
 

@@ -29,13 +29,6 @@ Datum pg_wkt_reads(PG_FUNCTION_ARGS) {
     PG_RETURN_BOOL(canonical_of(&asked, NULL));
 }
 
-PG_FUNCTION_INFO_V1(pg_wkt_explain);
-Datum pg_wkt_explain(PG_FUNCTION_ARGS) {
-    Question asked = question_of_text(PG_GETARG_TEXT_PP(0), places_of(PG_GETARG_INT32(1), MOST_PLACES));
-    if (canonical_of(&asked, NULL)) PG_RETURN_NULL();
-    PG_RETURN_TEXT_P(explained(&asked));
-}
-
 /* Of a text and of a value. */
 PG_FUNCTION_INFO_V1(pg_wkt_kind);
 Datum pg_wkt_kind(PG_FUNCTION_ARGS) {

@@ -67,7 +67,6 @@ extern bool header_from(Datum given, uint32_t *kind, uint32_t *dimension);
 
 /* refusals.c */
 extern Datum refuse(Node *context, const Question *asked);
-extern text *explained(const Question *asked);
 
 /* parts.c */
 extern Datum row_of(FunctionCallInfo fcinfo, Datum *row, bool *nulls);

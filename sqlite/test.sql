@@ -37,6 +37,12 @@ select wkt_explain('POINT(1 2) more');
 select wkt_explain('LINESTRING(0 0,' || char(10) || ' 1 1' || char(10) || ' 2 2)');
 select wkt_explain('GEOMETRYCOLLECTION(POINT(1 2),ÖÖ(1 2))');
 select wkt_explain('LINESTRING(' || replace(hex(zeroblob(100)), '00', '10 20, ') || '1 2 3, ' || replace(hex(zeroblob(100)), '00', '10 20, ') || '0 0)');
+-- The same one by one; the cause is the word that docs/FILES.md has
+create table refused (t text);
+insert into refused values ('POINT(1'), ('POINT(1 2)'), ('POINT(1 2) x'), (''), ('POINT(1.1234567 2)'), ('POINT(1e3 2)'), ('SRID=4326;POINT(1 2)'), ('POINT()'), (x'ff'), (null);
+select t, wkt_explain_place(t, 6), wkt_explain_expected(t, 6), wkt_explain_cause(t, 6), wkt_explain_hint(t, 6), wkt_explain_message(t, 6) from refused;
+select wkt_explain_cause(t), count(*) from refused group by 1;
+select wkt_explain_cause('POINT(1 2)', 37);
 -- A unique index on an expression
 create table texts (t text);
 create unique index one_geometry on texts (wkt_canonical(t));

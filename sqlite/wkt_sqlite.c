@@ -62,44 +62,68 @@ wkt_status canonical_of(sqlite3_value *value, uint32_t places, Question *asked, 
     return status;
 }
 
-/* Where a whole text is refused, and what could stand there; NULL where no place is known. */
-static const char *expected_of(const Question *asked, size_t *start) {
-    static const char *const expected[] = WKT_EXPECTED;
+/* Why a whole text is refused: at which byte, and what could stand there, which is NULL where no place is known; one stable
+ * word, of which the front is apart; why there is no place. What is read before the place is ASCII, and so each of its
+ * characters a byte. */
+typedef struct Refusal {
+    size_t start;
+    const char *expected, *front, *cause, *message;
+    uint32_t hint;
+} Refusal;
+
+static Refusal refusal_of(const Question *asked) {
+    static const char *const expected[] = WKT_EXPECTED, *const words[] = WKT_EXPECTED_WORDS,
+                             *const hints[] = WKT_HINT_WORDS;
+    Refusal refusal = {.front = "", .cause = "other"};
     uint32_t message, what;
     size_t stop;
     wkt_status status =
-        wkt_explain(asked->text, asked->length, asked->places | WKT_WHOLE, &message, start, &stop, &what);
-    return status == WKT_OK ? expected[what] : status == WKT_NOT_WHOLE ? "the end of the text" : NULL;
-}
-
-static size_t characters(const uint8_t *text, size_t length) {
-    size_t count = 0;
-    for (size_t i = 0; i < length; i++) count += (text[i] & 0xC0) != 0x80;
-    return count;
+        wkt_explain(asked->text, asked->length, asked->places | WKT_WHOLE, &message, &refusal.start, &stop, &what);
+    refusal.message = wkt_message(status);
+    if (status == WKT_NOT_UTF8) refusal.cause = "not_utf8";
+    if (status == WKT_NOT_WHOLE) {
+        refusal.expected = "the end of the text";
+        refusal.cause = "not_whole";
+    }
+    if (status != WKT_OK) return refusal;
+    refusal.expected = expected[what];
+    if (wkt_hint(asked->text, asked->length, asked->places, &refusal.hint) != WKT_OK) refusal.hint = WKT_HINT_NONE;
+    refusal.front = refusal.hint ? "" : "expected_";
+    refusal.cause = refusal.hint ? hints[refusal.hint] : words[what];
+    return refusal;
 }
 
 static int is_refusal(wkt_status status) {
     return status <= WKT_LAST_REFUSAL || status == WKT_NOT_UTF8 || status == WKT_NOT_WHOLE;
 }
 
+/* What the text may come from, or what would be read, in memory of SQLite's. */
+static char *hint_of(const Question *asked, uint32_t hint) {
+    static const char *const hints[] = WKT_HINTS;
+    return sqlite3_mprintf(hints[hint], asked->places);
+}
+
+/* The place and what was expected there, or why there is no place, in memory of SQLite's. */
+static char *message_of(const Refusal *refusal) {
+    if (!refusal->expected) return sqlite3_mprintf("%s", refusal->message);
+    return sqlite3_mprintf("at character %llu: %s was expected", (sqlite3_uint64)refusal->start + 1, refusal->expected);
+}
+
 /* The words of an error, in memory of SQLite's. */
 char *error_of(const Question *asked, wkt_status status) {
-    static const char *const hints[] = WKT_HINTS;
-    uint32_t hint = WKT_HINT_NONE;
-    size_t start;
-    const char *expected;
-    char *why, *said;
+    Refusal refusal;
+    char *why, *said, *full = NULL;
     if (status == WKT_NO_PLACES) return sqlite3_mprintf("places must be between 0 and %d", MOST_PLACES);
     if (!is_refusal(status)) return sqlite3_mprintf("wkt: %s", wkt_message(status));
-    if (!(expected = expected_of(asked, &start)))
-        return sqlite3_mprintf("invalid well-known text: %s", wkt_message(status));
-    if (wkt_hint(asked->text, asked->length, asked->places, &hint) != WKT_OK) hint = WKT_HINT_NONE;
-    if (!(why = sqlite3_mprintf(hints[hint], asked->places))) return NULL;
-    said = sqlite3_mprintf(hint ? "invalid well-known text: at character %llu: %s was expected (%s)"
-                                : "invalid well-known text: at character %llu: %s was expected",
-                           (sqlite3_uint64)characters(asked->text, start) + 1, expected, why);
+    refusal = refusal_of(asked);
+    said = message_of(&refusal);
+    why = hint_of(asked, refusal.hint);
+    if (said && why)
+        full = sqlite3_mprintf(refusal.hint ? "invalid well-known text: %s (%s)" : "invalid well-known text: %s", said,
+                               why);
+    sqlite3_free(said);
     sqlite3_free(why);
-    return said;
+    return full;
 }
 
 static void refuse(sqlite3_context *context, const Question *asked, wkt_status status) {
@@ -114,6 +138,14 @@ static void refuse(sqlite3_context *context, const Question *asked, wkt_status s
     else
         sqlite3_result_error_nomem(context);
     sqlite3_free(said);
+}
+
+/* A string of SQLite's as the result. */
+static void put_said(sqlite3_context *context, char *said) {
+    if (said)
+        sqlite3_result_text(context, said, -1, sqlite3_free);
+    else
+        sqlite3_result_error_nomem(context);
 }
 
 /* What no text brings about: an error. */
@@ -217,13 +249,8 @@ static int has_header(sqlite3_context *context, int count, sqlite3_value **value
 
 static void kind(sqlite3_context *context, int count, sqlite3_value **values) {
     uint32_t k, d;
-    char *said;
-    if (!has_header(context, count, values, &k, &d)) return;
-    said = sqlite3_mprintf("%s%s%s", kinds[k], d ? " " : "", dimensions[d]);
-    if (said)
-        sqlite3_result_text(context, said, -1, sqlite3_free);
-    else
-        sqlite3_result_error_nomem(context);
+    if (has_header(context, count, values, &k, &d))
+        put_said(context, sqlite3_mprintf("%s%s%s", kinds[k], d ? " " : "", dimensions[d]));
 }
 
 static void dimension(sqlite3_context *context, int count, sqlite3_value **values) {
@@ -269,51 +296,83 @@ static void version(sqlite3_context *context, int count, sqlite3_value **values)
 /* From the place back, and on, so many characters at most, and not past the line. */
 #define AROUND 60
 
-static size_t back_from(const uint8_t *text, size_t start) {
-    size_t at = start, count = 0;
-    while (at > 0 && text[at - 1] != '\n' && count < AROUND) count += (text[--at] & 0xC0) != 0x80;
-    return at;
-}
-
 static size_t on_from(const uint8_t *text, size_t at, size_t length) {
     for (size_t count = 0; at < length && text[at] && text[at] != '\n' && text[at] != '\r'; at++)
         if ((text[at] & 0xC0) != 0x80 && ++count > AROUND) break;
     return at;
 }
 
+/* Why a text is refused; false where it is read, where an argument is null, and after an error. */
+static int is_explained(sqlite3_context *context, int count, sqlite3_value **values, Question *asked,
+                        Refusal *refusal) {
+    size_t length;
+    wkt_status status;
+    if (some_null(count, values)) return 0;
+    status = canonical_of(values[0], places_of(count, values, 1), asked, NULL, &length);
+    if (status == WKT_OK || is_limit(context, asked, status)) return 0;
+    *refusal = refusal_of(asked);
+    return 1;
+}
+
+static void place(sqlite3_context *context, int count, sqlite3_value **values) {
+    Question asked;
+    Refusal refusal;
+    if (is_explained(context, count, values, &asked, &refusal) && refusal.expected)
+        sqlite3_result_int64(context, (sqlite3_int64)refusal.start + 1);
+}
+
+static void expected(sqlite3_context *context, int count, sqlite3_value **values) {
+    Question asked;
+    Refusal refusal;
+    if (is_explained(context, count, values, &asked, &refusal))
+        sqlite3_result_text(context, refusal.expected, -1, SQLITE_STATIC);
+}
+
+static void cause(sqlite3_context *context, int count, sqlite3_value **values) {
+    Question asked;
+    Refusal refusal;
+    if (is_explained(context, count, values, &asked, &refusal))
+        put_said(context, sqlite3_mprintf("%s%s", refusal.front, refusal.cause));
+}
+
+static void hint(sqlite3_context *context, int count, sqlite3_value **values) {
+    Question asked;
+    Refusal refusal;
+    if (is_explained(context, count, values, &asked, &refusal) && refusal.hint)
+        put_said(context, hint_of(&asked, refusal.hint));
+}
+
+static void message(sqlite3_context *context, int count, sqlite3_value **values) {
+    Question asked;
+    Refusal refusal;
+    if (is_explained(context, count, values, &asked, &refusal)) put_said(context, message_of(&refusal));
+}
+
 /* The line of the text where it is refused, and below it a caret at the place and what was expected there. */
 static void explain(sqlite3_context *context, int count, sqlite3_value **values) {
     Question asked;
-    size_t length, start, from, to, i;
-    wkt_status status;
-    const char *expected;
+    Refusal refusal;
+    size_t from, to;
+    const char *text;
     sqlite3_str *said;
-    if (some_null(count, values)) return;
-    status = canonical_of(values[0], places_of(count, values, 1), &asked, NULL, &length);
-    if (status == WKT_OK || is_limit(context, &asked, status)) return;
-    expected = expected_of(&asked, &start);
-    if (!expected) {
-        sqlite3_result_text(context, wkt_message(status), -1, SQLITE_STATIC);
+    if (!is_explained(context, count, values, &asked, &refusal)) return;
+    if (!refusal.expected) {
+        sqlite3_result_text(context, refusal.message, -1, SQLITE_STATIC);
         return;
     }
-    from = back_from(asked.text, start);
-    to = on_from(asked.text, start, asked.length);
+    text = (const char *)asked.text;
+    for (from = refusal.start; from > 0 && refusal.start - from < AROUND && text[from - 1] != '\n';) from--;
+    to = on_from(asked.text, refusal.start, asked.length);
     said = sqlite3_str_new(sqlite3_context_db_handle(context));
-    if (from > 0 && asked.text[from - 1] != '\n') sqlite3_str_appendall(said, "..");
-    sqlite3_str_append(said, (const char *)asked.text + from, (int)(to - from));
-    if (to < asked.length && asked.text[to] && asked.text[to] != '\n' && asked.text[to] != '\r')
-        sqlite3_str_appendall(said, "..");
+    if (from > 0 && text[from - 1] != '\n') sqlite3_str_appendall(said, "..");
+    sqlite3_str_append(said, text + from, (int)(to - from));
+    if (to < asked.length && text[to] && text[to] != '\n' && text[to] != '\r') sqlite3_str_appendall(said, "..");
     sqlite3_str_appendchar(said, 1, '\n');
-    if (from > 0 && asked.text[from - 1] != '\n') sqlite3_str_appendall(said, "  ");
-    for (i = from; i < start; i++)
-        if ((asked.text[i] & 0xC0) != 0x80) sqlite3_str_appendchar(said, 1, asked.text[i] == '\t' ? '\t' : ' ');
-    sqlite3_str_appendf(said, "^ %s was expected", expected);
-    if (sqlite3_str_errcode(said) == SQLITE_OK) {
-        sqlite3_result_text(context, sqlite3_str_finish(said), -1, sqlite3_free);
-    } else {
-        sqlite3_free(sqlite3_str_finish(said));
-        sqlite3_result_error_nomem(context);
-    }
+    if (from > 0 && text[from - 1] != '\n') sqlite3_str_appendall(said, "  ");
+    for (; from < refusal.start; from++) sqlite3_str_appendchar(said, 1, text[from] == '\t' ? '\t' : ' ');
+    sqlite3_str_appendf(said, "^ %s was expected", refusal.expected);
+    put_said(context, sqlite3_str_errcode(said) == SQLITE_OK ? sqlite3_str_finish(said)
+                                                             : (sqlite3_free(sqlite3_str_finish(said)), NULL));
 }
 
 int sqlite3_wkt_init(sqlite3 *db, char **error, const sqlite3_api_routines *api) {
@@ -329,6 +388,16 @@ int sqlite3_wkt_init(sqlite3 *db, char **error, const sqlite3_api_routines *api)
                      {"wkt_reads", 2, reads},
                      {"wkt_explain", 1, explain},
                      {"wkt_explain", 2, explain},
+                     {"wkt_explain_place", 1, place},
+                     {"wkt_explain_place", 2, place},
+                     {"wkt_explain_expected", 1, expected},
+                     {"wkt_explain_expected", 2, expected},
+                     {"wkt_explain_cause", 1, cause},
+                     {"wkt_explain_cause", 2, cause},
+                     {"wkt_explain_hint", 1, hint},
+                     {"wkt_explain_hint", 2, hint},
+                     {"wkt_explain_message", 1, message},
+                     {"wkt_explain_message", 2, message},
                      {"wkt_or_null", 1, or_null},
                      {"wkt_or_null", 2, or_null},
                      {"wkt_kind", 1, kind},

@@ -7,10 +7,10 @@ SELECT wkt_canonical('point(1 2.0)'), 'point(1 2.0)'::wkt, wkt_same('POINT(1 2)'
 SELECT octet_length(U&'P\00D6INT'), wkt_reads(U&'P\00D6INT(1 2)'), wkt_kind(U&'POINT(1 2) \00D6') AS kind;
 SELECT wkt_canonical(U&'P\00D6INT(1 2)');
 SELECT wkt_canonical(U&'GEOMETRYCOLLECTION(POINT(1 2),\00D6\00D6(1 2))');
-SELECT wkt_explain(U&'POINT(1 2) \00D6\00E9');
-SELECT wkt_explain(U&'LINESTRING(1 2,\00D6\00E9 3)');
+SELECT (wkt_explain(U&'POINT(1 2) \00D6\00E9')).shown;
+SELECT (wkt_explain(U&'LINESTRING(1 2,\00D6\00E9 3)')).shown;
 -- Others: what isn't ASCII is refused where it stands, also without an equivalent in UTF-8. In SQL_ASCII it is any bytes.
-\set asked 'SELECT wkt_reads(t), wkt_or_null(t) IS NULL AS none, wkt_kind(t), wkt_explain(t) = t || E''\\n           ^ the end of the text was expected'' AS the_end, wkt_explain(:it) = :it || E''\\n^ a kind of geometry, such as POINT, was expected'' AS a_kind, (wkt_read(t)).place, (wkt_read(:it)).expected FROM (SELECT ''POINT(1 2) '' || :it) a(t); SELECT wkt_canonical(:it); SELECT wkt_same(''POINT(1 2)'', :it); SELECT :it::text::wkt;'
+\set asked 'SELECT wkt_reads(t), wkt_or_null(t) IS NULL AS none, wkt_kind(t), (wkt_explain(t)).shown = t || E''\\n           ^ the end of the text was expected'' AS the_end, (wkt_explain(:it)).shown = :it || E''\\n^ a kind of geometry, such as POINT, was expected'' AS a_kind, (wkt_read(t)).place, (wkt_read(:it)).expected FROM (SELECT ''POINT(1 2) '' || :it) a(t); SELECT wkt_canonical(:it); SELECT wkt_same(''POINT(1 2)'', :it); SELECT :it::text::wkt;'
 \c contrib_regression
 CREATE DATABASE wkt_win1252 ENCODING 'WIN1252' LOCALE 'C' TEMPLATE template0;
 CREATE DATABASE wkt_euc_jp ENCODING 'EUC_JP' LOCALE 'C' TEMPLATE template0;
@@ -25,9 +25,9 @@ CREATE EXTENSION wkt;
 CREATE EXTENSION wkt;
 \set it 'E''\\xa2\\xaf'''
 :asked
-SELECT wkt_explain(E'LINESTRING(1 2,\xa4\xa2\xa2\xaf\x8f\xb0\xa1\t3)') = E'LINESTRING(1 2,\xa4\xa2\xa2\xaf\x8f\xb0\xa1\t3)\n               ^ a first number was expected' AS the_place,
-    wkt_explain(E'\n\xa4\xa2\t\xa4\xa2\nPOINT(1 2)\xa4\xa2') = E'\xa4\xa2\t\xa4\xa2\n^ a kind of geometry, such as POINT, was expected' AS the_line,
-    wkt_explain('POINT(1 2) ' || repeat(E'\xa4\xa2', 70)) = 'POINT(1 2) ' || repeat(E'\xa4\xa2', 60) || E'..\n           ^ the end of the text was expected' AS the_front;
+SELECT (wkt_explain(E'LINESTRING(1 2,\xa4\xa2\xa2\xaf\x8f\xb0\xa1\t3)')).shown = E'LINESTRING(1 2,\xa4\xa2\xa2\xaf\x8f\xb0\xa1\t3)\n               ^ a first number was expected' AS the_place,
+    (wkt_explain(E'\n\xa4\xa2\t\xa4\xa2\nPOINT(1 2)\xa4\xa2')).shown = E'\xa4\xa2\t\xa4\xa2\n^ a kind of geometry, such as POINT, was expected' AS the_line,
+    (wkt_explain('POINT(1 2) ' || repeat(E'\xa4\xa2', 70))).shown = 'POINT(1 2) ' || repeat(E'\xa4\xa2', 60) || E'..\n           ^ the end of the text was expected' AS the_front;
 \c wkt_mule
 CREATE EXTENSION wkt;
 \set it 'E''\\x81\\xd6'''

@@ -20,9 +20,9 @@ POLYGON((0 0,1 0,0 1,0 0))
 POINT(1e3 2)
 \.
 CREATE TABLE places (n int, at wkt(6) PRIMARY KEY);
-CREATE TABLE rejects (n int, t text, place int, expected text, hint text);
+CREATE TABLE rejects (n int, t text, place int, expected text, cause text, hint text);
 WITH read AS MATERIALIZED (SELECT n, t, r.* FROM lines, wkt_read(t, 6) r),
-    refused AS (INSERT INTO rejects SELECT n, t, place, expected, hint FROM read WHERE value IS NULL)
+    refused AS (INSERT INTO rejects SELECT n, t, place, expected, cause, hint FROM read WHERE value IS NULL)
 INSERT INTO places SELECT n, value FROM read WHERE value IS NOT NULL ON CONFLICT DO NOTHING;
 SELECT * FROM places ORDER BY n;
 SELECT * FROM rejects ORDER BY n;

@@ -8,6 +8,6 @@ SELECT length(t::wkt::text) FROM nested;
 -- Refused at the end, and never closed
 SELECT wkt_reads(t || ')'), wkt_reads(left(t, 19000000)), wkt_reads(replace(t, '2.0', '2.0 3')) FROM nested;
 SELECT wkt_reads(repeat('(', 10000000)), wkt_reads(repeat('GEOMETRYCOLLECTION Z(', 1000000));
-SELECT wkt_explain(left(t, 19000006)) FROM nested;
+SELECT (wkt_explain(left(t, 19000006))).shown FROM nested;
 DROP TABLE nested;
 DROP EXTENSION wkt;

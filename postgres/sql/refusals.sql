@@ -31,19 +31,26 @@ SELECT wkt_canonical('LINESTRING(' || repeat('1 2,', 1000) || '3)');
 SELECT wkt_canonical('POINT(1 2)', -1);
 SELECT wkt_canonical('POINT(1 2)', 37);
 SELECT wkt_reads('POINT(1 2)', 37);
-SELECT wkt_explain('POINT(1 2)', -1);
-SELECT wkt_explain('POINT(1 2)', 37);
+SELECT (wkt_explain('POINT(1 2)', -1)).shown;
+SELECT (wkt_explain('POINT(1 2)', 37)).shown;
 SELECT wkt_same('POINT(1 2)', 'POINT(1 2)', 37);
 SELECT wkt_canonical('POINT(0.1234567890123456789012345 2)', 24);
 SELECT wkt_canonical('POINT(2 180)', 36);
 SELECT wkt_canonical('POINT(170.141183460469231731687303715884105728 2)', 36);
 -- The line of the text, and a caret at the place
-SELECT wkt_explain('POINT(1 2)');
-SELECT wkt_explain('');
-SELECT wkt_explain('POINT(1)');
-SELECT wkt_explain('POINT(1 2) more');
-SELECT wkt_explain(E'LINESTRING(0 0,\n 1 1\n 2 2)');
-SELECT wkt_explain('LINESTRING(' || repeat('10 20, ', 100) || '1 2 3, ' || repeat('10 20, ', 100) || '0 0)');
+SELECT (wkt_explain('POINT(1 2)')).shown;
+SELECT (wkt_explain('')).shown;
+SELECT (wkt_explain('POINT(1)')).shown;
+SELECT (wkt_explain('POINT(1 2) more')).shown;
+SELECT (wkt_explain(E'LINESTRING(0 0,\n 1 1\n 2 2)')).shown;
+SELECT (wkt_explain('LINESTRING(' || repeat('10 20, ', 100) || '1 2 3, ' || repeat('10 20, ', 100) || '0 0)')).shown;
+-- As columns: the cause is the word that docs/FILES.md has
+SELECT t, e.place, e.expected, e.cause, e.hint, e.message FROM (VALUES (1, 'POINT(1'), (2, 'POINT(1 2)'), (3, 'POINT(1 2) x'), (4, ''), (5, 'POINT(1.5 2'), (6, 'POINT(1.1234567 2)'),
+    (7, 'POINT(1e3 2)'), (8, 'SRID=4326;POINT(1 2)'), (9, 'POINT(1 2 3)'), (10, 'POINT()'), (11, 'LINESTRING(0 0 1 1)'), (12, NULL)) v(id, t), wkt_explain(t, 6) e ORDER BY id;
+SELECT (wkt_explain(t, 6)).cause, count(*) FROM (VALUES ('POINT(1'), ('POINT(1 2)'), ('POINT(2'), ('POINT(1 2) x'), ('POINT(1.1234567 2)'), (NULL)) v(t) GROUP BY 1 ORDER BY 1;
+SELECT count(*) AS others FROM (VALUES ('POINT(1 2)'), ('POINT(1'), ('POINT(1.5 2)'), ('POINT(200000000000000000000 2)'), ('x'), ('POINT(1 2) x')) v(t), generate_series(0, 18) p, wkt_read(t, p) r, wkt_explain(t, p) e
+    WHERE (r.place, r.expected, r.cause, r.hint, r.message) IS DISTINCT FROM (e.place, e.expected, e.cause, e.hint, e.message);
+SELECT wkt_explain('POINT(1 2)') IS NULL AS is_null, wkt_explain('POINT(1') IS NULL AS is_not;
 -- Of the type
 SELECT 'POINT(1)'::wkt;
 SELECT ''::wkt;

@@ -29,6 +29,6 @@ if [ -f "$here/../tests/data/keys.tsv" ]; then
         "create view each_kept as select t, places, key, by_text(t, places) answer, by_type(t, places) by_type
              from kept, lateral (values (0, p0), (6, p6), (15, p15), (18, p18), (24, p24), (36, p36)) v(places, key)"
     is "kept: rows that have another key" "" "$(ask keys "select * from each_kept where by_type <> $of_type or answer <> key
-        and not (answer = 'refused' and wkt_explain(t, places) like '%^ the end of the text was expected') limit 5")"
+        and not (answer = 'refused' and (wkt_explain(t, places)).cause = 'not_whole') limit 5")"
     echo "kept: $(ask keys "select count(*) from each_kept where answer = key") keys"
 fi

@@ -114,6 +114,18 @@ def lists(groups):
     ]
 
 
+def stable_words(groups):
+    """The expectations and hints as one word each, for tables."""
+    return [
+        (
+            f"{group.upper()}_WORDS",
+            f"The same as one stable word, for tables: {group.upper()}.",
+            [quoted(capitals(row.name).lower()) for row in groups[group]],
+        )
+        for group in ("expected", "hint")
+    ]
+
+
 def c_enum(what, rows):
     lines = [f"/* {what} */", "enum {"]
     for n, (name, number, text) in enumerate(rows):
@@ -142,7 +154,7 @@ def c_table(groups):
     lines += c_enum("What could stand where a text is refused.", expected)
     hints = [("HINT_" + capitals(row.name), row.number, row.text) for row in groups["hint"]]
     lines += c_enum("Why a text is refused, as far as that is known.", hints)
-    for name, what, items in lists(groups):
+    for name, what, items in lists(groups) + stable_words(groups):
         lines += [f"/* {what} */"]
         lines += wrapped(f"#define WKT_{name} {{", items, " }", " \\", "    ", 118)
     return lines
@@ -150,11 +162,8 @@ def c_table(groups):
 
 def python_table(groups):
     lines = []
-    for name, what, items in lists(groups):
+    for name, what, items in lists(groups) + stable_words(groups):
         lines += [f"# {what}", f"{name} = ("] + [f"    {item}," for item in items] + [")"]
-    for group in ("expected", "hint"):
-        lines += [f"# The same as one stable word, for tables: {group.upper()}.", f"{group.upper()}_WORDS = ("]
-        lines += [f'    "{capitals(row.name).lower()}",' for row in groups[group]] + [")"]
     lines.append("# Statuses.")
     return lines + [f"{row.name} = {row.number}" for row in groups["status"]]
 
