@@ -1,30 +1,35 @@
 #!/usr/bin/env bash
-# Runs test.sh, postgis.sh and recipes.sh on PostgreSQL 17, in a Debian 13 that debootstrap unpacks: versions.sh [FOLDER]
+# Runs test.sh on PostgreSQL 13, in a Debian 11, and test.sh, postgis.sh and recipes.sh on 17, in a Debian 13: versions.sh [FOLDER]
 #
-# FOLDER as test.sh has it. It is run by hand: it needs root, debootstrap and Debian's archive (DEBIAN_MIRROR), and takes
-# some three minutes. DEBIAN=PLACE unpacks there and leaves it, so that the next run finds it.
+# FOLDER as test.sh has it. It is run by hand: it needs root, debootstrap, which unpacks the two, and Debian's archive
+# (DEBIAN_MIRROR), and takes some ten minutes. DEBIAN=FOLDER unpacks there and leaves them, so that the next run finds them.
 set -eu
 here=$(cd "$(dirname "$0")" && pwd)
 . "$here/server.sh"
 library "${1:-}"
 dir=$(mktemp -d)
 trap 'rm -rf "$dir"' EXIT
-root=${DEBIAN:-$dir/debian}
-packages=gcc,libc6-dev,make,postgresql-17,postgresql-server-dev-17,postgresql-17-postgis-3,python3-psycopg,python3-asyncpg,python3-sqlalchemy
-if [ ! -x "$root/usr/lib/postgresql/17/bin/postgres" ]; then
-    debootstrap --variant=minbase --include=$packages trixie "$root" "${DEBIAN_MIRROR:-http://deb.debian.org/debian}" \
-        > "$dir/log" 2>&1 || { tail -n 20 "$dir/log"; exit 1; }
-fi
-rm -rf "$root/wkt"
-mkdir -p "$root/wkt/tests/data"
-cp -r "$here" "$root/wkt/postgres"
-cp "$here"/../tests/data/key*.tsv "$root/wkt/tests/data/"
-cp -r "$wkt" "$root/wkt/library"
+# unpacked SUITE PACKAGES: that Debian in $root, with the tests
+unpacked() {
+    root=${DEBIAN:-$dir}/$1
+    if ! ls "$root"/usr/lib/postgresql/*/bin/postgres > /dev/null 2>&1; then
+        debootstrap --variant=minbase --include="gcc,libc6-dev,make,procps,$2" "$1" "$root" "${DEBIAN_MIRROR:-http://deb.debian.org/debian}" \
+            > "$dir/log" 2>&1 || { tail -n 20 "$dir/log"; exit 1; }
+    fi
+    rm -rf "$root/wkt"
+    mkdir -p "$root/wkt/tests/data"
+    cp -r "$here" "$root/wkt/postgres"
+    cp "$here"/../tests/data/key*.tsv "$root/wkt/tests/data/"
+    cp -r "$wkt" "$root/wkt/library"
+}
 # inside COMMAND..: in that Debian, with its own processes and shared memory
 inside() {
     unshare --mount --pid --fork sh -eu -c 'root=$1; shift; mount -t proc proc "$root/proc"
         mount -t tmpfs tmpfs "$root/dev/shm"; exec chroot "$root" env -i PATH="$PATH" "$@"' sh "$root" "$@"
 }
+unpacked bullseye postgresql-13,postgresql-server-dev-13
+inside /wkt/postgres/test.sh /wkt/library
+unpacked trixie postgresql-17,postgresql-server-dev-17,postgresql-17-postgis-3,python3-psycopg,python3-asyncpg,python3-sqlalchemy
 inside /wkt/postgres/test.sh /wkt/library
 inside /wkt/postgres/postgis.sh /wkt/library
 inside /wkt/postgres/recipes.sh /wkt/library

@@ -57,6 +57,7 @@ CREATE TYPE @extschema@.wkt (
     TYPMOD_IN = @extschema@.wkt_typmod_in, TYPMOD_OUT = @extschema@.wkt_typmod_out,
     INTERNALLENGTH = VARIABLE, ALIGNMENT = int4, STORAGE = external, CATEGORY = 'U', COLLATABLE = false
 );
+COMMENT ON TYPE @extschema@.wkt IS 'a geometry as its canonical text; wkt(6): numbers of at most six places';
 CREATE FUNCTION @extschema@.wkt(pg_catalog.text, pg_catalog.int4, pg_catalog.bool) RETURNS @extschema@.wkt
     AS 'MODULE_PATHNAME', 'pg_wkt_cast' LANGUAGE C IMMUTABLE STRICT PARALLEL SAFE COST 10;
 COMMENT ON FUNCTION @extschema@.wkt(pg_catalog.text, pg_catalog.int4, pg_catalog.bool) IS 'the cast of a text';

@@ -59,6 +59,7 @@ RESET enable_seqscan;
 CREATE VIEW members AS SELECT p.* FROM pg_proc p JOIN pg_depend d ON classid = 'pg_proc'::regclass AND objid = p.oid AND deptype = 'e'
     JOIN pg_extension e ON e.oid = refobjid AND extname = 'wkt';
 SELECT proname FROM members WHERE proparallel <> 's' OR provolatile <> CASE proname WHEN 'wkt_version' THEN 's' ELSE 'i' END OR obj_description(oid, 'pg_proc') IS NULL;
+SELECT obj_description('wkt'::regtype, 'pg_type');
 SELECT string_agg(proname, ' ' ORDER BY proname) FROM members WHERE proleakproof;
 SELECT procost, string_agg(DISTINCT proname, ' ' ORDER BY proname) FROM members WHERE procost <> 1 GROUP BY 1;
 -- A text is compared once it is cast

@@ -1,4 +1,15 @@
-# Sourced by test.sh, once the statements of README.md have run in the database page: what the tables there answer.
+# Sourced by test.sh: the statements of README.md, and what the tables there answer.
+
+# The SQL of README.md, as it stands there.
+ask postgres "create database page"
+ask page "create extension wkt"
+sed -n '/^```sql$/,/^```$/p' "$here/README.md" | grep -v '^```' > "$dir/page.sql"
+"$bin/psql" -X -q -At -v ON_ERROR_STOP=1 -d page < "$dir/page.sql" > "$dir/said" 2>&1 || wrong "page: $(cat "$dir/said")"
+is "page: its first key" "POINT(1 2)" "$(ask page "select at from places")"
+sed -n 's/^=> //p' "$here/README.md" > "$dir/page.sql"
+"$bin/psql" -X -q -At -d page < "$dir/page.sql" > "$dir/said" 2>&1 || true
+is "page: its error" "$(sed -n '/^=> /,/^```$/p' "$here/README.md" | grep -v '^=> \|^```')" "$(cat "$dir/said")"
+echo "page: the statements of README.md run"
 is "queries: the rejects" "" "$(ask page "table rejects")"
 ask page "insert into lines (t) values ('point(3 4.0)'), ('POINT(3'), ('POINT(3 4)'), (null)" "$(sed -n '/^WITH read/,/;$/p' "$here/README.md")"
 is "queries: loaded" "POINT(1 2) POINT(3 4)" "$(ask page "select at from places order by at" | paste -sd ' ')"

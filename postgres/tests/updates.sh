@@ -1,6 +1,6 @@
 # Sourced by test.sh: dump and restore, also into the next version, and the update to it: a stub that adds a function in SQL.
 folder=$dir$share/extension
-echo "CREATE FUNCTION wkt_next(text) RETURNS text LANGUAGE sql IMMUTABLE STRICT RETURN \$1;" > "$folder/wkt--1.0--1.1.sql"
+echo "CREATE FUNCTION wkt_next(text) RETURNS text LANGUAGE sql IMMUTABLE STRICT AS 'SELECT \$1';" > "$folder/wkt--1.0--1.1.sql"
 # A database with the type, indexes on expressions, a generated column and an exclusion constraint.
 ask postgres "create database source"
 ask source "create extension wkt" "create table places (id int, at wkt(6) primary key)" \
