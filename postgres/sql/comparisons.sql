@@ -43,7 +43,7 @@ RESET work_mem;
 -- Also where long values are stored elsewhere, or compressed
 CREATE TABLE fetched (at wkt, packed wkt);
 ALTER TABLE fetched ALTER packed SET STORAGE extended;
-INSERT INTO fetched SELECT at, at FROM (SELECT ('LINESTRING(' || a || repeat(' 2,3', 3000 + i) || ' 4)')::wkt at FROM unnest(array['1', '-1', '10', '1.5', '123456.123456789012']) a, generate_series(1, 3) i) b;
+INSERT INTO fetched SELECT at, at FROM (SELECT ('LINESTRING(' || a || repeat(' 2,3', 3000 + i) || ' 4)')::wkt AS at FROM unnest(array['1', '-1', '10', '1.5', '123456.123456789012']) a, generate_series(1, 3) i) b;
 SELECT array_agg(at ORDER BY at) = array_agg(at ORDER BY at::text::bytea) AND array_agg(packed ORDER BY packed) = array_agg(at ORDER BY at::text::bytea) AS the_same_order FROM fetched;
 -- A BRIN index has the least and the greatest of neighbouring rows
 CREATE TABLE sorted AS SELECT at FROM many ORDER BY at;

@@ -6,7 +6,7 @@ SELECT length(wkt_canonical(line_of(1000)));
 -- A long value is stored as it is, unless its column says otherwise
 CREATE TABLE stored (at wkt, packed wkt);
 ALTER TABLE stored ALTER packed SET STORAGE extended;
-INSERT INTO stored SELECT at, at FROM (SELECT ('LINESTRING(' || repeat('1 2,', 1000) || '1 2)')::wkt at) a;
+INSERT INTO stored SELECT at, at FROM (SELECT ('LINESTRING(' || repeat('1 2,', 1000) || '1 2)')::wkt AS at) a;
 SELECT length(at::text), pg_column_size(at), pg_column_size(packed) < 500 AS is_smaller FROM stored;
 DROP TABLE stored;
 -- A btree takes 2704 bytes
