@@ -18,11 +18,11 @@ odd="create function odd(type regtype) returns text[] language sql as \$\$ selec
 # Those that take what only the server can give are left out.
 calls="select format('select %s(%s)', p.oid::regproc, concat_ws(', ', a.v || '::' || type[0]::regtype, b.v || '::' || type[1]::regtype, c.v || '::' || type[2]::regtype))
     from pg_proc p join pg_depend d on classid = 'pg_proc'::regclass and objid = p.oid and deptype = 'e' join pg_extension e on e.oid = refobjid and extname = 'wkt',
-        lateral (select proargtypes::oid[] type) t, unnest(coalesce(odd(type[0]), '{null}')) a(v), unnest(coalesce(odd(type[1]), '{null}')) b(v), unnest(coalesce(odd(type[2]), '{null}')) c(v)
+        lateral (select proargtypes::oid[] as type) t, unnest(coalesce(odd(type[0]), '{null}')) a(v), unnest(coalesce(odd(type[1]), '{null}')) b(v), unnest(coalesce(odd(type[2]), '{null}')) c(v)
     where pronargs between 1 and 3 and 'internal'::regtype <> all (type)"
 stranger "create schema tried" "set search_path = tried, public" "$odd" "create table calls as $calls" \
     "create function answered(call text) returns text language plpgsql as \$\$ begin execute call; return 'answered'; exception when others then return sqlstate || ' ' || sqlerrm; end \$\$" \
-    "create table answers as select answered(format) said, count(*) n, min(format) call from calls group by 1"
+    "create table answers as select answered(format) as said, count(*) as n, min(format) as call from calls group by 1"
 # 22P02: a text that is refused; 22023: places; 22003, 22004, 2202E, 22P02: an array that is no modifier
 is "hostile: other errors" "" "$(ask open "select said, call from tried.answers where said <> 'answered' and left(said, 5) not in ('22P02', '22023', '22003', '22004', '2202E') limit 5")"
 tried=$(ask open "select sum(n) from tried.answers" "select sum(n) from tried.answers where said = 'answered'" | paste -sd ' ')
