@@ -67,12 +67,14 @@ int arrow_offsets(const void *offsets, int is_64, int64_t at, int64_t rows, int6
     int64_t first = rows == 0 ? 0 : offset_at(offsets, is_64, at), last = first;
     int ordered = first >= 0;
     to[0] = 0;
+    Py_BEGIN_ALLOW_THREADS
     for (int64_t i = 1; i <= rows; i++) {
         int64_t next = offset_at(offsets, is_64, at + i);
         ordered &= next >= last;
         to[i] = (int64_t)((uint64_t)next - (uint64_t)first);
         last = next;
     }
+    Py_END_ALLOW_THREADS
     *start = first;
     return ordered ? 0 : -1;
 }

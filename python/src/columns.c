@@ -247,8 +247,8 @@ static wkt_status buffer_answers(const Walk *walk, uint32_t places, Room *out, R
     size_t rows = (size_t)(walk->last - walk->first);
     if (room_holds(ends, rows) < 0 || room_holds(statuses, rows) < 0) return WKT_NO_MEMORY;
     for (size_t i = 0; i < rows; i++) {
-        const Cell *cell = &walk->cells[i];
-        wkt_status status = cell->text == NULL ? WKT_NULL : answer(walk->state, cell, places, out);
+        Cell cell = walk_cell(walk, (Py_ssize_t)i);
+        wkt_status status = cell.text == NULL ? WKT_NULL : answer(walk->state, &cell, places, out);
         if (status == WKT_NO_MEMORY) return WKT_NO_MEMORY;
         ((uint32_t *)statuses->items)[statuses->used++] = status;
         ((int64_t *)ends->items)[ends->used++] = (int64_t)out->used;

@@ -45,13 +45,14 @@ typedef struct {
     PyObject *null;   /* the last null row that Python knew */
     Py_buffer data, offsets, bits;
     Py_ssize_t count, first, last; /* all rows; the block */
-    Cell *cells, *others;
+    Cell *cells, *others;          /* of rows; buffers need none */
     uint32_t *statuses;
 } Walk;
 
 int walk_rows(Walk *walk, State *state, PyObject *rows, PyObject *other, PyObject *report);
 int walk_buffers(Walk *walk, State *state, PyObject *packed, PyObject *report);
-int walk_next(Walk *walk); /* 1: there is a block; 0: the end; -1: an error */
+int walk_next(Walk *walk);                      /* 1: there is a block; 0: the end; -1: an error */
+Cell walk_cell(const Walk *walk, Py_ssize_t i); /* row i of the block, without the interpreter */
 void walk_end(Walk *walk);
 PyObject *row_at(PyObject *rows, Py_ssize_t i); /* borrowed */
 /* The text of one value, which is no row. *held: bytes that hold it, or NULL. */

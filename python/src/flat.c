@@ -72,8 +72,10 @@ static wkt_status flatten_block(const Walk *walk, uint32_t places, Flat *flat) {
         return WKT_NO_MEMORY;
     for (int i = 0; i < THREE; i++)
         if (room_holds(&flat->ends[i], rows) < 0) return WKT_NO_MEMORY;
-    for (size_t i = 0; i < rows; i++)
-        if (flatten_row(walk->state, &walk->cells[i], places, flat) != WKT_OK) return WKT_NO_MEMORY;
+    for (size_t i = 0; i < rows; i++) {
+        Cell cell = walk_cell(walk, (Py_ssize_t)i);
+        if (flatten_row(walk->state, &cell, places, flat) != WKT_OK) return WKT_NO_MEMORY;
+    }
     return WKT_OK;
 }
 

@@ -147,10 +147,29 @@ static int has_buffer(PyObject *from, Py_buffer *to, Py_ssize_t size, const char
     return -1;
 }
 
-/* packed: (bytes of all, 64-bit offsets, bits or none, rows) */
+static int64_t offset_of(const Walk *walk, Py_ssize_t i) {
+    int64_t offset;
+    memcpy(&offset, (const char *)walk->offsets.buf + 8 * i, sizeof offset); /* it may not be aligned */
+    return offset;
+}
+
+/* Whether each offset is in the bytes, and not below the one before it. */
+static int in_order(const Walk *walk) {
+    int64_t last = offset_of(walk, 0), first = last;
+    int ordered = 1;
+    for (Py_ssize_t i = 1; i <= walk->count; i++) {
+        int64_t next = offset_of(walk, i);
+        ordered &= next >= last;
+        last = next;
+    }
+    return ordered && first >= 0 && last <= walk->data.len;
+}
+
+/* packed: (bytes of all, 64-bit offsets, bits or none, rows). Nobody changes the offsets during the walk. */
 int walk_buffers(Walk *walk, State *state, PyObject *packed, PyObject *report) {
     PyObject *data, *offsets, *bits;
-    *walk = (Walk){0};
+    int ordered;
+    *walk = (Walk){.state = state, .report = report};
     if (!PyTuple_Check(packed)) return PyErr_SetString(PyExc_TypeError, "buffers are a tuple"), -1;
     if (!PyArg_ParseTuple(packed, "OOOn", &data, &offsets, &bits, &walk->count)) return -1;
     if (walk->count < 0 || walk->count > PY_SSIZE_T_MAX / 16)
@@ -160,7 +179,11 @@ int walk_buffers(Walk *walk, State *state, PyObject *packed, PyObject *report) {
     if (has_buffer(bits, &walk->bits, -1, "bits") < 0) return -1;
     if (walk->bits.len != 0 && walk->bits.len != (walk->count + 7) / 8)
         return PyErr_SetString(PyExc_ValueError, "bits of another size"), -1;
-    return started(walk, state, report);
+    Py_BEGIN_ALLOW_THREADS
+    ordered = in_order(walk);
+    Py_END_ALLOW_THREADS
+    if (!ordered) PyErr_SetString(PyExc_ValueError, "an offset is past the bytes");
+    return ordered ? 0 : -1;
 }
 
 void walk_end(Walk *walk) {
@@ -179,18 +202,14 @@ PyObject *row_at(PyObject *rows, Py_ssize_t i) {
     return PyList_Check(rows) ? PyList_GetItem(rows, i) : PyTuple_GetItem(rows, i);
 }
 
-static int buffer_in(const Walk *walk, Py_ssize_t i, Cell *cell) {
+Cell walk_cell(const Walk *walk, Py_ssize_t i) {
     const uint8_t *bits = walk->bits.buf;
-    int64_t bounds[2];
-    memcpy(bounds, (const char *)walk->offsets.buf + 8 * i, sizeof bounds);
-    *cell = (Cell){NULL, 0};
-    if (bounds[0] < 0 || bounds[1] < bounds[0] || bounds[1] > walk->data.len) {
-        PyErr_SetString(PyExc_ValueError, "an offset is past the bytes");
-        return -1;
-    }
-    if (walk->bits.len != 0 && !(bits[i / 8] >> i % 8 & 1)) return 0;
-    *cell = (Cell){bounds[1] == bounds[0] ? "" : (const char *)walk->data.buf + bounds[0], bounds[1] - bounds[0]};
-    return 0;
+    Py_ssize_t row = walk->first + i;
+    int64_t start, end;
+    if (walk->rows != NULL) return walk->cells[i];
+    if (walk->bits.len != 0 && !(bits[row / 8] >> row % 8 & 1)) return (Cell){NULL, 0};
+    start = offset_of(walk, row), end = offset_of(walk, row + 1);
+    return (Cell){end == start ? "" : (const char *)walk->data.buf + start, end - start};
 }
 
 static int reported(const Walk *walk) {
@@ -201,20 +220,42 @@ static int reported(const Walk *walk) {
     return made == NULL ? -1 : 0;
 }
 
-int walk_next(Walk *walk) {
+/* The end of the block that begins at walk->last. */
+static int block_of_rows(Walk *walk) {
     Py_ssize_t bytes = 0;
-    if (reported(walk) < 0 || PyErr_CheckSignals() < 0) return -1;
-    if (PyList_Size(walk->held) > 0 && PyList_SetSlice(walk->held, 0, PY_SSIZE_T_MAX, NULL) < 0) return -1;
-    walk->first = walk->last;
     while (walk->last < walk->count && walk->last - walk->first < MOST_ROWS && bytes < MOST_BYTES) {
         Py_ssize_t at = walk->last++, i = at - walk->first;
-        if ((walk->rows == NULL ? buffer_in(walk, at, &walk->cells[i])
-                                : row_in(walk, row_at(walk->rows, at), at, &walk->cells[i])) < 0)
-            return -1;
+        if (row_in(walk, row_at(walk->rows, at), at, &walk->cells[i]) < 0) return -1;
         bytes += walk->cells[i].length;
         if (walk->other == NULL) continue;
         if (row_in(walk, row_at(walk->other, at), at, &walk->others[i]) < 0) return -1;
         bytes += walk->others[i].length;
+    }
+    return 0;
+}
+
+/* The same of buffers, where the offsets alone say it: threads wait for each other no longer than that takes. */
+static void block_of_buffers(Walk *walk) {
+    Py_ssize_t low = walk->first, high = walk->count - low < MOST_ROWS ? walk->count : low + MOST_ROWS;
+    int64_t most = offset_of(walk, low) + MOST_BYTES;
+    while (low < high) { /* the first row that begins past the most, or the end */
+        Py_ssize_t middle = low + (high - low) / 2;
+        if (offset_of(walk, middle) < most)
+            low = middle + 1;
+        else
+            high = middle;
+    }
+    walk->last = low;
+}
+
+int walk_next(Walk *walk) {
+    if (reported(walk) < 0 || PyErr_CheckSignals() < 0) return -1;
+    walk->first = walk->last;
+    if (walk->rows == NULL) {
+        block_of_buffers(walk);
+    } else {
+        if (PyList_Size(walk->held) > 0 && PyList_SetSlice(walk->held, 0, PY_SSIZE_T_MAX, NULL) < 0) return -1;
+        if (block_of_rows(walk) < 0) return -1;
     }
     return walk->last > walk->first;
 }

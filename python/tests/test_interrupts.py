@@ -35,10 +35,10 @@ from test_interrupts import CALLS
 
 call, spent = CALLS[sys.argv[1]](), []
 for interrupted in (False, True):
-    if interrupted:
-        threading.Timer(0.05, os.kill, (os.getpid(), signal.SIGINT)).start()
     begin = time.process_time()
     try:
+        if interrupted:  # on a loaded machine it may come before the call
+            threading.Timer(0.05, os.kill, (os.getpid(), signal.SIGINT)).start()
         call()
     except KeyboardInterrupt:
         sys.stdout.write("interrupted ")
