@@ -112,6 +112,7 @@ static PyMethodDef methods[] = {
     FAST(lines_rows, "lines_rows(rows, places) -> list"),
     FAST(canonical_buffers,
          "canonical_buffers((data, offsets, bits, rows), places, report) -> (data, offsets, statuses)"),
+    FAST(distinct, "distinct((data, offsets, bits, rows), 16 random bytes) -> (data, offsets, int32 of each row)"),
     FAST(arrays, "arrays(text, places, whole) -> Arrays"),
     FAST(arrays_rows, "arrays_rows(rows or buffers, places, report, are buffers) -> nine buffers"),
     FAST(cut, "cut(ColumnArrays, whether rings and polygons are shared) -> list of Arrays"),

@@ -93,6 +93,7 @@ PyObject *fast_same_rows(PyObject *self, PyObject *const *args, Py_ssize_t count
 PyObject *fast_infer_rows(PyObject *self, PyObject *const *args, Py_ssize_t count);
 PyObject *fast_lines_rows(PyObject *self, PyObject *const *args, Py_ssize_t count);
 PyObject *fast_canonical_buffers(PyObject *self, PyObject *const *args, Py_ssize_t count);
+PyObject *fast_distinct(PyObject *self, PyObject *const *args, Py_ssize_t count);
 PyObject *fast_arrays(PyObject *self, PyObject *const *args, Py_ssize_t count);
 PyObject *fast_arrays_rows(PyObject *self, PyObject *const *args, Py_ssize_t count);
 PyObject *fast_cut(PyObject *self, PyObject *const *args, Py_ssize_t count);

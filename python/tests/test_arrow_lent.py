@@ -271,6 +271,7 @@ class Memory(Arrow):
             (lambda: _fast.lines_rows(rows[:3], 18), [*wanted[0][:3]]),
             (lambda: len(_fast.arrays_rows(rows, 6, None, False)), 9),
             (lambda: bytes(_fast.canonical_buffers(packed, 18, None)[0]), "".join(texts).encode()),
+            (lambda: bytes(_fast.distinct(packed, bytes(16))[0]), "".join(texts).encode()),
             (lambda: [it.kind for it in _fast.cut(column, False)], ["MultiPoint", "Point"]),
         ):
             self.right_or_none(call, answer)

@@ -1,6 +1,7 @@
 """Arrow's columns whose rows share texts: dictionaries and runs. Each text is answered once."""
 import copy
 import pickle
+import random
 import struct
 import unittest
 
@@ -109,6 +110,22 @@ class Shared(Arrow):
         with self.assertRaises(wkt.WktError) as raised:
             wkt.canonical(ToldStream(nodes[0], dictionary()))
         self.assertEqual((raised.exception.row, raised.exception.explanation.text), (10, "PINT(5 6)"))
+
+    def test_many(self):
+        """Thousands of values, some of one key: the dictionary has the keys in the order of their first rows."""
+        make = random.Random(3)
+        values = [b"LINESTRING(%s)" % b",".join([b"%d 1" % i] * (i % 7 + 2)) for i in range(2000)]
+        values += [value.replace(b" 1", b" 1.0") for value in values] + [b"PINT(1 2)", None, b"MULTIPOINT EMPTY"]
+        indices = make.sample(range(len(values)), len(values)) + make.choices([None, *range(len(values))], k=2000)
+        keys, _ = wkt.canonical_column([None if i is None else values[i] for i in indices])
+        order = {key: number for number, key in enumerate(dict.fromkeys(key for key in keys if key))}
+        made = wkt.canonical(Told(dictionary(indices, values)), invalid="null")
+        self.assertEqual(made.to_pylist(), keys)
+        self.assertEqual(made.indices.tolist(), [order.get(key, 0) for key in keys])
+        self.assertEqual((len(made.offsets), bytes(made.data)), (len(order) + 1, "".join(order).encode()))
+        halves = [dictionary(part, values) for part in (indices[:3000], indices[3000:])]
+        again = wkt.canonical(ToldStream(*halves), invalid="null")
+        self.assertEqual((again.to_pylist(), bytes(again.data)), (keys, bytes(made.data)))
 
     def rows(self, taken):
         """The rows of what a consumer took of a dictionary."""

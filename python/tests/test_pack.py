@@ -70,6 +70,7 @@ class Pack(unittest.TestCase):
             lambda ends: _fast.unpack(b"abcde", array.array("q", ends), statuses),
             lambda ends: _fast.canonical_buffers((b"abcde", array.array("q", ends), b"", 2), 18, None),
             lambda ends: _fast.arrays_rows((b"abcde", array.array("q", ends), b"", 2), 18, None, True),
+            lambda ends: _fast.distinct((b"abcde", array.array("q", ends), b"", 2), bytes(16)),
         ]
         for ends in ([0, 3, 6], [-1, 2, 3], [0, 3, 2], [0, 3], [0, 1, 2, 3]):
             for call in calls:
@@ -79,6 +80,10 @@ class Pack(unittest.TestCase):
         for wrong in ((b"abcde", ends, b"12", 2), (b"abcde", ends, b"", 1 << 60), (b"abcde", ends, b"", -1)):
             with self.assertRaises(ValueError):
                 _fast.canonical_buffers(wrong, 18, None)
+            with self.assertRaises(ValueError):
+                _fast.distinct(wrong, bytes(16))
+        with self.assertRaises(ValueError):
+            _fast.distinct((b"abcde", ends, b"", 2), bytes(15))
         self.assertEqual(_fast.unpack(b"abcde", ends, statuses), ["abc", "de"])
 
     @unittest.skipIf(numpy is None, "no NumPy")

@@ -1,5 +1,5 @@
 """Columns as buffers, with no object for a row: those that Arrow lends, and NumPy's arrays of bytes. It needs NumPy."""
-import itertools
+import os
 from typing import Any, Callable, Iterator, List, NamedTuple, Optional, Tuple
 
 from ._names import NOT_UTF8, NULL
@@ -7,6 +7,8 @@ from ._native import calls
 from ._progress import Progress, shown
 from ._slow import Packed
 from ._values import array_of, numpy
+
+_KEY = os.urandom(16)  # of the hashes by which texts are told apart
 
 
 class Texts(NamedTuple):
@@ -178,18 +180,11 @@ def answered(held: Buffers, places: int, invalid: str, progress: Progress, bytes
 
 def distinct(texts: Texts, indices: Any) -> Texts:
     """Rows that have some of the texts, or none where the index is -1: each text is there once, and none is refused."""
-    data, ends, good = texts.data.tobytes(), texts.offsets.tolist(), texts.statuses == 0
-    parts = [data[start:end] for start, end in itertools.compress(zip(ends, ends[1:]), good.tolist())]
-    known = dict.fromkeys(parts)
-    at = numpy.full(len(good) + 1, -1)
-    if len(known) == len(parts):
-        at[:-1][good] = numpy.arange(len(parts))
-    else:
-        numbers = dict(zip(known, range(len(known))))
-        at[:-1][good] = [numbers[text] for text in parts]
+    bits = numpy.packbits(texts.statuses == 0, bitorder="little")
+    made = calls.distinct((texts.data, texts.offsets, bits, len(texts.statuses)), _KEY)
+    numbers = numpy.append(numpy.frombuffer(made[2], numpy.int32), numpy.int32(-1))[indices]
     statuses = numpy.append(texts.statuses, numpy.uint32(NULL))[indices]
-    its = numpy.cumsum([0, *map(len, known)])
-    return Texts(_bytes(b"".join(known)), its, statuses, numpy.maximum(at[indices], 0).astype(numpy.int32))
+    return Texts(_bytes(made[0]), array_of("q", made[1]), statuses, numpy.maximum(numbers, 0))
 
 
 def joined(parts: List[Texts], indexed: bool = False) -> Texts:
