@@ -44,6 +44,33 @@ class Tables(unittest.TestCase):
         with self.assertRaises(ValueError):
             self.tools.merge(self.frame.assign(**{"wkt.key": 1}), other, "geom", "at")
 
+    def test_refusals(self):
+        texts = [
+            "POINT(1 2)", None, "LINESTRING(1 2,3 x)", "POINT(1 1.25)", b"\xffx", "MULTICURVE(", "POINT(1 2) x",
+            "a\ud800",
+        ]  # fmt: skip
+        too_many = "Unable to parse input number as the desired output type"
+        wanted = [
+            (6, 18, "a second number", "expected_y", "a second number was expected, and not x",
+             "Expected a number for the Y coordinate"),
+            (5, 9, "a second number", "places", "1.25 has 2 places, at most 1 are allowed", too_many),
+            (4, 1, "", "not_utf8", "The text is not UTF-8", "The text is not UTF-8"),
+            (3, 1, "a kind of geometry, such as POINT,", "curve", "curves are not read; ST_CurveToLine gives lines",
+             "Invalid type encountered"),
+            (2, 12, "the end of the text", "not_whole", "the end of the text was expected, and not x",
+             "More than white space follows the geometry"),
+            (1, 2, "", "not_utf8", "The text is not UTF-8", "The text is not UTF-8"),
+        ]  # fmt: skip
+        column = pandas.Series(texts, index=range(8, 0, -1))
+        made = column.wkt.refusals(places=1)
+        self.assertEqual([tuple(it) for it in made.drop(columns="text").itertuples()], wanted)
+        self.assertEqual(made.text.tolist(), texts[2:])
+        self.assertEqual(list(made.columns), ["text", "place", "expected", "cause", "hint", "message"])
+        self.assertEqual(pandas.Index(texts).wkt.refusals(places=1).index.tolist(), [2, 3, 4, 5, 6, 7])
+        for none in (column.wkt.refusals(places=1, whole=False).cause, column[:2].wkt.refusals().cause):
+            self.assertNotIn("not_whole", none.tolist())
+        self.assertEqual(len(column[:2].wkt.refusals()), 0)
+
     def test_read_csv(self):
         text = 'id,geom\n1,"point ( 1 2.50 )"\n2,\n3,"PINT(1"\n'
         with self.assertRaises(wkt.WktError) as raised:

@@ -96,6 +96,24 @@ class Words(unittest.TestCase):
             wkt.explain(b"\xff")
         self.assertEqual(raised.exception.status, 20)
 
+    def test_codes(self):
+        """One stable word says why: a hint's, or what was expected, as docs/names.tsv has them."""
+        cases = [
+            ("\ufeffPOINT(1 2)", "byte_order_mark"), ("0101000000", "hexadecimal"), ("SRID=4326;POINT(1 2)", "srid"),
+            ("CIRCULARSTRING(1 2)", "curve"), ("TIN EMPTY", "surface"), ("POINT(1e5 2)", "exponent"),
+            ("POINT(nan 2)", "no_number"), ("POINT(1.1234567 2)", "places"), ("POINT(%s 2)" % ("9" * 40), "large"),
+            ("POINT(1 2 3)", "dimension"), ("POINT()", "empty"), ("POINT(1 2) x", "not_whole"),
+            ("", "expected_kind"), ("GEOMETRYCOLLECTION(x", "expected_member"), ("POINT 1", "expected_dimension"),
+            ("POINT Z x", "expected_opening"), ("MULTIPOINT(x", "expected_point"), ("LINESTRING(x", "expected_x"),
+            ("POINT(1", "expected_y"), ("POINT Z(1 2", "expected_z"), ("POINT M(1 2", "expected_m"),
+            ("LINESTRING(1 2", "expected_more"), ("POINT(1 2", "expected_closing"),
+        ]  # fmt: skip
+        for text, code in cases:
+            for given in (text, text.encode()):
+                self.assertEqual(wkt.explain(given, places=6).code, code, text)
+        self.assertEqual({code.replace("expected_", "") for _, code in cases} - {"not_whole"},
+                         {*wkt._names.HINT_WORDS[1:], *wkt._names.EXPECTED_WORDS})  # fmt: skip
+
     def test_long_lines(self):
         text = "LINESTRING(" + ",".join(["1 2"] * 1000) + ",3 x," + ",".join(["1 2"] * 1000) + ")"
         line, marks = str(wkt.explain(text)).split("\n")
@@ -247,7 +265,7 @@ class Later(unittest.TestCase):
             for text, places in (("POINT(1 x)", 18), ("POINT(1 2.55)", 1)):
                 found = wkt.explain(text, places)
                 self.assertEqual((found.status, found.message, found.hint), (15, "Status 15", ""))
-                self.assertEqual(found.expected, "something else (11)")
+                self.assertEqual((found.expected, found.code), ("something else (11)", "hint_12"))
                 self.assertIn("^ something else (11) was expected", str(found))
                 for call in (wkt.canonical, wkt.to_arrays, lambda it, places: wkt.same(it, it, places)):
                     for given, row in ((text, ""), ([None, text], "row 1: ")):
@@ -255,6 +273,8 @@ class Later(unittest.TestCase):
                             call(given, places)
                         wanted = "%sat 9: something else (11) was expected, and not %s" % (row, text[8:-1])
                         self.assertEqual(str(raised.exception), wanted)
+        with patched("wkt_explain", explain), patched("wkt_hint", lambda status, *given: put(0, given[3])):
+            self.assertEqual(wkt.explain("POINT(1 x)").code, "expected_other")
 
     def test_statuses(self):
         def refused(status, *given):

@@ -43,6 +43,7 @@ class Explanation(NamedTuple):
     stop: int
     expected: str
     hint: str = ""
+    code: str = ""
     @property
     def cause(self) -> str: ...
     @property

@@ -3,7 +3,10 @@ import re
 from typing import NamedTuple, NoReturn, Optional, Tuple, Union
 
 from ._errors import WktError, check, printable, words_of
-from ._names import ACCEPTED, COLLECTION, EXPECTED, HINTS, LAST_REFUSAL, MESSAGES, NOT_WHOLE, OK, TOO_LARGE
+from ._names import (
+    ACCEPTED, COLLECTION, EXPECTED, EXPECTED_WORDS, HINT_WORDS, HINTS, LAST_REFUSAL, MESSAGES, NOT_UTF8, NOT_WHOLE, OK,
+    TOO_LARGE,
+)  # fmt: skip
 from ._native import bind, calls
 from ._values import WHOLE, Text, encoded
 
@@ -22,8 +25,8 @@ class Explanation(NamedTuple):
     `start` to `stop` is what can't stand there; where the text ends too early, it is empty. Both count the characters
     of a str and the bytes of bytes, from 0 on, as slices do. `expected` says what could stand there, `hint` why the
     text is refused, where that is known ("" where not), `message` is that of the `WktError`, and `status` its number.
-    `cause` is one line, with the place, which counts from 1. `str()` shows the line of the text with a mark below the
-    place. In both, what isn't printable stands as \\x1b or \\u{202e}.
+    `cause` is one line, with the place, which counts from 1, and `code` one stable word, to group by. `str()` shows the
+    line of the text with a mark below the place. In both lines, what isn't printable stands as \\x1b or \\u{202e}.
     """
 
     text: Union[str, bytes]
@@ -33,6 +36,7 @@ class Explanation(NamedTuple):
     stop: int
     expected: str
     hint: str = ""
+    code: str = ""
 
     def _characters(self) -> Tuple[str, int, int]:
         """The text as str, and the place counted in its characters."""
@@ -89,14 +93,17 @@ def _too_many(number: str, most: int) -> str:
     return "%s has %d places, at most %d are allowed" % (_short(number), places, most)
 
 
-def _hint(data: bytes, word: bytes, places: int) -> str:
-    """Why a text is refused at a word, for a user; "" where it isn't known."""
+def _hint(data: bytes, word: bytes, places: int) -> Tuple[str, str]:
+    """Why a text is refused at a word, for a user, and the same as one stable word; "" where it isn't known."""
     status, hint = calls.hint(data, places)
-    if status != OK:
-        return ""
-    words: str = HINTS[hint] if hint < len(HINTS) else ""  # a later library may know more
+    if status != OK or hint == 0:
+        return "", ""
+    if hint >= len(HINTS):  # a later library may know more
+        return "", "hint_%d" % hint
+    words = HINTS[hint]
     # The one with a number is of a number with too many places: here it says which.
-    return _too_many(word.decode("ascii", "replace"), places % WHOLE) if "%u" in words else words
+    shown = _too_many(word.decode("ascii", "replace"), places % WHOLE) if "%u" in words else words
+    return shown, HINT_WORDS[hint]
 
 
 def explained(text: Text, places: int) -> Optional[Explanation]:
@@ -108,14 +115,48 @@ def explained(text: Text, places: int) -> Optional[Explanation]:
     if status != NOT_WHOLE:
         check(status)
     shown: Union[str, bytes] = data
-    hint = _hint(data, data[first:last], places) if status == OK else ""
+    hint, code = _hint(data, data[first:last], places) if status == OK else ("", "not_whole")
     if isinstance(text, str):
         shown = data.decode("utf-8")
         first, last = len(data[:first].decode("utf-8")), len(data[:last].decode("utf-8"))
     if status == NOT_WHOLE:
-        return Explanation(shown, status, MESSAGES[status], first, last, _END)
-    what = EXPECTED[expected] if expected < len(EXPECTED) else "something else (%d)" % expected
-    return Explanation(shown, message, words_of(message), first, last, what, hint)
+        return Explanation(shown, status, MESSAGES[status], first, last, _END, hint, code)
+    is_known = expected < len(EXPECTED)
+    what = EXPECTED[expected] if is_known else "something else (%d)" % expected
+    code = code or "expected_" + (EXPECTED_WORDS[expected] if is_known else "other")
+    return Explanation(shown, message, words_of(message), first, last, what, hint, code)
+
+
+class Why(NamedTuple):
+    """A refusal as a row of a table. The place counts from 1, and is 0 where none is known; `hint` is a sentence."""
+
+    place: int
+    expected: str
+    cause: str
+    hint: str
+    message: str
+
+
+def _not_utf8_at(text: Text) -> int:
+    if isinstance(text, str):
+        return next(i for i, c in enumerate(text, 1) if "\ud800" <= c <= "\udfff")
+    try:
+        encoded(text).decode()
+    except UnicodeDecodeError as error:
+        return error.start + 1
+    return 0
+
+
+def why(text: Text, places: int) -> Why:
+    """Why a text is refused, as a row of a table; also of one that has no explanation."""
+    try:
+        found = explained(text, places)
+    except WktError as error:
+        if error.status == NOT_UTF8:
+            return Why(_not_utf8_at(text), "", "not_utf8", error.message, error.message)
+        return Why(0, "", "status_%d" % error.status, error.message, error.message)
+    assert found is not None
+    return Why(found.start + 1, found.expected, found.code, found.hint or found.cause.partition(": ")[2], found.message)
 
 
 def refusal(status: int, text: Text, places: int, row: Optional[int] = None) -> WktError:

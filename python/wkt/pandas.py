@@ -12,7 +12,9 @@ from typing import Any, Optional
 
 from . import _calls
 from ._arrays import to_arrays_column
-from ._columns import check_invalid
+from ._columns import check_invalid, column_of, is_series, refused_of, statuses_of
+from ._explain import Why, why
+from ._values import places_of
 
 pandas: Any = importlib.import_module("pandas")
 
@@ -42,6 +44,19 @@ class Accessor:
     def explain(self, places: int = 18, progress: Any = None, whole: bool = True) -> Any:
         """Where and why each text is refused: `wkt.explain`."""
         return _calls.explain(self._values, places, progress, whole)
+
+    def refusals(self, places: int = 18, progress: Any = None, whole: bool = True) -> Any:
+        """The rows that are refused, as a frame with their index.
+
+        Its columns are `text`, `place` (a character of a str or a byte of bytes, from 1 on; 0 where none is known),
+        `expected` (what was expected there), `cause` (one stable word, to group by), `hint` (why, in words) and
+        `message` (that of the Rust crate).
+        """
+        checked, rows = places_of(places, whole), column_of(self._values)
+        found = refused_of(statuses_of(rows, checked, progress))
+        index = self._values.index.take(found) if is_series(self._values) else pandas.Index(found)
+        held = [(rows[i], *why(rows[i], checked)) for i in found]
+        return pandas.DataFrame(held, columns=["text", *Why._fields], index=index)
 
     def infer(self, invalid: str = "raise") -> Any:
         """The kind and the dimension of each header: `wkt.infer`."""

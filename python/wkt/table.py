@@ -1,20 +1,17 @@
 """Files with a column of texts: their rows with keys, joined or deduplicated by them, and what is refused."""
 import argparse
 import contextlib
-import ctypes
 import os
 import signal
 import sys
 from typing import Any, Dict, Iterator, List, NamedTuple, NoReturn, Optional, Sequence, Tuple
 
-from . import _library
 from ._calls import canonical_column
-from ._errors import WktError, printable, words_of
-from ._explain import explained
+from ._errors import printable
+from ._explain import why
 from ._files import PARTS, Failure, Output, Parts, Row, Source, lines_of
-from ._library import u32
-from ._names import EXPECTED, EXPECTED_WORDS, HINT_WORDS, NOT_UTF8, NOT_WHOLE, NULL
-from ._values import MOST_PLACES, encoded, places_of
+from ._names import NULL
+from ._values import MOST_PLACES, places_of
 
 REJECTS = ["file", "row", "column", "cause", "hint", "text"]
 SHOWN = 10  # So many refusals are shown where they go to no file.
@@ -28,28 +25,6 @@ class Keyed(NamedTuple):
 
     rows: List[Row]
     keys: List[Optional[str]]
-
-
-def why(text: str, places: int) -> Tuple[str, str, str]:
-    """At which character a text is refused, from 1 on, the stable word of the cause, and what to say of it."""
-    try:
-        found = explained(text, places)
-    except WktError as error:
-        if error.status == NOT_UTF8:
-            at = next((i for i, c in enumerate(text, 1) if "\ud800" <= c <= "\udfff"), "")
-            return str(at), "not_utf8", words_of(NOT_UTF8)
-        return "", "status_%d" % error.status, str(error)
-    assert found is not None
-    data, hint = encoded(text), u32()
-    words: Sequence[str] = HINT_WORDS
-    if found.status == NOT_WHOLE:
-        cause = "not_whole"
-    elif _library.wkt_hint(data, len(data), places, ctypes.byref(hint)) == 0 and hint.value:
-        cause = words[hint.value] if hint.value < len(words) else "hint_%d" % hint.value
-    else:
-        known = dict(zip(EXPECTED, EXPECTED_WORDS))
-        cause = "expected_" + known.get(found.expected, "other")
-    return str(found.start + 1), cause, found.cause.partition(": ")[2]
 
 
 class Run:
@@ -109,7 +84,8 @@ class Run:
             place, cause = "", "fields"
             hint = "the row has %d fields, and not %d; a text with commas stands in quotes" % (len(row), source.width)
         else:
-            place, cause, hint = why(text, self.places)
+            found = why(text, self.places)
+            place, cause, hint = str(found.place or ""), found.cause, found.hint
         if self.rejects is not None:
             row = [source.path, str(number), place, cause, hint, text]
             self.rejects.write(lines_of([row], self.asked.delimiter))
