@@ -30,9 +30,14 @@ def patched(name, change):
         kinds = [ctypes.c_size_t if kind is ctypes.c_void_p else kind for kind in call.argtypes]
         changed = ctypes.CFUNCTYPE(call.restype, *kinds)(changed)
         changed.argtypes = call.argtypes
+
+    def bind(function):
+        if known and _fast is not None:
+            _fast.bind(name, ctypes.cast(function, ctypes.c_void_p).value)
+
     with unittest.mock.patch.object(wkt._library, name, changed):
-        for function in (changed, call):
-            if known and _fast is not None:
-                _fast.bind(name, ctypes.cast(function, ctypes.c_void_p).value)
-            if function is changed:
-                yield
+        bind(changed)
+        try:
+            yield
+        finally:
+            bind(call)
