@@ -175,7 +175,7 @@ class Others(Arrow):
         good = lists([0, 2], interleaved(SIX))
         for name, node in (
             ("polygon", good), ("linestring", lists([0, 1], good)), ("box", good), ("geometry", good),
-            ("wkb", texts_of([b"x"])), ("wkt", texts_of([b"x"])), ("point", separated(SIX, "yx")),
+            ("wkt", texts_of([b"x"])), ("point", separated(SIX, "yx")),
             ("point", separated(SIX, "xz")), ("point", numbers("g", [1])), ("point", Node("+w:5", 0, (None,))),
         ):  # fmt: skip
             with self.subTest(name), self.assertRaises(TypeError) as raised:
@@ -188,9 +188,13 @@ class Others(Arrow):
             wkt.canonical(Told(good._replace(metadata=named("linestring"))))
         self.assertIn("and not of +l; keys takes GeoArrow", str(raised.exception))
         Told.held.clear()  # nobody took these
-        with self.assertRaises(TypeError) as raised:
-            wkt.canonical(Told(texts_of([b"x"])._replace(metadata=named("wkb"))))
-        self.assertIn("geoarrow.wkb has no texts", str(raised.exception))
+        # What GeoPandas lends unless it is told otherwise, and what DuckDB and GDAL wrote before there was GeoArrow.
+        for metadata in (named("wkb"), _arrow.metadata_of({"ARROW:extension:name": "ogc.wkb"})):
+            for call in (wkt.canonical, wkt.keys):
+                with self.assertRaises(TypeError) as raised:
+                    call(Told(texts_of([b"x"])._replace(metadata=metadata)))
+                self.assertIn("well-known binary isn't read: wkt.keys takes a GeoSeries itself", str(raised.exception))
+                Told.held.clear()
 
     def test_wrong(self):
         """Whatever can't be is seen before it is used."""

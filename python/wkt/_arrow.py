@@ -85,8 +85,7 @@ def taken(column: Any) -> Buffers:
         packed = fixed_packed(column)
         return Buffers(iter([Chunk(packed)]), packed.rows)
     (indexed, metadata), parts, only = parts_of(column, False)
-    if pairs_of(metadata).get("ARROW:extension:name") == "geoarrow.wkb":
-        raise TypeError("an Arrow column of geoarrow.wkb has no texts")
+    refuse_binary(pairs_of(metadata))
     rows = None if only is None else _chunk(only).rows
     return Buffers(map(_chunk, parts), rows, metadata, bool(indexed))
 
@@ -94,6 +93,15 @@ def taken(column: Any) -> Buffers:
 def rows_of(column: Any) -> List[Any]:
     """The rows as a list."""
     return rows_in(taken(column))
+
+
+def refuse_binary(pairs: Dict[str, str]) -> None:
+    """A TypeError of a column of well-known binary, which GeoPandas lends unless it is told otherwise."""
+    if pairs.get("ARROW:extension:name") in ("geoarrow.wkb", "ogc.wkb"):
+        raise TypeError(
+            "well-known binary isn't read: wkt.keys takes a GeoSeries itself, or what its "
+            "to_arrow(geometry_encoding='geoarrow') gives; in SQL, ST_AsText gives texts"
+        )
 
 
 def pairs_of(metadata: bytes) -> Dict[str, str]:

@@ -104,6 +104,7 @@ def _geo_type(about: Any) -> Tuple[int, int, bytes]:
     """The kind and the dimension of a column, as numbers, and the metadata of its texts. -1: it is of collections."""
     lists, axes, metadata = about
     words = _arrow.pairs_of(metadata)
+    _arrow.refuse_binary(words)
     name = words.get("ARROW:extension:name", "a column without a name of GeoArrow")
     kind, axes = name.partition("geoarrow.")[2], axes.upper()
     made = _arrow.metadata_of({**words, "ARROW:extension:name": "geoarrow.wkt"})
