@@ -182,8 +182,14 @@ class Cluster:
         self.hosts.end()
 
 
-def took(what, start):
-    print("%s: %.1f s" % (what, time.monotonic() - start), flush=True)
+def spent(client=None):
+    """Seconds by the clock, and of the processors that the workers have had."""
+    return time.monotonic(), sum(client.run(time.process_time).values()) if client else time.process_time()
+
+
+def took(what, start, client=None):
+    end = spent(client)
+    print("%s: %.1f s, %.1f s of processors" % (what, end[0] - start[0], end[1] - start[1]), flush=True)
 
 
 def killed_in_the_middle(client, graph):
@@ -203,24 +209,24 @@ def killed_in_the_middle(client, graph):
 
 def compared(client, path, refused, folder):
     """Compares what the workers answer with one run."""
-    start = time.monotonic()
+    start = spent()
     digest, counts, alone = one_run(path)
     took("one run: %d keys" % len(counts), start)
     assert alone == refused, (alone, refused)
 
-    start, size = time.monotonic(), os.path.getsize(path) // PARTITIONS + 1
+    start, size = spent(client), os.path.getsize(path) // PARTITIONS + 1
     bag = dask.bag.read_text(path, blocksize=size).map_partitions(keys_of)
     bag.to_textfiles(folder + "/*.txt", last_endline=True)
-    took("a bag of the text file, %d partitions" % bag.npartitions, start)
+    took("a bag of the text file, %d partitions" % bag.npartitions, start, client)
     assert digest_of(folder) == digest, "other bytes"
     print("the bag: the bytes of one run")
 
     frame = dask.dataframe.read_csv(path, blocksize=size, **READ)
     key = frame.geometry.map_partitions(wkt.canonical, invalid="null", meta=("key", "object"))
     grouped = frame.assign(key=key).groupby("key").id.count()
-    start = time.monotonic()
+    start = spent(client)
     answer = grouped.compute().sort_index()
-    took("a dataframe grouped by key, %d partitions" % frame.npartitions, start)
+    took("a dataframe grouped by key, %d partitions" % frame.npartitions, start, client)
     assert answer.index.tolist() == counts.index.tolist() and answer.tolist() == counts.tolist(), "other counts"
     print("the dataframe: the counts of one run")
     rows = frame.id[key.isna() & frame.geometry.notnull()].compute().tolist()
@@ -236,9 +242,9 @@ def compared(client, path, refused, folder):
     firsts = wkt.dask.drop_duplicates(frame, "geometry", split_out=WORKERS)
     joined = wkt.dask.merge(frame, firsts, "geometry", key="key", suffixes=("", "_first"))
     sums = joined.groupby("key").agg({"id": "count", "id_first": ["min", "max"]})
-    start = time.monotonic()
+    start = spent(client)
     answer = sums.compute().sort_index()
-    took("deduplicated and joined, %d partitions" % joined.npartitions, start)
+    took("deduplicated and joined, %d partitions" % joined.npartitions, start, client)
     left = WORKERS
     for what in ("the join", "the join with a worker killed"):
         assert answer.index.tolist() == counts.index.tolist(), "%s: other keys" % what
@@ -249,7 +255,7 @@ def compared(client, path, refused, folder):
             start = time.monotonic()
             answer, left = killed_in_the_middle(client, sums)
             answer = answer.sort_index()
-            took("the same, with a worker killed; %d are left" % left, start)
+            print("the same, with a worker killed; %d are left: %.1f s" % (left, time.monotonic() - start), flush=True)
     assert left == WORKERS - 1, left
 
 
@@ -259,7 +265,7 @@ def main():
     folder = tempfile.mkdtemp(prefix="wkt-dask-")
     try:
         os.mkdir(folder + "/keys")
-        start = time.monotonic()
+        start = spent()
         refused = make_table(folder + "/table.tsv", rows)
         took("made: %d rows, %d MB" % (rows, os.path.getsize(folder + "/table.tsv") >> 20), start)
         cluster = Cluster(folder, wanted)

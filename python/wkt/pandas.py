@@ -89,7 +89,8 @@ def keyed(frame: Any, column: Any, side: str, places: int, whole: bool) -> Any:
 
 def has_key(frame: Any) -> Any:
     """Whether each row of such a frame has a key."""
-    return ~frame[KEY].str.startswith("-")
+    # The methods of `str` take ten times as long.
+    return pandas.Series([key[0] != "-" for key in frame[KEY].tolist()], index=frame.index, name=KEY, dtype=bool)
 
 
 def unkeyed(frame: Any, key: Optional[str]) -> Any:
