@@ -99,6 +99,7 @@ static PyObject *unpack(PyObject *self, PyObject *args) {
 static PyMethodDef methods[] = {
     {"bind", (PyCFunction)(void (*)(void))bind, METH_FASTCALL, "bind(name, address or object)"},
     FAST(canonical, "canonical(text, places, whole) -> str"),
+    FAST(front, "front(text, places, False) -> (canonical text, end)"),
     FAST(reads, "reads(text, places, whole) -> bool"),
     FAST(same, "same(one, other, places, whole) -> bool"),
     {"infer", fast_infer, METH_O, "infer(text) -> (kind, dimension)"},

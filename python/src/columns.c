@@ -5,10 +5,11 @@ enum { RAISE, NULLS, KEEP }; /* what becomes of a refused row */
 
 /* The answers of a block, one behind the other: row i's ends at ends[i]. */
 static wkt_status block_answers(const Walk *walk, uint32_t places, Room *out, size_t *ends) {
+    size_t end;
     out->used = 0;
     for (Py_ssize_t i = 0; i < walk->last - walk->first; i++) {
         const Cell *cell = &walk->cells[i];
-        walk->statuses[i] = cell->text == NULL ? WKT_NULL : answer(walk->state, cell, places, out);
+        walk->statuses[i] = cell->text == NULL ? WKT_NULL : answer(walk->state, cell, places, out, &end);
         if (walk->statuses[i] == WKT_NO_MEMORY) return WKT_NO_MEMORY;
         ends[i] = out->used;
     }
@@ -244,11 +245,11 @@ done:
 
 /* The answers of a block of buffers, behind those before it. */
 static wkt_status buffer_answers(const Walk *walk, uint32_t places, Room *out, Room *ends, Room *statuses) {
-    size_t rows = (size_t)(walk->last - walk->first);
+    size_t rows = (size_t)(walk->last - walk->first), end;
     if (room_holds(ends, rows) < 0 || room_holds(statuses, rows) < 0) return WKT_NO_MEMORY;
     for (size_t i = 0; i < rows; i++) {
         Cell cell = walk_cell(walk, (Py_ssize_t)i);
-        wkt_status status = cell.text == NULL ? WKT_NULL : answer(walk->state, &cell, places, out);
+        wkt_status status = cell.text == NULL ? WKT_NULL : answer(walk->state, &cell, places, out, &end);
         if (status == WKT_NO_MEMORY) return WKT_NO_MEMORY;
         ((uint32_t *)statuses->items)[statuses->used++] = status;
         ((int64_t *)ends->items)[ends->used++] = (int64_t)out->used;

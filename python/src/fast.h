@@ -72,7 +72,7 @@ PyObject *lent(State *state, const void *data, Py_ssize_t length, PyObject *owne
 PyObject *lent_room(State *state, Room *room, int writable);
 
 /* Answers are as large as the text, mostly. */
-wkt_status answer(State *state, const Cell *cell, uint32_t places, Room *out);
+wkt_status answer(State *state, const Cell *cell, uint32_t places, Room *out, size_t *end);
 wkt_status status_of(State *state, const Cell *cell, uint32_t places);
 wkt_status compared(State *state, const Cell *one, const Cell *other, uint32_t places, uint32_t *same);
 /* From where on other threads run during a call for one text. */
@@ -81,6 +81,7 @@ enum { LONG_TEXT = 4096, LONG_ROW = 512, MOST_PLACES = 36 };
 enum { MOST_ROWS = 1 << 15, MOST_BYTES = 1 << 20 };
 
 PyObject *fast_canonical(PyObject *self, PyObject *const *args, Py_ssize_t count);
+PyObject *fast_front(PyObject *self, PyObject *const *args, Py_ssize_t count);
 PyObject *fast_reads(PyObject *self, PyObject *const *args, Py_ssize_t count);
 PyObject *fast_same(PyObject *self, PyObject *const *args, Py_ssize_t count);
 PyObject *fast_infer(PyObject *self, PyObject *text);

@@ -1,37 +1,36 @@
 /* Texts, one by one: each call takes what wkt_*.py give, and raises what they raise. */
 #include "fast.h"
 
-wkt_status answer(State *state, const Cell *cell, uint32_t places, Room *out) {
-    size_t needed, end, likely = (size_t)cell->length + (size_t)cell->length / 8 + 80;
+wkt_status answer(State *state, const Cell *cell, uint32_t places, Room *out, size_t *end) {
+    size_t needed, likely = (size_t)cell->length + (size_t)cell->length / 8 + 80;
     for (;;) {
         wkt_status status;
         if (room_holds(out, likely) < 0) return WKT_NO_MEMORY;
         status = state->canonical((const uint8_t *)cell->text, (size_t)cell->length, places,
-                                  (uint8_t *)out->items + out->used, out->room - out->used, &needed, &end);
+                                  (uint8_t *)out->items + out->used, out->room - out->used, &needed, end);
         if (status == WKT_OK) out->used += needed;
         if (status != WKT_TOO_SMALL) return status;
         likely = needed;
     }
 }
 
-PyObject *fast_canonical(PyObject *self, PyObject *const *args, Py_ssize_t count) {
-    State *state = state_of(self);
+/* The canonical text of a text; *end: where its geometry ends. */
+static PyObject *canonical_of(State *state, PyObject *const *args, size_t *end) {
     char small[512];
     Room out = {small, 1, 0, sizeof small};
     Cell cell;
     uint32_t places;
     wkt_status status;
-    size_t needed = 0, end;
+    size_t needed = 0;
     PyObject *held, *made = NULL;
-    if (!has_count(count, 3) || places_in(state, args[1], args[2], &places) < 0) return NULL;
-    if (text_in(state, args[0], &cell, &held) < 0) return NULL;
+    if (places_in(state, args[1], args[2], &places) < 0 || text_in(state, args[0], &cell, &held) < 0) return NULL;
     if (cell.length <= 200) { /* its answer has 465 bytes at most */
         status = state->canonical((const uint8_t *)cell.text, (size_t)cell.length, places, (uint8_t *)small,
-                                  sizeof small, &needed, &end);
+                                  sizeof small, &needed, end);
     } else {
         out = (Room){NULL, 1, 0, 0};
         Py_BEGIN_ALLOW_THREADS
-        status = answer(state, &cell, places, &out);
+        status = answer(state, &cell, places, &out, end);
         Py_END_ALLOW_THREADS
         needed = out.used;
     }
@@ -42,6 +41,18 @@ PyObject *fast_canonical(PyObject *self, PyObject *const *args, Py_ssize_t count
     if (out.items != small) free(out.items);
     Py_XDECREF(held);
     return made;
+}
+
+PyObject *fast_canonical(PyObject *self, PyObject *const *args, Py_ssize_t count) {
+    size_t end;
+    return has_count(count, 3) ? canonical_of(state_of(self), args, &end) : NULL;
+}
+
+/* (text, places, False) -> (canonical text, end). What stands before the end is ASCII, so that counts characters too. */
+PyObject *fast_front(PyObject *self, PyObject *const *args, Py_ssize_t count) {
+    size_t end = 0;
+    PyObject *made = has_count(count, 3) ? canonical_of(state_of(self), args, &end) : NULL;
+    return made == NULL ? NULL : Py_BuildValue("Nn", made, (Py_ssize_t)end);
 }
 
 /* Whether a text is read: its answer finds no room. */

@@ -257,6 +257,7 @@ class Memory(Arrow):
         for call, answer in (
             (lambda: _fast.canonical(long, 18, True), long),
             (lambda: _fast.canonical(bytearray(b"point(1 2)"), 18, True), "POINT(1 2)"),
+            (lambda: _fast.front(long + "x", 18, False), (long, len(long))),
             (lambda: _fast.same(long, long, 18, True), True),
             (lambda: _fast.reads(long, 18, True), True),
             (lambda: _fast.infer(long), ("MultiPoint", "XY")),

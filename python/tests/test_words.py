@@ -30,6 +30,31 @@ class Whole(unittest.TestCase):
         with self.assertRaises(TypeError):
             wkt.canonical("POINT(1 2)", whole=1)
 
+    def test_fronts(self):
+        """The geometry that a text begins with, and where it ends: in characters of a str as in bytes."""
+        long = "LINESTRING(%s)" % ",".join(["1 2"] * 3000)
+        for text, rest, answer in (
+            ("point ( 1 2.0 )", "", "POINT(1 2)"), (" point(1 2)", ", POINT(3 4)", "POINT(1 2)"),
+            ("POINT EMPTY", " \u00e4\u00f6", "POINT EMPTY"), ("POINT(1 2)", "\U0001f600", "POINT(1 2)"),
+            (long, "\u00e4" * 100, long),
+        ):  # fmt: skip
+            for given in (text + rest, (text + rest).encode(), bytearray((text + rest).encode())):
+                self.assertEqual(wkt.front(given), wkt.Front(answer, len(text)))
+        text, keys = "POINT(1 2), POINT EMPTY, point(3 4.0)", []
+        while text:
+            found = wkt.front(text, places=1)
+            keys.append(found.canonical)
+            text = text[found.end :].lstrip(", ")
+        self.assertEqual(keys, ["POINT(1 2)", "POINT EMPTY", "POINT(3 4)"])
+        for call, error in (
+            (lambda: wkt.front("POINT(1 2.55) x", places=1), wkt.WktError), (lambda: wkt.front("x"), wkt.WktError),
+            (lambda: wkt.front("POINT(1 2)", 37), wkt.WktError), (lambda: wkt.front("POINT(1 2)", 1.0), TypeError),
+            (lambda: wkt.front(["POINT(1 2)"]), TypeError), (lambda: wkt.front(None), TypeError),
+            (lambda: wkt.front("POINT(1 2)\ud800"), wkt.WktError),
+        ):  # fmt: skip
+            with self.assertRaises(error):
+                call()
+
     def test_columns(self):
         texts = ["point(1 2) ", None, "POINT(1 2) x", "x"]
         answers, statuses = wkt.canonical_column(texts, whole=True)

@@ -13,7 +13,7 @@ geometry: only white space may follow it, or anything with `whole=False`.
 """
 from ._arrays import Arrays, ColumnArrays, from_arrays, from_arrays_column, to_arrays, to_arrays_column
 from ._arrow import ArrowTexts, Batches
-from ._calls import batches, canonical, canonical_column, explain, infer, lines, reads, same
+from ._calls import Front, batches, canonical, canonical_column, explain, front, infer, lines, reads, same
 from ._errors import WktError
 from ._explain import Explanation
 from ._geoarrow import GeoArrow
@@ -30,6 +30,7 @@ __all__ = [
     "Batches",
     "ColumnArrays",
     "Explanation",
+    "Front",
     "GeoArrow",
     "WktError",
     "__version__",
@@ -39,6 +40,7 @@ __all__ = [
     "explain",
     "from_arrays",
     "from_arrays_column",
+    "front",
     "geometries",
     "infer",
     "keys",

@@ -51,6 +51,10 @@ class Explanation(NamedTuple):
     @property
     def column(self) -> int: ...
 
+class Front(NamedTuple):
+    canonical: str
+    end: int
+
 class WktError(ValueError):
     status: int
     message: str
@@ -139,6 +143,7 @@ def canonical(
 def canonical(text: _LendsArrow, places: int = 18, invalid: _Invalid = "raise", progress: _Progress = None, whole: bool = True) -> ArrowTexts: ...
 @overload
 def canonical(text: _A, places: int = 18, invalid: _Invalid = "raise", progress: _Progress = None, whole: bool = True) -> _A: ...
+def front(text: _Text, places: int = 18) -> Front: ...
 def batches(
     column: _LendsArrow, places: int = 18, invalid: _Invalid = "raise", progress: _Progress = None, whole: bool = True
 ) -> Batches: ...

@@ -1,5 +1,5 @@
 """The functions on texts."""
-from typing import Any, List, Optional, Tuple
+from typing import Any, List, NamedTuple, Optional, Tuple
 
 from . import _arrow
 from ._columns import (
@@ -44,6 +44,22 @@ def canonical(
         return canonical_like(text, checked, invalid, progress)
     check_invalid(invalid)
     return or_null(invalid, text, lambda: _canonical(text, places, whole))
+
+
+class Front(NamedTuple):
+    """The geometry that a text begins with: its canonical text, and where it ends in the text, as slices count."""
+
+    canonical: str
+    end: int
+
+
+def front(text: Any, places: int = 18) -> Front:
+    """The geometry that a text begins with, whatever follows it: its canonical text, and where it ends in the text.
+
+    text: str or bytes. places, and errors: as of `canonical`. A text of several geometries is read by
+    `text = text[front.end:].lstrip(", ")`, again and again.
+    """
+    return Front(*calls.front(text, places, False))
 
 
 def batches(

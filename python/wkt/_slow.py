@@ -36,23 +36,27 @@ def _refuse(status: int, text: Any, places: int, row: Optional[int] = None) -> N
     _bound["refuse"](status, text, places, row)
 
 
-def _canonical(data: bytes, places: int) -> Tuple[int, str]:
+def _canonical(data: bytes, places: int) -> Tuple[int, str, int]:
     needed, end = size(), size()
     room = len(data) + 96 & -64
     while True:
         out = (ctypes.c_char * room)()
         status = _library.wkt_canonical(data, len(data), places, out, room, ctypes.byref(needed), ctypes.byref(end))
         if status != TOO_SMALL:
-            return status, str(memoryview(out)[: needed.value], "ascii") if status == OK else ""
+            return status, str(memoryview(out)[: needed.value], "ascii") if status == OK else "", end.value
         room = needed.value
 
 
-def canonical(text: Any, places: Any, whole: Any) -> str:
+def front(text: Any, places: Any, whole: Any) -> Tuple[str, int]:
     places = _bound["places_of"](places, whole)
-    status, answer = _canonical(_encoded(text), places)
+    status, answer, end = _canonical(_encoded(text), places)
     if status:
         _refuse(status, text, places)
-    return answer
+    return answer, end
+
+
+def canonical(text: Any, places: Any, whole: Any) -> str:
+    return front(text, places, whole)[0]
 
 
 def _status(data: bytes, places: int) -> int:
