@@ -216,16 +216,18 @@ static int views_of(Cut *cut) {
 PyObject *fast_cut(PyObject *self, PyObject *const *args, Py_ssize_t count) {
     Cut cut = {.state = state_of(self)};
     PyObject *made = NULL;
-    int failed;
+    int failed, collects;
     if (!has_count(count, 2)) return NULL;
     if (!PyTuple_Check(args[0]) || PyTuple_Size(args[0]) != 10) return PyErr_Format(PyExc_TypeError, "ten arrays");
     cut.column = args[0], cut.shares = args[1] == Py_True;
     failed = views_of(&cut) < 0 || (made = PyList_New(0)) == NULL;
+    collects = PyGC_Disable(); /* it would take as long as all of this, and none of it is garbage */
     for (Py_ssize_t i = 0; !failed && i < cut.views[0].len / 4; i++) {
         PyObject *row = row_of(&cut, i);
         failed = row == NULL || PyList_Append(made, row) < 0 || (i % 4096 == 0 && PyErr_CheckSignals() < 0);
         Py_XDECREF(row);
     }
+    if (collects) PyGC_Enable();
     for (int i = 0; i < 10; i++) {
         if (cut.views[i].obj != NULL) PyBuffer_Release(&cut.views[i]);
         Py_XDECREF(cut.before[i]);

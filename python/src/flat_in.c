@@ -32,11 +32,13 @@ static int index_of(PyObject *names, PyObject *name) {
     return -1;
 }
 
-/* Copies of the arrays of a row, so that nothing changes them during the call. */
+/* Copies of the arrays of a row, so that nothing changes them during the call. Rows of points share the arrays of rings and
+ * polygons: such a copy is that of the next row too, unless Python ran in between. */
 typedef struct {
     int kind, dimension;
     long places;
     Room three[3];
+    PyObject *from[3]; /* what each is a copy of; the rows keep it */
 } Given;
 
 /* 1: the row is taken. 0: Python has to look at it. */
@@ -51,10 +53,13 @@ static int taken(State *state, PyObject *row, long places, Given *given) {
     if (given->places < 0 || given->places > MOST_PLACES) return PyErr_Clear(), 0;
     if (places >= 0 && places < given->places) return 0;
     for (int i = 0; i < 3; i++) {
+        PyObject *from = PyTuple_GetItem(row, 2 + i);
         int known;
-        given->three[i].used = 0;
-        known = copied_in(PyTuple_GetItem(row, 2 + i), i == 0 ? "lq" : "LQ", &given->three[i]);
+        if (from == given->from[i]) continue;
+        given->from[i] = NULL, given->three[i].used = 0;
+        known = copied_in(from, i == 0 ? "lq" : "LQ", &given->three[i]);
         if (known <= 0) return known;
+        given->from[i] = from;
     }
     return 1;
 }
@@ -91,6 +96,7 @@ static PyObject *row_text(State *state, PyObject *row, PyObject *at, PyObject *a
         }
         if (status == WKT_OK) return PyUnicode_FromStringAndSize(out->items, (Py_ssize_t)out->used);
     }
+    memset(given->from, 0, sizeof given->from);
     return at == NULL ? NULL : PyObject_CallFunctionObjArgs(state->one_text, row, asked, at, NULL);
 }
 
@@ -118,6 +124,7 @@ PyObject *fast_from_arrays_rows(PyObject *self, PyObject *const *args, Py_ssize_
         if (!failed && since > 1 << 20) {
             failed = PyErr_CheckSignals() < 0;
             since = 0;
+            memset(given.from, 0, sizeof given.from);
         }
     }
     for (int i = 0; i < 3; i++) free(given.three[i].items);

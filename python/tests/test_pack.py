@@ -272,6 +272,21 @@ class Liars(unittest.TestCase):
             with self.assertRaises(TypeError):
                 call(rows if call is not wkt.from_arrays else [wkt.to_arrays("POINT(1 2)"), *rows[5:]])
 
+    def test_shared_arrays_that_change(self):
+        """A row whose numbers are code changes the rings that it shares with the rows around it."""
+        rings = array.array("Q", [0, 2])
+
+        class Numbers:
+            def tolist(self):
+                rings[1] = 1
+                return [5, 6]
+
+        line = wkt.Arrays("LineString", "XY", array.array("q", [1, 2, 3, 4]), rings, array.array("Q", [0, 1]), 0)
+        self.assertEqual(wkt.from_arrays([line, line]), ["LINESTRING(1 2,3 4)"] * 2)
+        with self.assertRaises(wkt.WktError) as raised:
+            wkt.from_arrays([line, line, line._replace(numbers=Numbers()), line])
+        self.assertEqual((raised.exception.row, raised.exception.status), (3, 26))
+
     def test_arrays_of_another_size(self):
         """An Arrays that is made behind the back of its class, and buffers of other items."""
         for count in range(6):
