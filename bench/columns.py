@@ -2,6 +2,9 @@
 
 columns.py sizes: the same for lists of rows of 33 bytes to 90 KB, 8 to 16 MB in all, beside a loop of single calls.
 
+columns.py threads [ROWS]: threads over parts of one column of Arrow: the least time by the clock, and what a thread
+spends on a processor, waiting for one, and waiting for something else, such as the lock of the interpreter.
+
 Each row of the table is a process of its own: the seconds are the least of three calls, and the memory is the peak of
 the first call above what stood before it. Shapely 1.8 has a call a row, so it gets FEW rows (by default a tenth), and
 its figures are scaled up. It needs NumPy and pandas, and Shapely for its rows.
@@ -43,6 +46,15 @@ def shared_by(rows):
     return wkt.ArrowTexts(few.data, few.offsets, numpy.zeros(rows, numpy.uint32), None, indices)
 
 
+def unshared(texts):
+    """An Arrow column that is a dictionary, each of whose texts one row has."""
+    import numpy
+    import wkt
+
+    held = arrow_of(texts)
+    return wkt.ArrowTexts(held.data, held.offsets, held.statuses, None, numpy.arange(len(texts), dtype=numpy.int32))
+
+
 def tasks():
     """Of each task its name, what is made before, and what is measured."""
     import wkt
@@ -76,6 +88,7 @@ def tasks():
         "canonical, Series": (series_of, wkt.canonical),
         "canonical, Arrow's buffers": (arrow_of, wkt.canonical),
         "canonical, Arrow's dictionary": (lambda texts: shared_by(len(texts)), wkt.canonical),
+        "canonical, Arrow's dictionary of all different": (unshared, wkt.canonical),
         "keys of GeoArrow": (lambda texts: arrays_of(texts).geoarrow(6), wkt.keys),
         "same, two lists": (lambda texts: (texts, spelled_otherwise(texts)), lambda two: wkt.same(*two)),
         "to arrays, list": (list, arrays_of),
@@ -148,6 +161,38 @@ def sizes():
         print("| %s, %d rows | %.3f | %.0f, %.0f MB | %.3f |" % shown, flush=True)
 
 
+def threads(rows=1_000_000):
+    import threading
+    import time
+    import wkt
+
+    def now():
+        with open("/proc/thread-self/schedstat", encoding="ascii") as times:
+            run, waits, _ = map(int, times.read().split())
+        return time.perf_counter_ns(), run, waits
+
+    def work(part, spent):
+        start = now()
+        wkt.canonical(part)
+        spent.append([after - before for before, after in zip(start, now())])
+
+    column = arrow_of(texts_of(rows))
+    print("| threads | least by the clock | of each on a processor | waiting for one | for something else |")
+    print("|---|---|---|---|---|")
+    for count in (1, 2, 4):
+        cuts, spent, least = [rows * i // count for i in range(count + 1)], [], 1e9
+        parts = [column[first:last] for first, last in zip(cuts, cuts[1:])]
+        for _ in range(40):
+            made = [threading.Thread(target=work, args=(part, spent)) for part in parts]
+            start = time.perf_counter()
+            for call in (threading.Thread.start, threading.Thread.join):
+                list(map(call, made))
+            least = min(least, time.perf_counter() - start)
+        clock, run, waits = (sum(each) / len(spent) / 1e6 for each in zip(*spent))
+        shown = count, 1000 * least, run, waits, clock - run - waits
+        print("| %d | %.0f ms | %.1f | %.1f | %.1f |" % shown, flush=True)
+
+
 def measure(name, rows):
     known = shapely_tasks() if name.startswith("Shapely") else tasks()
     prepare, call = known[name]
@@ -187,6 +232,8 @@ def main(rows=1_000_000, few=None):
 if __name__ == "__main__":
     if sys.argv[1:] == ["sizes"]:
         sizes()
+    elif sys.argv[1:2] == ["threads"]:
+        threads(*map(int, sys.argv[2:]))
     elif len(sys.argv) == 3 and not sys.argv[1].isdigit():
         measure(sys.argv[1], sys.argv[2])
     else:
