@@ -127,8 +127,11 @@ class Words(unittest.TestCase):
             ("\ufeffPOINT(1 2)", "byte_order_mark"), ("0101000000", "hexadecimal"), ("SRID=4326;POINT(1 2)", "srid"),
             ("CIRCULARSTRING(1 2)", "curve"), ("TIN EMPTY", "surface"), ("POINT(1e5 2)", "exponent"),
             ("POINT(nan 2)", "no_number"), ("POINT(1.1234567 2)", "places"), ("POINT(%s 2)" % ("9" * 40), "large"),
-            ("POINT(1 2 3)", "dimension"), ("POINT()", "empty"), ("POINT(1 2) x", "not_whole"),
-            ("", "expected_kind"), ("GEOMETRYCOLLECTION(x", "expected_member"), ("POINT 1", "expected_dimension"),
+            ("POINT(1 2 3)", "dimension"), ("POINT()", "empty"), ("POINT(1,5 2,5)", "comma"), ("NULL", "missing"),
+            ("'POINT(1 2)'", "quotes"), ("POINT(1\u00a02)", "no_break_space"), ("POINT(\u22121 2)", "minus"),
+            ("BOX(1 2,3 4)", "box"), ('{"type":"Point"}', "braces"), ("(1 2)", "no_kind"), ("POINT 1 2", "parenthesis"),
+            ("POINT(1 2) x", "not_whole"),
+            ("", "expected_kind"), ("GEOMETRYCOLLECTION(x", "expected_member"), ("POINT x", "expected_dimension"),
             ("POINT Z x", "expected_opening"), ("MULTIPOINT(x", "expected_point"), ("LINESTRING(x", "expected_x"),
             ("POINT(1", "expected_y"), ("POINT Z(1 2", "expected_z"), ("POINT M(1 2", "expected_m"),
             ("LINESTRING(1 2", "expected_more"), ("POINT(1 2", "expected_closing"),
@@ -136,7 +139,8 @@ class Words(unittest.TestCase):
         for text, code in cases:
             for given in (text, text.encode()):
                 self.assertEqual(wkt.explain(given, places=6).code, code, text)
-        self.assertEqual({code.replace("expected_", "") for _, code in cases} - {"not_whole"},
+        self.assertEqual(wkt.explain("POINT(180 2)", places=36).code, "fewer")
+        self.assertEqual({"fewer", *(code.replace("expected_", "") for _, code in cases)} - {"not_whole"},
                          {*wkt._names.HINT_WORDS[1:], *wkt._names.EXPECTED_WORDS})  # fmt: skip
 
     def test_long_lines(self):
