@@ -1,5 +1,6 @@
 # Instructions a byte, for scripts that source this. They set `work`, a folder of theirs, `workloads`, and `lines`, where
 # lines.py is.
+# shellcheck shell=bash disable=SC2154
 
 # counted WORD..: what callgrind counts of a command, after flags of callgrind
 counted() {
