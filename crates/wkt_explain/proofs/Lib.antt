@@ -1,2 +1,3 @@
 pub mod StopsAreRefusals
+pub mod BehindNul
 mod Fewer

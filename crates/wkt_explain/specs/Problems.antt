@@ -1,6 +1,6 @@
 -- White space, whether a text is accepted, what follows its geometry, and what is told of a text in which the machine
 -- stops.
-use Rattle.std.specs.Prelude.{◌≡◌, ℕ, ◌≤◌, List, ◌++◌, length, drop, ◌<◌, Option, Bool, true, [], ◌∷◌, false}
+use Rattle.std.specs.Prelude.{◌≡◌, ℕ, ◌≤◌, List, ◌++◌, length, drop, ◌<◌, ◌⊎◌, Option, Bool, true, [], ◌∷◌, false}
 use Rattle.wkt_num.specs.Bytes.{White, AllWhite}
 use Rattle.wkt_read.specs.Lexemes.{StartsOther}
 use Rattle.wkt_read.specs.Front.{HasNoFront}
@@ -57,6 +57,10 @@ module _ {N : Type 0} (read : List ℕ → Option N) where
   abbrev pub IsProblem : Bool → List ℕ → Problem → Type 0
   IsProblem whole text (Refused r) = IsRefusalOf text r
   IsProblem whole text (Rest at) = (whole ≡ true) × HasRestFrom text at
+
+-- The bytes are the text, or the text, a NUL and more.
+abbrev pub IsWalkedFor : List ℕ → List ℕ → Type 0
+IsWalkedFor text walked = (walked ≡ text) ⊎ ((more : List ℕ) × (walked ≡ text ++ (0 ∷ more)))
 
 -- What is told of a text in which the machine stops. Only private contracts cite these words.
 

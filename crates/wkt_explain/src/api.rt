@@ -54,7 +54,7 @@ pub fn refusal<T: WktNum>(text: &str) -> Option<Refusal>
     ensures message { IfSome result (λ r. IsRefusedWith T.read text.now r.message) }
     ensures table { IfSome result (λ r. IsReportedAt T.read text.now r.start r.end r.expected r.message) }
 {
-    match walked(OfType::<T>::new(), text) {
+    match walked(OfType::<T>::new(), text, text) {
         Ok(_) => None,
         Err(why) => Some(why),
     }
@@ -92,7 +92,7 @@ pub fn explain_by<'a, N: Numbers>(numbers: N, text: &'a str) -> Option<Explanati
     ensures message { IfSome result (λ e. IsTextRefused (N.read numbers) text.now e.message.now) }
     ensures bad { IfSome result (λ e. e.message.now ≡ bad_number → HasBadNumber (N.read numbers) text.now) }
 {
-    let Err(found) = walked(numbers, text) else {
+    let Err(found) = walked(numbers, text, text) else {
         return None;
     };
     Some(Explanation {

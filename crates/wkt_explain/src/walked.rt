@@ -4,7 +4,7 @@ ghost use Rattle.wkt_read.specs.Front.{HasNoFront};
 ghost use Rattle.wkt_read.specs.Refusal.{IsRefusedWith};
 ghost use Rattle.wkt_read.specs.Explained.{EndsFront, IsRefusedAt, IsPart};
 ghost use Rattle.wkt_read.specs.Table.{IsReportedAt};
-ghost use Rattle.wkt_explain.specs.Problems.{IsPastWhite, EndsLexeme, IsTold, IsToldFirst};
+ghost use Rattle.wkt_explain.specs.Problems.{IsPastWhite, EndsLexeme, IsTold, IsToldFirst, IsWalkedFor};
 ghost use Rattle.wkt_events.specs.Remaining.{remaining_spanned};
 ghost use Rattle.wkt_machine.specs.View.{IsDark};
 ghost use Rattle.wkt_machine.specs.Goes.{IsStuck, StopsAt};
@@ -120,8 +120,10 @@ fn refused_first<N: Numbers>(numbers: N, text: &str) -> Option<Refusal>
     })
 }
 
-/// Where the geometry ends that the text begins with, or where the text is refused.
-pub(crate) fn walked<N: Numbers>(numbers: N, text: &str) -> Result<usize, Refusal>
+/// Where the geometry ends that the text begins with, or where the text is refused. The machine goes over `near`, which is
+/// the text, or the text, a NUL and more.
+pub(crate) fn walked<N: Numbers>(numbers: N, text: &str, near: &str) -> Result<usize, Refusal>
+    requires { IsWalkedFor text.now near.now }
     ensures front { IfOk result (λ end. EndsFront (N.read numbers) text.now end) }
     ensures within { IfOk result (λ end. end ≤ length text.now) }
     ensures no_front { OnErr result (HasNoFront (N.read numbers) text.now) }
@@ -133,7 +135,7 @@ pub(crate) fn walked<N: Numbers>(numbers: N, text: &str) -> Result<usize, Refusa
     if let Some(why) = refused_first(numbers, text) {
         return Err(why);
     }
-    match driven(numbers, text) {
+    match driven(numbers, near) {
         Ok(end) => Ok(end),
         Err((machine, at)) => Err(refusal_at(numbers, machine, text, at)),
     }
