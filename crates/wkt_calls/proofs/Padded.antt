@@ -1,4 +1,4 @@
--- What stands behind a NUL is in no front, and the status of a refused text is the number of its message.
+-- A short text before zeros, and the status of a refused text, which is the number of its message.
 use Rattle.std.proofs.Common.{◌≡◌, ◌+◌, ◌<◌, inl, inr, ℕ, zero, suc, get_or, replicate, take, drop, length-drop, IsUtf8, List, [], ◌∷◌, ◌++◌, Option, refl, sym, ap, ◌∙◌, subst, length, arith, ◌≤◌}
 use Rattle.std.specs.Str.{IsAscii}
 use Rattle.std.proofs.lemmas.List.{get_or-drop, length-replicate}
@@ -16,58 +16,11 @@ use Rattle.wkt_read.proofs.HeaderPlaces.{front-of-lexemes}
 use Rattle.wkt_read.proofs.OneForm.{taken_begin, front_one}
 use Rattle.wkt_read.proofs.Splits.{split_one}
 use Rattle.wkt_read.proofs.Placings.{spanned-split, spanned-ends}
-use Rattle.wkt_calls.specs.Calls.{IsWalkedFor}
+use Rattle.wkt_explain.specs.Problems.{IsWalkedFor}
 use Rattle.wkt_read.specs.Messages.{message_number}
 use Rattle.wkt_read.proofs.Refusals.{with_bad}
 use Rattle.wkt_calls.specs.Answer.{RefusesText}
 use Rattle.wkt_read.specs.declared.messages.Message.TheVariants as message
-
--- What stands behind a NUL is in no front.
-
-front-nul : (at : ℕ) (text more : List ℕ) → front at (text ++ (0 ∷ more)) ≡ front at text
-unfolding front class_of
-front-nul at [] more = refl
-front-nul at (b ∷ text) more = ap (λ r. joined (class_of b) b at r.0 r.1) (front-nul (suc at) text more)
-
-spanned-nul : (text more : List ℕ) → spanned (text ++ (0 ∷ more)) ≡ spanned text
-unfolding spanned_from
-spanned-nul text more = ap (λ r. after_run 0 r.0 r.1) (front-nul 0 text more)
-
--- some first lexemes with their ends
-split-spanned : (ps : List Spanned) (ls more : List Lexeme) → lexemes_of ps ≡ ls ++ more →
-    (given : List Spanned) × (later : List Spanned) × (ps ≡ given ++ later) × (lexemes_of given ≡ ls)
-split-spanned ps [] more e = ([], ps, refl, refl)
-split-spanned [] (l ∷ ls) more e = cc
-split-spanned (p ∷ ps) (l ∷ ls) more e =
-    let tail : lexemes_of ps ≡ ls ++ more = cc in
-    let (given, later, is, same) = split-spanned ps ls more tail in
-    (p ∷ given, later, cc, cc)
-
--- texts of the same lexemes have the same fronts
-same-front : {N : Type 0} (read : List ℕ → Option N) (a b : List ℕ) → spanned a ≡ spanned b → (v : Value N) (end : ℕ) → Front read a v end → Front read b v end
-same-front read a b e v end f =
-    let (more, is) = taken_begin a f.rest f.lexemes f.taken in
-    let (given, later, parts, same) = split-spanned (spanned a) f.lexemes more (split_one a _ _ (spanned-split a) is) in
-    let stands : StandFor read (lexemes_of given) v = subst (λ l. StandFor read l v) (sym same) f.reads in
-    let here : Front read a v (end_after 0 given) = front-of-lexemes read a given later v (subst (AreEnds a) parts (spanned-ends a)) stands in
-    let there : Front read b v (end_after 0 given) = front-of-lexemes read b given later v (subst (AreEnds b) (sym e ∙ parts) (spanned-ends b)) stands in
-    subst (Front read b v) (sym (front_one read a v v end (end_after 0 given) f here).1) there
-
--- a text, and what stands behind a NUL after it, have the same fronts
-module _ {N : Type 0} (read : List ℕ → Option N) (text walked : List ℕ) (walks : IsWalkedFor text walked) where
-  same-spanned : spanned walked ≡ spanned text
-  same-spanned = elim walks [ inl e ↦ ap spanned e | inr h ↦ ap spanned h.1 ∙ spanned-nul text h.0 ]
-
-  pub front-walked : (v : Value N) (end : ℕ) → Front read walked v end → Front read text v end
-  front-walked v end f = same-front read walked text same-spanned v end f
-
-  pub none-walked : HasNoFront read walked → HasNoFront read text
-  none-walked none v end f = none v end (same-front read text walked (sym same-spanned) v end f)
-
-  pub said-walked : (m : Message) → IsRefusedWith read walked m → IsRefusedWith read text m
-  said-walked m (ls, after, split, says) =
-      let same : lexemes_of (spanned text) ≡ ls = ap lexemes_of (sym same-spanned) ∙ split_one walked _ _ (spanned-split walked) split in
-      (ls, after, subst (IsSplit text) same (spanned-split text), says)
 
 -- where a front ends
 pub front-inside : {N : Type 0} (read : List ℕ → Option N) (text : List ℕ) (v : Value N) (end : ℕ) → Front read text v end → end ≤ length text

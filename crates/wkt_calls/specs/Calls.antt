@@ -12,10 +12,6 @@ use Rattle.wkt_lines.specs.Lines.{before_feed}
 
 -- What the calls for canonical texts answer.
 
--- The bytes are the text, or the text, a NUL and more. Only private contracts cite this.
-abbrev pub IsWalkedFor : List ℕ → List ℕ → Type 0
-IsWalkedFor text walked = (walked ≡ text) ⊎ ((more : List ℕ) × (walked ≡ text ++ (0 ∷ more)))
-
 module _ {N : Type 0} (read : List ℕ → Option N) (num : N → List ℕ) where
   -- The canonical text of the text's front stands at the front of a room; or the text has no front, and is refused with the message. Only private contracts cite this.
   abbrev pub WritesOrSaysWhy : List ℕ → List ℕ → Result (ℕ × ℕ) Message → Type 0

@@ -1,8 +1,9 @@
 //! The one text of what a text begins with.
-ghost use Rattle.std.specs.Prelude.{◌≡◌, ◌≢◌, ◌+◌, ◌*◌, ◌≤◌, ◌⊎◌, ℕ, IfOk, IsUtf8, true, false, take, drop, length, slice_index};
+ghost use Rattle.std.specs.Prelude.{◌≡◌, ◌≢◌, ◌+◌, ◌*◌, ◌≤◌, ◌⊎◌, ℕ, IfOk, IfSome, IfNone, IsUtf8, true, false, take, drop, length, slice_index};
 ghost use Rattle.std.specs.Str.{IsAscii};
 ghost use Rattle.wkt_num.specs.Bytes.{AllWhite};
-ghost use Rattle.wkt_calls.specs.Calls.{AnswersCanonical, IsWalkedFor, WritesAsked, WritesOrRefuses, WritesOrSaysWhy};
+ghost use Rattle.wkt_explain.specs.Problems.{IsWalkedFor};
+ghost use Rattle.wkt_calls.specs.Calls.{AnswersCanonical, WritesAsked, WritesOrRefuses, WritesOrSaysWhy};
 ghost use Rattle.wkt_calls.specs.Answer.{read_at, print_at, places_in, asks_whole, EndsAsAsked, IsHandedOut, HasNoRoom};
 
 use crate::asked::{ends_as_asked, places_of};
@@ -18,6 +19,8 @@ use wkt_read::Message;
 pub const SHORT: usize = 200;
 /// How long a text may be that is answered with the least room, since that is cleared for each call: most points are no longer.
 pub(crate) const SHORTEST: usize = 32;
+/// How long a text may be that is answered with little room: the polygon of `capi/bench/calls.sh` is no longer.
+const SHORTER: usize = 63;
 /// How many zeros stand behind a short text: what the machine looks at together.
 const BEHIND: usize = 32;
 
@@ -136,8 +139,28 @@ fn is_text(text: &[u8], near: &[u8]) -> bool
     is_utf8(text)
 }
 
-/// Writes the canonical text of what a short text begins with. The text is copied before zeros first, so that the
-/// machine sees 32 bytes at once up to its end.
+/// A short text, and the text before zeros, so that the machine sees 32 bytes at once up to its end; none where it isn't
+/// UTF-8. `near` is where it is copied to.
+#[inline(always)]
+pub(crate) fn before_zeros<'a>(text: &'a [u8], near: &'a mut [u8]) -> Option<(&'a str, &'a str)>
+    requires near { length text.now + 32 ≤ length near.old }
+    requires zeros { (i : ℕ) → slice_index near.old i ≡ 0 }
+    ensures text { IfSome result (λ r. r.0.now ≡ text.now) }
+    ensures walked { IfSome result (λ r. IsWalkedFor text.now r.1.now) }
+    ensures long { IfSome result (λ r. length r.1.now ≡ length text.now + 32) }
+    ensures none { IfNone result (IsUtf8 text.now → ⊥) }
+{
+    let n = text.len();
+    near[..n].copy_from_slice(text);
+    if !is_text(text, near) {
+        return None;
+    }
+    let walked = unsafe { str::from_utf8_unchecked(&near[..n + BEHIND]) };
+    let text = unsafe { str::from_utf8_unchecked(text) };
+    Some((text, walked))
+}
+
+/// Writes the canonical text of what a short text begins with.
 pub(crate) fn write_short(
     text: &[u8],
     asked: u32,
@@ -153,14 +176,10 @@ pub(crate) fn write_short(
     ensures bound { IfOk result (λ r. r.1 ≤ 2 * length text.now + 65) }
     ensures whole { length room.new ≡ length room.old }
 {
-    let n = text.len();
-    near[..n].copy_from_slice(text);
-    if !is_text(text, near) {
+    let Some((text, walked)) = before_zeros(text, near) else {
         return Err(NOT_TEXT);
-    }
-    let text = unsafe { str::from_utf8_unchecked(text) };
-    let walked = unsafe { str::from_utf8_unchecked(&near[..n + BEHIND]) };
-    write_in(text, walked, asked, &mut room[..2 * n + 129])
+    };
+    write_in(text, walked, asked, &mut room[..2 * text.len() + 129])
 }
 
 /// Copies out an answer to a text whose geometry ends there, if that is as asked for and there is room for it.
@@ -202,6 +221,9 @@ pub fn canonical_short(
 {
     if text.len() <= SHORTEST {
         return canonical_cleared::<64, 208>(text, asked, out, needed, end);
+    }
+    if text.len() <= SHORTER {
+        return canonical_cleared::<96, 256>(text, asked, out, needed, end);
     }
     canonical_cleared::<256, 544>(text, asked, out, needed, end)
 }

@@ -1,6 +1,7 @@
 -- The front of the text and of what is walked are the same, and so is the message.
 use Rattle.wkt_calls.specs.Answer.{read_at}
-use Rattle.wkt_calls.proofs.Padded.{front-walked, none-walked, said-walked, refused-with}
+use Rattle.wkt_explain.proofs.BehindNul.{front-walked, none-walked, said-walked}
+use Rattle.wkt_calls.proofs.Padded.{refused-with}
 use Rattle.wkt_calls.proofs.canonical.write_or_refuse.Goals as goal
 
 pub returns-in-Ok-clause-canonical : goal.returns-in-Ok-clause-canonical

@@ -1,0 +1,9 @@
+-- The bytes behind a short text are zeros.
+use Rattle.wkt_calls.proofs.Padded.{zeros-at, cleared-long}
+use Rattle.wkt_calls.proofs.explain.problem_cleared.Goals as goal
+
+pub before_zeros-requires-clause-near : goal.before_zeros-requires-clause-near
+before_zeros-requires-clause-near g c = cleared-long g.row.NEAR _ c.requires.near
+
+pub before_zeros-requires-clause-zeros : goal.before_zeros-requires-clause-zeros
+before_zeros-requires-clause-zeros g c = zeros-at g.row.NEAR
