@@ -233,6 +233,39 @@ static void test_refused_wholes(void) {
     CHECK(start == 7 && stop == 8 && message == 7 && expected == WKT_EXPECTED_Y);
 }
 
+/* Texts of every length up to 300 bytes, since short ones are copied before zeros. The text ends too early in a number, at
+ * its end; the last number isn't closed; the last byte isn't UTF-8; a NUL ends the geometry's text, and more follows. */
+static void test_lengths(void) {
+    size_t size, start, stop;
+    uint32_t message, expected;
+    for (size = 9; size < 300; size++) {
+        char text[301];
+        const uint8_t *bytes = (const uint8_t *)text;
+        memset(text, ' ', size);
+        memcpy(text, "POINT(1", 7);
+        text[size - 1] = '2';
+        message = expected = start = stop = 99;
+        CHECK(wkt_explain(bytes, size, 6, &message, &start, &stop, &expected) == WKT_OK && message == 7);
+        CHECK(start == size && stop == size && expected == WKT_EXPECTED_CLOSING);
+        text[size - 1] = '(';
+        CHECK(wkt_explain(bytes, size, 6, &message, &start, &stop, &expected) == WKT_OK && message == 7);
+        CHECK(start == size - 1 && stop == size && expected == WKT_EXPECTED_Y);
+        text[size - 1] = 'a';
+        CHECK(wkt_explain(bytes, size - 1, 6, &message, &start, &stop, &expected) == WKT_OK && start == size - 1);
+        text[size - 1] = '\xc3';
+        CHECK(wkt_explain(bytes, size, 6, &message, &start, &stop, &expected) == WKT_NOT_UTF8);
+        memcpy(text, "POINT(1 2)", size > 10 ? 10 : size);
+        if (size <= 10) continue;
+        text[size - 1] = '\0';
+        message = expected = start = stop = 99;
+        CHECK(wkt_explain(bytes, size, 6, &message, &start, &stop, &expected) == WKT_ACCEPTED);
+        CHECK(wkt_explain(bytes, size, 6 | WKT_WHOLE, &message, &start, &stop, &expected) == WKT_NOT_WHOLE);
+        CHECK(start == size - 1 && stop == size && message == 99 && expected == 99);
+        text[size - 1] = ' ';
+        CHECK(wkt_explain(bytes, size, 6 | WKT_WHOLE, &message, &start, &stop, &expected) == WKT_ACCEPTED);
+    }
+}
+
 static void test_words(void) {
     static const char *const messages[] = WKT_MESSAGES;
     static const char *const words[] = WKT_HINTS;
@@ -251,5 +284,6 @@ void test_explain(void) {
     test_no_hints();
     test_wholes();
     test_refused_wholes();
+    test_lengths();
     test_words();
 }
