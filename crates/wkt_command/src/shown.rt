@@ -2,13 +2,15 @@
 use std::fmt;
 use std::fmt::Formatter;
 
-/// Whether a character is shown as it is: it is no control but a tab, it doesn't turn or end the line, and it is seen.
-fn is_plain(c: char) -> bool {
+/// Whether a character is shown as it is: it is no control but a tab, no space but the usual one, and it is seen. The
+/// others are those of `HIDDEN` in `javascript/src/printable.js`.
+pub fn is_plain(c: char) -> bool {
     match c {
         '\t' => true,
-        '\u{202a}'..='\u{202e}' | '\u{2066}'..='\u{2069}' => false,
-        '\u{2028}' | '\u{2029}' | '\u{feff}' => false,
-        _ => !c.is_control(),
+        '\0'..='\x1f' | '\x7f'..='\u{a0}' | '\u{ad}' | '\u{61c}' | '\u{180e}' => false,
+        '\u{2000}'..='\u{200f}' | '\u{2028}'..='\u{202f}' | '\u{205f}'..='\u{206f}' => false,
+        '\u{3000}' | '\u{feff}' | '\u{fff9}'..='\u{fffb}' | '\u{e0000}'..='\u{e007f}' => false,
+        _ => true,
     }
 }
 
@@ -18,21 +20,28 @@ pub fn width(c: char) -> usize {
         _ if is_plain(c) => 1,
         '\0'..='\x7f' => 4,
         '\u{80}'..='\u{ff}' => 6,
-        _ => 8,
+        '\u{100}'..='\u{fff}' => 7,
+        '\u{1000}'..='\u{ffff}' => 8,
+        _ => 9,
     }
 }
 
-/// Writes a text in which the others are escaped, as `\x1b` or `\u{202e}`.
+/// Writes a character, if it isn't plain escaped, as `\x1b` or `\u{202e}`.
+pub fn write_shown_char<W: fmt::Write>(c: char, f: &mut Formatter<W>) -> fmt::Result {
+    let code = c as u32;
+    if is_plain(c) {
+        f.write_char(c)
+    } else if code < 128 {
+        write!(f, "\\x{code:02x}")
+    } else {
+        write!(f, "\\u{{{code:x}}}")
+    }
+}
+
+/// Writes a text, in which what isn't plain is escaped.
 pub fn write_shown<W: fmt::Write>(text: &str, f: &mut Formatter<W>) -> fmt::Result {
     for c in text.chars() {
-        let code = c as u32;
-        if is_plain(c) {
-            f.write_char(c)?;
-        } else if code < 128 {
-            write!(f, "\\x{code:02x}")?;
-        } else {
-            write!(f, "\\u{{{code:x}}}")?;
-        }
+        write_shown_char(c, f)?;
     }
     Ok(())
 }
