@@ -11,7 +11,7 @@
 #   > TEXT          a line that it writes on standard output; `> ...`: anything
 #   ! TEXT          the same on standard error
 #   ? STATUS        its status, if not 0
-# In a TEXT, \xHH is a byte, \\ a backslash, and \c at its end says that no end of a line follows.
+# In a TEXT and a FILE, \xHH is a byte and \\ a backslash; \c at a TEXT's end says that no end of a line follows.
 # Then, with REST=no without them: standard output that is full or closed, a line of 100 MB, progress, and completions.
 set -u
 cd "$(dirname "$0")/../.." || exit 1
@@ -60,7 +60,7 @@ for transcript in "$cases"/*.txt; do
         rest=${text:2}
         case $text in
             '# '*) run "$@" && begin "$rest" ;;
-            '= '*) file=data/$rest && mkdir -p "$(dirname "$dir/$file")" && : > "$dir/$file" ;;
+            '= '*) file=data/$(printf '%b' "$rest") && mkdir -p "$(dirname "$dir/$file")" && : > "$dir/$file" ;;
             '|'*) line "$file" "$rest" ;;
             '< '*' times '*) many stdin "${rest%% *}" "${rest#* times }" ;;
             '> '*' times '*) many stdout "${rest%% *}" "${rest#* times }" ;;
@@ -92,6 +92,19 @@ rest() {
     "$@" check "$dir/longer" > "$dir/stdout"
     [ $? = 1 ] && [ "$(wc -c < "$dir/stdout")" -lt 400 ] || fail "a line of 100 MB that is refused"
     rm -f "$dir/long" "$dir/longer"
+
+    # JSON gives back a name of any characters, and its lines have no other controls.
+    local odd file
+    odd=$(python3 -c 'print("".join(map(chr, [*range(1, 47), *range(48, 128), 0x9b, 0xa0, 0xe9, 0x202e, 0xe0001])), end="")')
+    file=$dir/$odd
+    echo x > "$file"
+    "$@" check --format json "$file" > "$dir/stdout" 2> "$dir/stderr"
+    python3 - "$file" "$dir/stdout" << 'END' || fail "a name in JSON"
+import json, sys
+written = open(sys.argv[2], encoding="utf-8").read()
+assert json.loads(written)["file"] == sys.argv[1] and written[:-1].isprintable() and written[-1] == "\n"
+END
+    rm -f "$file"
 
     # Progress is written over in place, and taken away at the end; without a terminal it comes only where it is asked for.
     { cat "$dir/many"; sleep 0.5; cat "$dir/many"; } | "$@" check --progress > "$dir/stdout" 2> "$dir/stderr"

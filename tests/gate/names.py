@@ -17,6 +17,7 @@ LIST = "docs/names.tsv"
 # Where the expectations and the hints have numbers.
 NUMBERED = "crates/wkt_calls/specs/Explained.antt"
 HINTS = "crates/wkt_explain/src/hint.rt"
+CAUSES = "crates/wkt_command/src/words.rt"
 # Which file has a table, and in which form.
 TABLES = {
     "include/wkt.h": "c",
@@ -247,6 +248,8 @@ def by_hand(groups):
     expected_numbers = [(row.name, str(row.number)) for row in groups["expected"]]
     hints = [(row.name, row.text) for row in groups["hint"] if row.text and "%u" not in row.text]
     with_places = [(row.name, row.text.replace("%u", "{places}")) for row in groups["hint"] if "%u" in row.text]
+    expected_causes = [(row.name, capitals(row.name).lower()) for row in groups["expected"]]
+    hint_causes = [(row.name, capitals(row.name).lower()) for row in groups["hint"] if row.number]
     hint_numbers = [(row.name, str(row.number)) for row in groups["hint"] if row.number]
     constants = [(row.constant, str(row.number)) for row in groups["status"] if row.constant]
     source, spec = "crates/wkt_read/src/messages.rt", "crates/wkt_read/specs/Messages.antt"
@@ -276,6 +279,8 @@ def by_hand(groups):
         (NUMBERED, "expectations", r"^expected_number expected\.(\w+) = (\d+)$", expected_numbers),
         (HINTS, "hints", r'Hint::(\w+) =>\s+"(.*)",$', hints),
         (HINTS, "hints with a number", r'Hint::(\w+)\(places\) => return write!\(f, "(.*)"\),$', with_places),
+        (CAUSES, "expectations", r'Expected::(\w+) => "expected_(\w+)",$', expected_causes),
+        (CAUSES, "hints", r'Hint::(\w+)(?:\(_\))? => "(\w+)",$', hint_causes),
         (NUMBERED, "hints", r"^hint_number \(Some \(?hint\.(\w+)(?: most\))?\) = (\d+)$", hint_numbers),
     ]
 

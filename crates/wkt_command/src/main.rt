@@ -15,12 +15,14 @@ mod part;
 mod place;
 mod progress;
 mod report;
+mod row;
 mod run;
 mod same;
 mod session;
 mod shown;
 mod usage;
 mod verdict;
+mod words;
 
 use std::process::ExitCode;
 

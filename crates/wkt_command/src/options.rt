@@ -37,10 +37,34 @@ pub enum Ends {
     File,
 }
 
+/// How `check` writes a refusal.
+#[derive(Clone, Copy, PartialEq, Eq, Debug)]
+pub enum Form {
+    /// For people: the place, what was expected there, and the line with a mark.
+    Text,
+    /// An object of JSON in a line.
+    Json,
+    /// Fields with tabs between them, in a line.
+    Tsv,
+}
+
+impl Form {
+    /// The form of this name.
+    pub fn named(word: &str) -> Option<Form> {
+        match word {
+            "text" => Some(Form::Text),
+            "json" => Some(Form::Json),
+            "tsv" => Some(Form::Tsv),
+            _ => None,
+        }
+    }
+}
+
 /// What a run was asked to do.
 #[derive(Drop)]
 pub struct Options {
     pub command: Command,
+    pub form: Form,
     /// How many digits a number may have after its point, 0 to 36.
     pub places: u32,
     pub ends: Ends,
@@ -65,6 +89,7 @@ impl Options {
     pub fn new(alloc: Global, command: Command) -> Options {
         Options {
             command,
+            form: Form::Text,
             places: 18,
             ends: Ends::Line,
             part: None,

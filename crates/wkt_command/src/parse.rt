@@ -1,5 +1,5 @@
 //! The arguments of a run.
-use crate::options::{Command, Ends, Options};
+use crate::options::{Command, Ends, Form, Options};
 use crate::part::Part;
 use crate::usage::UsageError;
 use std::alloc::{AllocError, Global};
@@ -21,6 +21,7 @@ enum Flag {
     Refused,
     SkipBlank,
     Part,
+    Format,
     Max,
     Quiet,
     Progress,
@@ -48,7 +49,7 @@ const fn option(flag: Flag, letter: char, word: &'static str, takes_value: bool)
 }
 
 // An option with no letter has a blank.
-fn rows() -> [Row; 13] {
+fn rows() -> [Row; 14] {
     [
         option(Flag::Places, 'p', "places", true),
         option(Flag::Whole, 'w', "whole", false),
@@ -57,6 +58,7 @@ fn rows() -> [Row; 13] {
         option(Flag::Refused, ' ', "refused", true),
         option(Flag::SkipBlank, ' ', "skip-blank", false),
         option(Flag::Part, ' ', "part", true),
+        option(Flag::Format, ' ', "format", true),
         option(Flag::Max, 'n', "max", true),
         option(Flag::Quiet, 'q', "quiet", false),
         option(Flag::Progress, ' ', "progress", false),
@@ -72,7 +74,7 @@ impl Flag {
         match self {
             Flag::Places | Flag::Quiet | Flag::Help | Flag::Version => true,
             Flag::Refused => matches!(command, Command::Canon | Command::Kind),
-            Flag::Max => matches!(command, Command::Check),
+            Flag::Format | Flag::Max => matches!(command, Command::Check),
             // Another part may name the same geometry.
             Flag::Part => matches!(command, Command::Check | Command::Canon | Command::Kind),
             Flag::Whole
@@ -253,6 +255,7 @@ fn set(
         Flag::Help => return Ok(Some(Request::Help)),
         Flag::Version => return Ok(Some(Request::Version)),
         Flag::Places => options.places = places(alloc, value)?,
+        Flag::Format => options.form = form(alloc, value)?,
         Flag::Max => options.max = max(alloc, value)?,
         Flag::Whole => options.ends = ends(options.ends, Ends::File)?,
         Flag::Null => options.ends = ends(options.ends, Ends::Nul)?,
@@ -286,6 +289,13 @@ fn max(alloc: Global, value: &str) -> Result<u64, UsageError> {
     match value.parse::<u64>() {
         Ok(n) => Ok(n),
         Err(_) => Err(UsageError::Max(copy(alloc, value)?)),
+    }
+}
+
+fn form(alloc: Global, value: &str) -> Result<Form, UsageError> {
+    match Form::named(value) {
+        Some(form) => Ok(form),
+        None => Err(UsageError::Format(copy(alloc, value)?)),
     }
 }
 

@@ -2,8 +2,11 @@
 ghost use Rattle.std.specs.Prelude.{◌≡◌, ◌++◌, ◌+◌, ◌-◌, ◌^◌, min, take, OnOk, string_bytes};
 ghost use Rattle.wkt_command.specs.Place.{line_after, place_text, utf8_text};
 
+use crate::options::Ends;
 use crate::place::{Excerpt, byte_after, place_after};
-use std::alloc::AllocError;
+use crate::progress::Tally;
+use crate::verdict::written;
+use std::alloc::{AllocError, Global};
 use std::fmt;
 use std::fmt::Formatter;
 use wkt_explain::Explanation;
@@ -25,7 +28,7 @@ impl<'a> Origin<'a> {
     }
 
     /// The number of the line behind these bytes of the text.
-    fn line_after(self, before: &[u8]) -> u64
+    pub fn line_after(self, before: &[u8]) -> u64
         ensures { result ≡ line_after self.entry.line before.now }
     {
         self.line(place_after(before).line)
@@ -39,10 +42,12 @@ pub enum TextRefusal<'a> {
     Text(Explanation<'a>),
     /// More than white space follows its geometry, which ends at this byte.
     Rest(&'a str, usize),
+    /// It isn't UTF-8 behind these bytes.
+    NotUtf8(&'a [u8]),
 }
 
 /// The first place from here on where no white space stands.
-fn past_white(text: &str, from: usize) -> usize {
+pub fn past_white(text: &str, from: usize) -> usize {
     let rest = text.as_bytes().get(from..).unwrap_or(&[]);
     let blanks = rest.iter().position(|byte| !is_white(*byte)).unwrap_or(0);
     from.saturating_add(blanks)
@@ -78,34 +83,69 @@ pub fn push_refusal(
             let rest = past_white(text, end);
             (text, rest, rest)
         }
+        TextRefusal::NotUtf8(before) => return push_not_utf8(out, origin, before),
     };
-    let bytes = text.as_bytes();
-    push_place(out, origin, bytes.get(..start).unwrap_or(bytes))?;
-    match refusal {
-        TextRefusal::Text(why) => {
-            let expected = why.expected;
-            write!(out, "{expected} was expected")?;
-            if let Some(hint) = why.hint(places) {
-                write!(out, " ({hint})")?;
-            }
+    push_place(out, origin, written(text.as_bytes(), start))?;
+    push_message(out, refusal)?;
+    if let TextRefusal::Text(why) = refusal {
+        if let Some(hint) = why.hint(places) {
+            write!(out, " ({hint})")?;
         }
-        TextRefusal::Rest(_, _) => out.push_str("more follows the geometry")?,
     }
     let excerpt = Excerpt::around(text, start, end);
     write!(out, "\n{excerpt}")
+}
+
+/// Adds why a text is refused, without the hint.
+///
+/// # Errors
+/// Out of memory.
+pub fn push_message(out: &mut String, refusal: TextRefusal<'_>) -> Result<(), AllocError> {
+    match refusal {
+        TextRefusal::Text(why) => {
+            let expected = why.expected;
+            write!(out, "{expected} was expected")
+        }
+        TextRefusal::Rest(_, _) => out.push_str("more follows the geometry"),
+        TextRefusal::NotUtf8(before) => {
+            let byte = byte_after(before);
+            write!(out, "not UTF-8 at byte {byte} of the line")
+        }
+    }
 }
 
 /// Adds that a text isn't UTF-8 behind these bytes of it.
 ///
 /// # Errors
 /// Out of memory.
-pub fn push_not_utf8(out: &mut String, origin: Origin<'_>, before: &[u8]) -> Result<(), AllocError>
+fn push_not_utf8(out: &mut String, origin: Origin<'_>, before: &[u8]) -> Result<(), AllocError>
     ensures { OnOk result (string_bytes out.new ≡ string_bytes out.old ++ utf8_text origin.entry.name.now origin.entry.line before.now) }
 {
     let name = origin.name;
     let line = origin.line_after(before);
     let byte = byte_after(before);
     write!(out, "{name}:{line}: not UTF-8 at byte {byte} of the line\n")
+}
+
+/// How many texts were refused, in a line; of the first ones, where the run ended before the others.
+///
+/// # Errors
+/// Out of memory.
+pub fn count_line(
+    alloc: Global,
+    tally: Tally,
+    ends: Ends,
+    is_over: bool,
+) -> Result<String, AllocError> {
+    let refused = Thousands(tally.refused);
+    let texts = Thousands(tally.texts);
+    let what = match ends {
+        Ends::Line => "line",
+        _ => "text",
+    };
+    let first = if is_over { "the first " } else { "" };
+    let plural = if tally.texts == 1 { "" } else { "s" };
+    format!(in alloc; "{refused} of {first}{texts} {what}{plural} refused\n")
 }
 
 /// A number with commas between its thousands.

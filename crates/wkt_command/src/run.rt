@@ -6,15 +6,16 @@ ghost use Rattle.wkt_lines.specs.Reading.{to_come};
 ghost use Rattle.wkt_command.specs.Canon.{out_bytes, refused_line, text_of, IsSkipped, Canonizes, CanonizesAll};
 ghost use Rattle.wkt_command.specs.declared.options.Command.TheVariants.{Canon};
 
-use crate::csv::looks_like_row;
+use crate::csv::Tables;
 use crate::dups::{Seen, put_again};
 use crate::error::CommandError;
 use crate::input::{Input, NulLines, shown_name, swap_ends};
-use crate::options::{Command, Ends, Options};
+use crate::options::{Command, Ends, Form, Options};
 use crate::output::{Output, put_canonical, put_kinds, put_refused};
 use crate::place::place_after;
 use crate::progress::{Progress, Tally};
-use crate::report::{Origin, TextRefusal, Thousands, push_not_utf8, push_refusal};
+use crate::report::{Origin, TextRefusal, count_line};
+use crate::row::push_in_form;
 use crate::shown::Shown;
 use crate::verdict::{Verdict, verdict_at, whole_lines_at, written};
 use std::alloc::{AllocError, Global};
@@ -37,9 +38,7 @@ pub struct Run<'a, W: Write + Drop> {
     seen: Seen,
     tally: Tally,
     progress: Progress,
-    // Whether a refused line of the file looks like a row of a table, and whether the run has said so.
-    is_table: bool,
-    is_told: bool,
+    tables: Tables,
     // The number of the file that is read, and the number of its next text's first line.
     file: usize,
     line: u64,
@@ -63,8 +62,7 @@ impl<'a> Run<'a, Stdout> {
                 refused: 0,
             },
             progress: Progress::new(rt, Some(false), 0),
-            is_table: false,
-            is_told: false,
+            tables: Tables::new(),
             file: 0,
             line: 1,
         })
@@ -109,7 +107,10 @@ impl<'a, W: Write + Drop> Run<'a, W> {
         self.file = file;
         let shown = Shown(shown_name(self.options.operands.get(file)));
         let shown = format!(in self.alloc; "{shown}")?;
-        let name = shown.as_str();
+        let name = match self.options.form {
+            Form::Text => shown.as_str(),
+            _ => name,
+        };
         let source = Counted::new(input);
         let read = match self.options.ends {
             Ends::Line => self.read_lines(rt, name, Lines::new(self.alloc, source)),
@@ -117,24 +118,15 @@ impl<'a, W: Write + Drop> Run<'a, W> {
             Ends::File => self.read_whole(rt, name, source),
         };
         self.progress.wipe(rt);
-        if self.is_table {
-            self.is_table = false;
-            self.tell_of_table(name)?;
-        }
-        let _ = self.aside.finish();
-        read
-    }
-
-    /// Says once what reads a table.
-    fn tell_of_table(&mut self, name: &str) -> Result<(), AllocError> {
-        if !self.is_told {
-            self.is_told = true;
+        if self.tables.is_first() {
+            let shown = shown.as_str();
             let words = format!(in self.alloc;
-                "wkt: {name} looks like comma-separated values: python3 -m wkt.table reads a column of them\n"
+                "wkt: {shown} looks like comma-separated values: python3 -m wkt.table reads a column of them\n"
             )?;
             let _ = self.aside.put(words.as_bytes());
         }
-        Ok(())
+        let _ = self.aside.finish();
+        read
     }
 
     // Where texts end at a NUL, `NulLines` has swapped it with the line feed, which is undone for each text.
@@ -326,7 +318,8 @@ impl<'a, W: Write + Drop> Run<'a, W> {
             Ok(text) => text,
             Err(error) => {
                 let before = text.get(..error.valid_up_to()).unwrap_or(text);
-                push_not_utf8(&mut self.report, origin, before)?;
+                let refusal = TextRefusal::NotUtf8(before);
+                push_in_form(&mut self.report, self.alloc, self.options, origin, refusal)?;
                 return self.refuse(rt);
             }
         };
@@ -368,10 +361,11 @@ impl<'a, W: Write + Drop> Run<'a, W> {
             (refused_line self.old.options.now.refused)) }
     {
         if !self.options.quiet {
-            push_refusal(&mut self.report, origin, refusal, self.options.places)?;
+            push_in_form(&mut self.report, self.alloc, self.options, origin, refusal)?;
             if let TextRefusal::Text(why) = refusal {
-                let lines = self.options.ends == Ends::Line;
-                self.is_table = self.is_table || lines && looks_like_row(why.text.as_bytes());
+                if self.options.ends == Ends::Line {
+                    self.tables.look(why.text.as_bytes());
+                }
             }
         }
         self.refuse(rt)
@@ -427,8 +421,9 @@ impl<'a, W: Write + Drop> Run<'a, W> {
     /// Standard output fails, or out of memory.
     pub fn finish(&mut self) -> Result<(), CommandError> {
         if !self.options.quiet {
-            let count = self.count()?;
-            if self.options.command == Command::Check {
+            let options = self.options;
+            let count = count_line(self.alloc, self.tally, options.ends, self.is_over())?;
+            if options.command == Command::Check && options.form == Form::Text {
                 self.out
                     .put(count.as_bytes())
                     .map_err(CommandError::output)?;
@@ -446,18 +441,5 @@ impl<'a, W: Write + Drop> Run<'a, W> {
     /// Standard output fails.
     pub fn put_out(&mut self) -> Result<(), CommandError> {
         self.out.finish().map_err(CommandError::output)
-    }
-
-    fn count(&self) -> Result<String, CommandError> {
-        let refused = Thousands(self.tally.refused);
-        let texts = Thousands(self.tally.texts);
-        let what = match self.options.ends {
-            Ends::Line => "line",
-            _ => "text",
-        };
-        let first = if self.is_over() { "the first " } else { "" };
-        let plural = if self.tally.texts == 1 { "" } else { "s" };
-        let text = format!(in self.alloc; "{refused} of {first}{texts} {what}{plural} refused\n")?;
-        Ok(text)
     }
 }

@@ -29,6 +29,7 @@ Each line of a FILE is a text of well-known text. With no FILE, or where FILE is
   --skip-blank      pass over texts of white space alone, which are refused without it
   --part I/N        check, canon, kind: read the I-th of N parts of each FILE, whole lines, so that N runs read it
                     at once. Together the parts are the FILE
+  --format FORM     check: write each refusal as text, json (an object in a line) or tsv (fields between tabs)
   -n, --max N       check: end after N refusals (100); 0: no limit
   -q, --quiet       print no refusals: canon, kind and dups write their answers alone, check and same nothing
   --progress, --no-progress
@@ -39,6 +40,9 @@ Each line of a FILE is a text of well-known text. With no FILE, or where FILE is
 
 check writes FILE:LINE:COLUMN, what was expected there, the line and a mark below the place. The other commands write
 that on standard error. LINE and COLUMN count from 1, COLUMN in characters.
+
+With --format json or tsv the fields are file, line, start, end, expected, cause, hint and message. START and END are
+bytes of the line, from 0; CAUSE is one stable word, to group by. How many were refused comes on standard error.
 
 Status 0: every text was read; for same, the texts name one geometry. 1: a text was refused; for same, they name two
 geometries. 2: wrong usage, a file that can't be read, output that can't be written, out of memory; for same, a text
@@ -64,6 +68,8 @@ pub enum UsageError {
     Places(String),
     #[error("--max takes a number, not {0}")]
     Max(String),
+    #[error("--format takes text, json or tsv, not {0}")]
+    Format(String),
     #[error("--part takes a part of so many, as 2/4, not {0}")]
     Part(String),
     #[error("--part goes with lines of FILEs")]

@@ -15,6 +15,10 @@ _wkt() {
             mapfile -t COMPREPLY < <(compgen -W 'skip refused' -- "$word")
             return
             ;;
+        --format)
+            mapfile -t COMPREPLY < <(compgen -W 'text json tsv' -- "$word")
+            return
+            ;;
         --part)
             mapfile -t COMPREPLY < <(compgen -W '1/4 2/4 3/4 4/4' -- "$word")
             return
@@ -27,7 +31,7 @@ _wkt() {
         *) words+=' --whole --null --front --skip-blank --progress --no-progress' ;;
     esac
     case ${COMP_WORDS[1]} in
-        check) words+=' --max --part' ;;
+        check) words+=' --format --max --part' ;;
         canon | kind) words+=' --refused --part' ;;
     esac
     if [[ $word == -* ]]; then
