@@ -13,9 +13,11 @@ DECLARE
     statements pg_catalog.text[] := ARRAY[
         'CREATE FUNCTION %3$s.wkt(%1$s.geometry) RETURNS %2$s.wkt LANGUAGE sql IMMUTABLE STRICT PARALLEL SAFE COST 50
             RETURN %1$s.ST_AsText($1, 25)::%2$s.wkt',
+        'COMMENT ON FUNCTION %3$s.wkt(%1$s.geometry) IS $$the text of a geometry, with every digit of its doubles$$',
         'CREATE CAST (%1$s.geometry AS %2$s.wkt) WITH FUNCTION %3$s.wkt(%1$s.geometry)',
         'CREATE FUNCTION %3$s.geometry(%2$s.wkt) RETURNS %1$s.geometry LANGUAGE sql IMMUTABLE STRICT PARALLEL SAFE COST 50
             RETURN %1$s.ST_GeomFromText($1::pg_catalog.text)',
+        'COMMENT ON FUNCTION %3$s.geometry(%2$s.wkt) IS $$the geometry of a text, without an SRID$$',
         'CREATE CAST (%2$s.wkt AS %1$s.geometry) WITH FUNCTION %3$s.geometry(%2$s.wkt)'];
     statement pg_catalog.text;
 BEGIN

@@ -50,6 +50,9 @@ strangers="with member as (select * from pg_depend where deptype = 'e')
     from pg_depend d join member m using (classid, objid) join pg_extension e on e.oid = m.refobjid and extname in ('wkt', 'wkt_postgis')
     where d.refclassid not in ('pg_extension'::regclass, 'pg_namespace'::regclass)
         and not exists (select from member r where r.classid = d.refclassid and r.objid = d.refobjid)"
+# The extensions' functions that no comment describes, or that may not run in parallel.
+bare="select p.oid::regprocedure from pg_proc p join pg_depend d on classid = 'pg_proc'::regclass and objid = p.oid and deptype = 'e'
+    join pg_extension e on e.oid = refobjid and extname in ('wkt', 'wkt_postgis') where proparallel <> 's' or obj_description(p.oid, 'pg_proc') is null order by 1"
 # used SCHEMA-OF-wkt: a superuser uses what is there
 used() {
     PGOPTIONS="-c search_path=m,pg_catalog -c client_min_messages=warning" ask rented "drop table if exists public.held" "create table public.held (at $1.wkt primary key, g public.geometry)" "insert into public.held values ('point(1 2.0)', 'POINT(1 2)')" \
@@ -60,6 +63,7 @@ for version in $(ask rented "select version from pg_available_extension_versions
         "alter extension wkt update" "create extension wkt_postgis schema m" 2>&1 | grep -v 'already installed$')"
     is "tenant: $version: the casts" "t|t" "$(used m)"
     is "tenant: $version: what is named" "" "$(ask rented "$strangers")"
+    is "tenant: $version: functions without a comment, or not parallel safe" "" "$(ask rented "$bare")"
     is "tenant: $version: is no superuser" f "$(ask rented "select rolsuper from pg_roles where rolname = 'tenant'")"
     ask rented "drop extension wkt cascade" "drop table if exists m.kept" "alter role tenant nosuperuser" 2> /dev/null
 done
