@@ -3,8 +3,9 @@
 #
 # FOLDER as test.sh has it. It needs PostGIS too. ROWS is how many points there are (a million without it); the long
 # texts have twice as many bytes as a million points have, in lines of 2,271 bytes on average, and compress to 60 %.
-# Of each line two times are given, the least of three runs: seconds of the server's processor time, which what else the
-# machine does hardly changes, and of the clock.
+# Of each line two times are given, the least of three runs: seconds of the server's processor time, and of the clock.
+# COUNT=yes gives millions of instructions instead, by callgrind, which nothing else on the machine changes. It takes some
+# fifty times as long, so give it 20000 ROWS.
 set -eu
 . "$(dirname "$0")/server.sh"
 library "${1:-}"
@@ -21,9 +22,25 @@ chmod 644 "$dir/points" "$dir/mixed"
 
 echo "$(git -C "$root" describe --always --dirty 2> /dev/null), $(nproc) processors$(sed -n 's/^model name[^:]*:/,/p' /proc/cpuinfo | head -n 1)"
 sql -At -c "select 'PostgreSQL ' || current_setting('server_version'), 'PostGIS ' || postgis_lib_version()"
+# table NAME: the head of a table
+table() {
+    if [ -n "${COUNT:-}" ]; then printf '\n| %s | million instructions |\n|---|---|\n' "$1"; else printf '\n| %s | server | clock |\n|---|---|---|\n' "$1"; fi
+}
+# counted NAME SETUP STATEMENT: a row of the table, by a server for one session. The statement is run twice, since the first
+# run also loads libraries; callgrind writes what it counted before each statement, and the eighth is the second rollback.
+counted() {
+    local twice=("begin;" "${2:-;}" "$3" "rollback;")
+    as "$bin/pg_ctl" -D data -m fast stop > /dev/null
+    rm -f counted*
+    printf '%s\n' "${twice[@]}" "${twice[@]}" | as valgrind --tool=callgrind --dump-before=pg_parse_query --callgrind-out-file=counted \
+        "$bin/postgres" --single -D data "${server_flags[@]}" postgres > "$dir/err" 2>&1
+    printf '| %s | %s |\n' "$1" "$(sed -n 's/.*ERROR: */fails: /p' "$dir/err" | grep -m 1 . || awk '/^summary:|^totals:/ { printf "%.1f", $2 / 1e6; exit }' counted.8)"
+    as "$bin/pg_ctl" -D data -w -o "-k $PGHOST -h '' -F ${server_flags[*]}" -l log start > /dev/null
+}
 # measured NAME SETUP STATEMENT: a row of the table, the statement in a transaction that is rolled back
 measured() {
     local took=
+    [ -z "${COUNT:-}" ] || { counted "$@"; return; }
     for _ in 1 2 3; do
         took+=$(printf '%s\n' "begin;" "select pg_backend_pid() as pid \\gset" "\\setenv PID :pid" "$2" \
             "\\! awk '{ print \"cpu\", \$14 + \$15 }' /proc/\$PID/stat" '\timing on' "$3" '\timing off' \
@@ -41,10 +58,10 @@ measured() {
 copied() { measured "$1" "$4 create table t ($2);" "copy t (g) from '$dir/$3';"; }
 lz4="set local default_toast_compression = lz4;"
 # Squares of a hundredth of a degree, as many as a quarter of the points.
-sql -c "create table squares as select s as g, s::wkt as w, s::geometry as p from (select format('POLYGON((%s %s,%s %s,%s %s,%s %s,%s %s))', x, y, x + a, y, x + a, y + a, x, y + a, x, y) s
-    from (select (random() * 360 - 180)::numeric(9,6) x, (random() * 180 - 90)::numeric(9,6) y, 0.01 a from generate_series(1, $((rows / 4)))) c) t" -c "analyze squares"
+sql -c "select setseed(0.5)" -c "create table squares as select s as g, s::wkt as w, s::geometry as p from (select format('POLYGON((%s %s,%s %s,%s %s,%s %s,%s %s))', x, y, x + a, y, x + a, y + a, x, y + a, x, y) s
+    from (select (random() * 360 - 180)::numeric(9,6) x, (random() * 180 - 90)::numeric(9,6) y, 0.01 a from generate_series(1, $((rows / 4)))) c) t" -c "analyze squares" > /dev/null
 alone="set local max_parallel_workers_per_gather = 0;"
-printf '\n| %s of squares | server | clock |\n|---|---|---|\n' $((rows / 4))
+table "$((rows / 4)) of squares"
 for memory in 4MB 256MB; do
     for column in w p; do
         measured "order by $column, $(sql -At -c "select format_type(atttypid, -1) from pg_attribute where attrelid = 'squares'::regclass and attname = '$column'"), work_mem $memory" \
@@ -58,7 +75,7 @@ measured "count(value) from wkt_read(g)" "$alone" "select count(value) from squa
 measured "count(wkt_or_null(g))" "$alone" "select count(wkt_or_null(g)) from squares;"
 sql -c "drop table squares"
 for what in points mixed; do
-    printf '\n| %s of %s: COPY into | server | clock |\n|---|---|---|\n' "$(wc -l < "$dir/$what")" "$what"
+    table "$(wc -l < "$dir/$what") of $what: COPY into"
     copied "text" "g text" $what ""
     copied "wkt" "g wkt" $what ""
     copied "wkt(6)" "g wkt(6)" $what ""
@@ -81,7 +98,7 @@ for what in points mixed; do
         copied "text, and a generated column of geometry by ST_GeomFromText, both with lz4" "g text, k geometry generated always as (ST_GeomFromText(g)) stored" $what "$lz4"
     fi
     sql -c "create table t (g text)" -c "copy t from '$dir/$what'" -c "analyze t"
-    printf '\n| %s of %s: SELECT | server | clock |\n|---|---|---|\n' "$(wc -l < "$dir/$what")" "$what"
+    table "$(wc -l < "$dir/$what") of $what: SELECT"
     measured "sum(length(g))" "$alone" "select sum(length(g)) from t;"
     measured "sum(length(wkt_canonical(g)))" "$alone" "select sum(length(wkt_canonical(g))) from t;"
     measured "count(*) where wkt_reads(g)" "$alone" "select count(*) from t where wkt_reads(g);"
