@@ -14,6 +14,9 @@ is "queries: the rejects" "" "$(ask page "table rejects")"
 ask page "insert into lines (t) values ('point(3 4.0)'), ('POINT(3'), ('POINT(3 4)'), (null)" "$(sed -n '/^WITH read/,/;$/p' "$here/README.md")"
 is "queries: loaded" "POINT(1 2) POINT(3 4)" "$(ask page "select at from places order by at" | paste -sd ' ')"
 is "queries: refused" "2 8 expected_y,4  " "$(ask page "select format('%s %s %s', n, place, cause) from rejects order by n" | paste -sd ,)"
+# A text that is too long is refused by the domain before the generated column reads it.
+fails page "insert into received values (repeat('x', 1000001))" 'value for domain short_text violates check constraint'
+is "queries: a short text" "POINT(1 2)" "$(ask page "insert into received values ('point(1.0 2)') returning key")"
 # Extents: exact, by the index, and nothing for what is empty.
 ask page "insert into places select 10 + n, at::wkt from unnest('{POINT EMPTY,MULTIPOINT(EMPTY),\"LINESTRING(5.000001 0,6 1)\",\"POLYGON((-1 5,-2 6,0 7,-1 5))\",\"POLYGON((0 5,9 5,9 9,0 5))\"}'::text[])
     with ordinality a(at, n)"
