@@ -17,7 +17,7 @@ session() {
     } | "$bin/psql" -X -q -At -d cancel > "$dir/said" 2>&1 || true
 }
 # meanwhile MS STATEMENT SQL: once the SQL has taken so much of the processor another session says the statement, of the process
-# :pid. It prints how much the SQL takes from then on.
+# :pid, which may have ended by then. It prints how much the SQL takes from then on.
 meanwhile() {
     local pid begin at
     rm -f "$dir/pid"
@@ -25,8 +25,8 @@ meanwhile() {
     until [ -s "$dir/pid" ]; do sleep 0.01; done
     pid=$(cat "$dir/pid")
     begin=$(processor "$pid")
-    while at=$(processor "$pid") && [ $((at - begin)) -lt "$1" ]; do sleep 0.01; done
-    ask cancel "${2//:pid/$pid}" > /dev/null
+    while at=$(processor "$pid" 2> /dev/null) && [ $((at - begin)) -lt "$1" ]; do sleep 0.01; done
+    ask cancel "${2//:pid/$pid}" > /dev/null 2>&1 || true
     wait $!
     awk -v hz="$(getconf CLK_TCK)" -v at="$at" '$1 == "ticks" { print int($2 * 1000 / hz) - at }' "$dir/said"
 }
