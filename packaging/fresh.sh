@@ -15,7 +15,7 @@ failed=0
 in_root() { chroot "$debian" env -i PATH=/usr/local/bin:/usr/sbin:/usr/bin:/sbin:/bin HOME=/root DEBIAN_FRONTEND=noninteractive LC_ALL=C.UTF-8 "$@"; }
 
 if [ ! -d "$debian/etc" ]; then
-    debootstrap --variant=minbase --include=ca-certificates,git,gcc,libc6-dev,make,python3 "$suite" "$debian" \
+    debootstrap --variant=minbase --include=ca-certificates "$suite" "$debian" \
         "${DEBIAN_MIRROR:-http://deb.debian.org/debian}" > "$dir/log" 2>&1 || { tail -n 20 "$dir/log"; exit 1; }
 fi
 # rustc and PostgreSQL look into /proc.
@@ -46,15 +46,19 @@ packages() { cell "$1" 3 | tr '\n' ' '; }
 first() { cell "$1" 2 | head -n 1; }
 answer='POINT(1 2.5)'
 
-# The first block: each command, and what the page says that it prints.
-sed -n '/^```console$/,/^```$/{//!p}' "$root/README.md" > "$dir/block"
-grep -v '^\$ ' "$dir/block" > "$dir/want"
-cp "$dir/want" "$debian/want"
-row "the first block" "" "{ $(sed -n 's/^\$ \(.*\)/\1 || [ $? = 1 ]/p' "$dir/block")
+# job NUMBER: the block of commands of that number, with the packages before it: each command, and what the page says that it prints
+job() {
+    awk -v n="$1" '/^```console$/ { k++; on = 1; next } /^```$/ { on = 0 } on && k == n' "$root/README.md" > "$dir/block"
+    grep -v '^\$ ' "$dir/block" > "$debian/want"
+    row "job $1" "$(grep -o '`apt install [^`]*`' "$root/README.md" | sed -n "$1s/.apt install \(.*\)./\1/p")" \
+        "{ $(sed -n 's/^\$ \(.*\)/\1 || [ $? = 1 ]/p' "$dir/block")
 } > /tmp/said; cmp /want /tmp/said"
+}
+job 1
+job 2
 row "make install" "" "sudo make -s -C dist install; sudo ldconfig; echo 'point ( 1 2.50 )' | wktline | grep -qxF '$answer'"
 row "run" "" "$(sed -n 's/^\(make -C dist && .*\)#.*/\1/p' "$root/CONTRIBUTING.md") | cmp - crates/wktline/stdout"
-row "make check" "" "$(sed -n 's/^\(make -C dist check\) *#.*/\1/p' "$root/CONTRIBUTING.md")"
+row "make check" python3 "$(sed -n 's/^\(make -C dist check\) *#.*/\1/p' "$root/CONTRIBUTING.md")"
 row Python "$(packages Python)" "python3 -m venv /tmp/venv && . /tmp/venv/bin/activate; $(first Python)
 cd /; python -c \"import wkt; assert wkt.canonical('point ( 1 2.50 )') == '$answer'\"; rm -rf /tmp/venv"
 row "C, C++" "" "$(first "C, C++")"
