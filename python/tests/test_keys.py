@@ -5,7 +5,7 @@ import unittest
 import wkt
 from modules import installed
 
-numpy, shapely = installed("numpy"), installed("shapely")
+numpy, pandas, shapely = installed("numpy"), installed("pandas"), installed("shapely")
 
 
 @unittest.skipIf(numpy is None, "no NumPy")
@@ -81,6 +81,21 @@ class Doubles(unittest.TestCase):
         self.assertEqual(wkt.keys(wrong[3:]), ["POINT(0.3333333333333333 1)"])
         for text in self.TEXTS:
             self.assertEqual(wkt.keys(wkt.geometries(wkt.to_arrays_column([text, None, text]))), [text, None, text])
+
+    def test_series(self):
+        """A GeoSeries comes back as a Series with its index, its name and its reference system."""
+        if not hasattr(shapely, "to_ragged_array") or pandas is None:
+            return
+        made = [shapely.from_wkt("POINT (1 2)"), None, shapely.from_wkt("LINESTRING (1 2, 3 4.5)")]
+        geopandas = installed("geopandas")
+        series = geopandas.GeoSeries if geopandas else pandas.Series
+        series = series(made, index=[5, 3, 4], name="geom")
+        series.crs = "EPSG:4326"
+        keys = wkt.keys(series)
+        self.assertIs(type(keys), pandas.Series)
+        self.assertEqual(keys.tolist(), ["POINT(1 2)", None, "LINESTRING(1 2,3 4.5)"])
+        self.assertEqual((keys.index.tolist(), keys.name), ([5, 3, 4], "geom"))
+        self.assertEqual(keys.attrs["crs"], "EPSG:4326")
 
 
 if __name__ == "__main__":
