@@ -1,5 +1,5 @@
 // Where a text is refused, in words.
-import { HINTS } from './names.js';
+import { EXPECTED_WORDS, HINTS, HINT_WORDS } from './names.js';
 import { wordsOf } from './errors.js';
 import { printable } from './printable.js';
 
@@ -82,6 +82,10 @@ export function hintWords(hint, word, places) {
   return words.includes('%u') ? `${short(word)} has ${placesIn(word)} places, at most ${places} are allowed` : words;
 }
 
+/** Why a text is refused as one stable word, by the numbers of the hint, 0 where there is none, and of what was expected. */
+export const codeOf = (hint, expected) =>
+  (hint === 0 ? `expected_${EXPECTED_WORDS[expected] ?? 'other'}` : HINT_WORDS[hint] ?? `hint_${hint}`);
+
 function causeOf({ line, column, expected, hint }, text, start, stop) {
   const place = line > 1 ? `at line ${line}, column ${column}` : `at ${column}`;
   if (hint) return `${place}: ${hint}`;
@@ -95,14 +99,14 @@ function causeOf({ line, column, expected, hint }, text, start, stop) {
 const inWords = (place, text, start, stop) => ({ ...place, cause: causeOf(place, text, start, stop), caret: caretOf(text, start, stop) });
 
 /** Why a text is refused, and where: units `start` to `stop` of a string. */
-export function explanation(text, status, start, stop, expected, hint = '') {
+export function explanation(text, status, start, stop, { expected, hint, code }) {
   const { line, first } = lineOf(text, start, '\n');
   const column = count(text, first, start) + 1;
-  return inWords({ status, message: wordsOf(status), start, stop, expected, hint, line, column }, text, start, stop);
+  return inWords({ status, message: wordsOf(status), start, stop, expected, hint, code, line, column }, text, start, stop);
 }
 
 /** The same of bytes of UTF-8. A string can't hold all that bytes can, so only what is around the place is made one. */
-export function explanationOfBytes(bytes, status, start, stop, expected, hint = '') {
+export function explanationOfBytes(bytes, status, start, stop, { expected, hint, code }) {
   const decoder = new TextDecoder('utf-8', { ignoreBOM: true });
   const { line, first } = lineOf(bytes, start, 10);
   let column = 1;
@@ -112,6 +116,6 @@ export function explanationOfBytes(bytes, status, start, stop, expected, hint = 
   while (to < bytes.length && (bytes[to] & 0xc0) === 0x80) to++;
   const [before, there, after] = [[from, start], [start, Math.min(stop, to)], [Math.min(stop, to), to]]
     .map((range) => decoder.decode(bytes.subarray(...range)));
-  const place = { status, message: wordsOf(status), start, stop, expected, hint, line, column };
+  const place = { status, message: wordsOf(status), start, stop, expected, hint, code, line, column };
   return inWords(place, before + there + after, before.length, before.length + there.length);
 }

@@ -74,6 +74,8 @@ export interface Explanation {
   readonly expected: string;
   /** Why the text is refused, in a user's words; '' where that isn't known. */
   readonly hint: string;
+  /** The same as one stable word, to group by. docs/FILES.md lists them. */
+  readonly code: string;
   /** The line, from 1 on. */
   readonly line: number;
   /** The character of that line, from 1 on. */

@@ -117,6 +117,45 @@ export const HINTS = Object.freeze([
   "a geometry begins with its kind, as in POINT(1 2)",
   "numbers stand in parentheses, as in POINT(1 2) and POLYGON((0 0,1 0,0 1,0 0))",
 ]);
+/** The same as one stable word, for tables: EXPECTED. */
+export const EXPECTED_WORDS = Object.freeze([
+  "kind",
+  "member",
+  "dimension",
+  "opening",
+  "point",
+  "x",
+  "y",
+  "z",
+  "m",
+  "more",
+  "closing",
+]);
+/** The same as one stable word, for tables: HINT. */
+export const HINT_WORDS = Object.freeze([
+  "none",
+  "byte_order_mark",
+  "hexadecimal",
+  "srid",
+  "curve",
+  "surface",
+  "exponent",
+  "no_number",
+  "places",
+  "large",
+  "dimension",
+  "empty",
+  "fewer",
+  "comma",
+  "missing",
+  "quotes",
+  "no_break_space",
+  "minus",
+  "box",
+  "braces",
+  "no_kind",
+  "parenthesis",
+]);
 /** Why a text has no answer. */
 export const STATUS = Object.freeze({
   OK: 0, // Done

@@ -1,10 +1,10 @@
 // What the module answers.
 import { Engine, LoneSurrogate, present } from './engine.js';
 import { WktError } from './errors.js';
-import { explanation, explanationOfBytes, hintWords } from './explanation.js';
+import { codeOf, explanation, explanationOfBytes, hintWords } from './explanation.js';
 import { DIMENSIONS, EXPECTED, HEADER_MESSAGES, KINDS, STATUS } from './names.js';
 import { Arrays, equal, textOfArrays } from './arrays.js';
-import { geoJSONOf } from './geojson.js';
+import { geoJSONObjectOf, geoJSONOf } from './geojson.js';
 import { textOfGeoJSON } from './fromgeojson.js';
 import { parseExact } from './json.js';
 import { LineAnswers, joined } from './lines.js';
@@ -167,13 +167,17 @@ export class Wkt {
     });
   }
 
-  toGeoJSON(text, { places = 18, whole = true, m = 'refuse' } = {}) {
-    if (!['refuse', 'drop', 'keep'].includes(m)) throw new TypeError("m is 'refuse', 'drop' or 'keep'");
-    return geoJSONOf(this.canonical(text, { places, whole }), m);
+  toGeoJSON(text, options) {
+    return this.#geoJSON(geoJSONOf, text, options);
   }
 
   toGeoJSONObject(text, options) {
-    return JSON.parse(this.toGeoJSON(text, options));
+    return this.#geoJSON(geoJSONObjectOf, text, options);
+  }
+
+  #geoJSON(made, text, { places = 18, whole = true, m = 'refuse' } = {}) {
+    if (!['refuse', 'drop', 'keep'].includes(m)) throw new TypeError("m is 'refuse', 'drop' or 'keep'");
+    return made(this.canonical(text, { places, whole }), m);
   }
 
   fromGeoJSON(geometry, { places = 18 } = {}) {
@@ -201,7 +205,8 @@ export class Wkt {
       return this.#engine.put(text);
     } catch (error) {
       if (!(error instanceof LoneSurrogate)) throw error;
-      const place = explanation(text, STATUS.NOT_UTF8, error.at, error.at + 1, 'a character', 'a lone surrogate is half of a character');
+      const said = { expected: 'a character', hint: 'a lone surrogate is half of a character', code: 'not_utf8' };
+      const place = explanation(text, STATUS.NOT_UTF8, error.at, error.at + 1, said);
       throw new WktError(STATUS.NOT_UTF8, place);
     }
   }
@@ -242,18 +247,21 @@ export class Wkt {
     if (status === STATUS.ACCEPTED) return null;
     if (status !== STATUS.OK && status !== STATUS.NOT_WHOLE) throw new WktError(status);
     const [start, stop] = [engine.size(1), engine.size(2)];
-    if (status === STATUS.NOT_WHOLE) return this.#explanation(text, at, length, [status, start, stop, 'the end of the text']);
-    const message = engine.number(0);
-    const expected = EXPECTED[engine.number(6)] ?? `something newer (expectation ${engine.number(6)})`;
+    const there = { text, at, length, start, stop };
+    if (status === STATUS.NOT_WHOLE) return this.#explanation(there, status, { expected: 'the end of the text', hint: '', code: 'not_whole' });
+    const [message, what] = [engine.number(0), engine.number(6)];
     const hint = engine.hint(at, length, asked);
-    const words = hint === 0 ? '' : hintWords(hint, engine.utf8(at + start, stop - start), asked % WHOLE);
-    return this.#explanation(text, at, length, [message, start, stop, expected, words]);
+    return this.#explanation(there, message, {
+      expected: EXPECTED[what] ?? `something newer (expectation ${what})`,
+      hint: hint === 0 ? '' : hintWords(hint, engine.utf8(at + start, stop - start), asked % WHOLE),
+      code: codeOf(hint, what),
+    });
   }
 
-  #explanation(text, at, length, [status, start, stop, ...words]) {
+  #explanation({ text, at, length, start, stop }, status, said) {
     const engine = this.#engine;
-    if (typeof text !== 'string') return explanationOfBytes(engine.bytes.subarray(at, at + length), status, start, stop, ...words);
+    if (typeof text !== 'string') return explanationOfBytes(engine.bytes.subarray(at, at + length), status, start, stop, said);
     const [first, last] = length === text.length ? [start, stop] : [engine.units(at, start), engine.units(at, stop)];
-    return explanation(text, status, first, last, ...words);
+    return explanation(text, status, first, last, said);
   }
 }

@@ -27,6 +27,37 @@ const PAIRS = [
     '{"type":"GeometryCollection","geometries":[{"type":"Point","coordinates":[1,2,3]},{"type":"Point","coordinates":[4,5]}]}', 'GEOMETRYCOLLECTION(POINT Z(1 2 3),POINT(4 5))'],
 ];
 
+/** What a call gives, or the words of its error. */
+function said(call) {
+  try {
+    return call();
+  } catch (error) {
+    return `${error.name}: ${error.message}`;
+  }
+}
+
+test('an object is what JSON.parse makes of the text, to the last bit', () => {
+  let seed = 1;
+  const digits = (n) => Array.from({ length: n }, () => (seed = (seed * 48271) % 2147483647) % 10).join('');
+  const texts = rowsOf('crates/wkt_tables/stdin').map(([text]) => text).filter((text) => wkt.reads(text));
+  for (let whole = 0; whole < 19; whole++) {
+    for (let places = 0; places < 19; places++) texts.push(`MULTIPOINT(-${digits(whole)}.${digits(places)}1 0.${digits(places)}9,${digits(whole)}7 ${digits(whole)}3.5)`);
+  }
+  let read = 0;
+  for (const text of texts) {
+    for (const m of ['refuse', 'drop', 'keep']) {
+      const made = said(() => wkt.toGeoJSONObject(text, { m }));
+      assert.deepStrictEqual(made, said(() => JSON.parse(wkt.toGeoJSON(text, { m }))), text);
+      read += typeof made === 'object';
+    }
+  }
+  assert.ok(read > 1500, `${read} read`);
+  const deep = 'GEOMETRYCOLLECTION('.repeat(20000);
+  let made = wkt.toGeoJSONObject(`${deep}POINT(1 2)${')'.repeat(20000)}`);
+  for (let i = 0; i < 20000; i++) [made] = made.geometries;
+  assert.deepEqual(made, { type: 'Point', coordinates: [1, 2] });
+});
+
 test('each form, to text and back', () => {
   for (const [text, json, back] of PAIRS) {
     assert.equal(wkt.toGeoJSON(text), json);

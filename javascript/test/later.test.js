@@ -35,7 +35,7 @@ test('a new expectation, message and hint', async () => {
     },
   });
   const { message, place } = thrown(() => wkt.canonical('POINT(1)'));
-  assert.deepEqual([place.status, place.message, place.expected, place.hint], [15, 'Status 15', 'something newer (expectation 11)', '']);
+  assert.deepEqual([place.status, place.message, place.expected, place.hint, place.code], [15, 'Status 15', 'something newer (expectation 11)', '', 'hint_99']);
   assert.equal(message, 'at 8: something newer (expectation 11) was expected, and not )');
   assert.deepEqual(wkt.explain('POINT(1)'), place);
 });

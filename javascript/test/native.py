@@ -134,6 +134,7 @@ def explained(text, places, whole):
         why.hint,
         why.cause if plain else None,
         str(why) if plain else None,
+        why.code,
     ]
 
 

@@ -42,7 +42,7 @@ compare('explain', (row) => row.explain, ({ text, explain }, asked) => {
   const why = wkt.explain(text, asked);
   if (why === null) return null;
   const shown = `${why.caret} ${why.expected} was expected${why.hint ? ` (${why.hint})` : ''}`;
-  return [why.status, why.message, why.start, why.stop, why.line, why.column, why.expected, why.hint, explain[8] && why.cause, explain[9] && shown];
+  return [why.status, why.message, why.start, why.stop, why.line, why.column, why.expected, why.hint, explain[8] && why.cause, explain[9] && shown, why.code];
 });
 
 /** An explanation whose places count bytes, as one of the string. */

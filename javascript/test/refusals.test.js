@@ -27,29 +27,29 @@ test('the message of each refused text of the table', () => {
   assert.equal(refused, 4254);
 });
 
-// A text, and what its error says. Columns: text, options, place in the text, message, caret.
+// A text, and what its error says. Columns: text, options, place in the text, message, caret, code (docs/FILES.md).
 const WORDS = [
-  ['POINT(1)', {}, [7, 8], 'at 8: a second number was expected, and not )', 'POINT(1)\n       ^'],
-  ['POINT(1 2', {}, [9, 9], 'at 10: `)` was expected, but the text ends', 'POINT(1 2\n         ^'],
-  ['', {}, [0, 0], 'at 1: a kind of geometry, such as POINT, was expected, but the text ends', '\n^'],
-  ['\nPOINT\t(x 2)', {}, [8, 9], 'at line 2, column 8: a first number was expected, and not x', 'POINT\t(x 2)\n     \t ^'],
-  ['POINT(1.1234567 2)', { places: 6 }, [6, 15], 'at 7: 1.1234567 has 7 places, at most 6 are allowed', 'POINT(1.1234567 2)\n      ^^^^^^^^^'],
-  ['POINT(1 2 3)', {}, [10, 11], 'at 11: a third number needs Z or M, as in POINT Z(1 2 3), and a fourth ZM', 'POINT(1 2 3)\n          ^'],
-  ['SRID=4326;POINT(1 2)', {}, [0, 15], 'at 1: SRID=..; of EWKT is not read; ST_AsText leaves it out', 'SRID=4326;POINT(1 2)\n^^^^^^^^^^^^^^^'],
-  ['POINT()', {}, [6, 7], 'at 7: what holds nothing is written EMPTY, without parentheses', 'POINT()\n      ^'],
-  ['POINT(180 90)', { places: 36 }, [6, 9], 'at 7: with 18 places the number is read', 'POINT(180 90)\n      ^^^'],
-  ['POINT(1,2)', {}, [7, 8], 'at 8: commas separate coordinates, and spaces their numbers; decimals have a point', 'POINT(1,2)\n       ^'],
-  ['null', {}, [0, 4], 'at 1: NULL, None and nan are not read; leave the row out, or write POINT EMPTY', 'null\n^^^^'],
-  ['\ufeffPOINT(1 2)', {}, [0, 6], 'at 1: the text begins with a byte order mark', '\\u{feff}POINT(1 2)\n^^^^^^^^^^^^^'],
-  ['POINT(1 2) and more', {}, [11, 19], 'at 12: the end of the text was expected, and not and more', 'POINT(1 2) and more\n           ^^^^^^^^'],
-  ['POINT(1 2)\n\nPOINT(3 4)', {}, [12, 22], 'at line 3, column 1: the end of the text was expected, and not POINT(3 4)', 'POINT(3 4)\n^^^^^^^^^^'],
+  ['POINT(1)', {}, [7, 8], 'at 8: a second number was expected, and not )', 'POINT(1)\n       ^', 'expected_y'],
+  ['POINT(1 2', {}, [9, 9], 'at 10: `)` was expected, but the text ends', 'POINT(1 2\n         ^', 'expected_closing'],
+  ['', {}, [0, 0], 'at 1: a kind of geometry, such as POINT, was expected, but the text ends', '\n^', 'expected_kind'],
+  ['\nPOINT\t(x 2)', {}, [8, 9], 'at line 2, column 8: a first number was expected, and not x', 'POINT\t(x 2)\n     \t ^', 'expected_x'],
+  ['POINT(1.1234567 2)', { places: 6 }, [6, 15], 'at 7: 1.1234567 has 7 places, at most 6 are allowed', 'POINT(1.1234567 2)\n      ^^^^^^^^^', 'places'],
+  ['POINT(1 2 3)', {}, [10, 11], 'at 11: a third number needs Z or M, as in POINT Z(1 2 3), and a fourth ZM', 'POINT(1 2 3)\n          ^', 'dimension'],
+  ['SRID=4326;POINT(1 2)', {}, [0, 15], 'at 1: SRID=..; of EWKT is not read; ST_AsText leaves it out', 'SRID=4326;POINT(1 2)\n^^^^^^^^^^^^^^^', 'srid'],
+  ['POINT()', {}, [6, 7], 'at 7: what holds nothing is written EMPTY, without parentheses', 'POINT()\n      ^', 'empty'],
+  ['POINT(180 90)', { places: 36 }, [6, 9], 'at 7: with 18 places the number is read', 'POINT(180 90)\n      ^^^', 'fewer'],
+  ['POINT(1,2)', {}, [7, 8], 'at 8: commas separate coordinates, and spaces their numbers; decimals have a point', 'POINT(1,2)\n       ^', 'comma'],
+  ['null', {}, [0, 4], 'at 1: NULL, None and nan are not read; leave the row out, or write POINT EMPTY', 'null\n^^^^', 'missing'],
+  ['\ufeffPOINT(1 2)', {}, [0, 6], 'at 1: the text begins with a byte order mark', '\\u{feff}POINT(1 2)\n^^^^^^^^^^^^^', 'byte_order_mark'],
+  ['POINT(1 2) and more', {}, [11, 19], 'at 12: the end of the text was expected, and not and more', 'POINT(1 2) and more\n           ^^^^^^^^', 'not_whole'],
+  ['POINT(1 2)\n\nPOINT(3 4)', {}, [12, 22], 'at line 3, column 1: the end of the text was expected, and not POINT(3 4)', 'POINT(3 4)\n^^^^^^^^^^', 'not_whole'],
 ];
 
 test('what an error says', () => {
-  for (const [text, options, [start, stop], message, caret] of WORDS) {
+  for (const [text, options, [start, stop], message, caret, code] of WORDS) {
     const error = thrown(() => wkt.canonical(text, options));
     assert.ok(error instanceof WktError && error instanceof Error && error.name === 'WktError');
-    assert.deepEqual([error.place.start, error.place.stop, error.message, error.caret], [start, stop, message, caret]);
+    assert.deepEqual([error.place.start, error.place.stop, error.message, error.caret, error.place.code], [start, stop, message, caret, code]);
     assert.equal(error.hint, error.place.hint);
     assert.equal(String(error), `WktError: ${message}`);
     assert.deepEqual(structuredClone(error.place), error.place);

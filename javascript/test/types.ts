@@ -28,7 +28,7 @@ const why: Explanation | null = wkt.explain('x');
 // @ts-expect-error it may be null
 why.start;
 if (why) {
-  const words: string = why.cause + why.caret + why.hint + why.expected + why.message;
+  const words: string = why.cause + why.caret + why.hint + why.code + why.expected + why.message;
   const numbers: number = why.start + why.stop + why.line + why.column + why.status;
   // @ts-expect-error it is read only
   why.start = 0;

@@ -184,7 +184,7 @@ def rust_table(groups):
 
 def javascript_table(groups):
     lines = []
-    for name, what, items in lists(groups):
+    for name, what, items in lists(groups) + stable_words(groups):
         lines += (
             [f"/** {what} */", f"export const {name} = Object.freeze(["] + [f"  {item}," for item in items] + ["]);"]
         )
