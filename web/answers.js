@@ -1,6 +1,6 @@
 // The answers to what stands in the field: only what was changed is answered anew, in a worker.
 import { $ } from './elements.js';
-import { piecesOf } from './split.js';
+import { changedPieces } from './split.js';
 import { started, state } from './state.js';
 
 export const places = () => Number($('places').value);
@@ -14,6 +14,7 @@ export function setSplit(split) {
 
 let desk = null;
 let asked = ''; // how the texts were asked for
+let before = ''; // what stood in the field then
 let ids = 0;
 const byId = new Map();
 const numbers = new Map(); // of canonical texts
@@ -49,10 +50,16 @@ function takeAnswers({ answers, left: more }) {
 
 function finish() {
   const first = new Float64Array(numbers.size); // the line of each canonical text, or 0
+  const refused = [];
+  let [repeats, spread] = [0, false];
   for (const row of state.rows) {
     row.repeats = row.accepted ? first[row.number] || null : null;
-    if (row.accepted && row.repeats === null) first[row.number] = row.line;
+    if (!row.accepted) refused.push(row);
+    else if (row.repeats) repeats++;
+    else first[row.number] = row.line;
+    spread ||= row.spread;
   }
+  state.counted = { refused: refused.length, repeats, spread };
   state.settled = true;
   settle();
   goOn();
@@ -65,32 +72,29 @@ function goOn() {
 /** Waits until all is answered. */
 export const whenSettled = () => new Promise((go) => (state.settled ? go() : waiting.push(go)));
 
-/**
- * Answers a text. Pieces at its front and at its end that stand there already keep their answers.
- */
+/** A slice would keep all of the text that it was cut from. */
+const copyOf = (slice) => ` ${slice}`.slice(1);
+
+/** Answers a text. Pieces that stood there before the last change keep their answers, and so cost nothing. */
 export function answer(text) {
-  const { texts, offsets, lines } = piecesOf(text, askedSplit());
-  const how = `${places()}`;
-  const old = state.rows;
-  let [front, back] = [0, 0];
-  if (how === asked) {
-    const most = Math.min(old.length, texts.length);
-    while (front < most && old[front].text === texts[front]) front++;
-    while (back < most - front && old[old.length - 1 - back].text === texts[texts.length - 1 - back]) back++;
-  }
-  asked = how;
-  const removed = old.length - front - back;
-  for (let i = front; i < front + removed; i++) byId.delete(old[i].id);
+  const split = askedSplit();
+  const how = `${places()} ${split}`;
+  const old = how === asked ? state.rows : [];
+  const { front, back, pieces, moved, lines } = changedPieces(before, old, text, split);
+  const removed = state.rows.slice(front, state.rows.length - back);
+  [asked, before] = [how, text];
+  for (const row of removed) byId.delete(row.id);
   if (byId.size === 0) numbers.clear();
-  const added = texts.slice(front, texts.length - back).map((it) => ({ id: ++ids, text: it, spread: it.includes('\n'), answered: false, accepted: false, canonical: '', place: null, repeats: null }));
+  const added = pieces.map((piece) => ({ id: ++ids, ...piece, text: copyOf(piece.text), spread: piece.text.includes('\n'), answered: false, accepted: false, canonical: '', place: null, repeats: null }));
   for (const row of added) byId.set(row.id, row);
-  state.rows = [...old.slice(0, front), ...added, ...old.slice(old.length - back)];
-  state.rows.forEach((row, i) => {
-    row.offset = offsets[i];
-    row.line = lines[i];
-  });
-  if (removed > 0 || added.length > 0) {
-    tellDesk({ change: { from: front, removed, added: added.map((row) => [row.id, row.text]), places: places() } });
+  const rest = state.rows.slice(state.rows.length - back);
+  for (const row of rest) {
+    row.offset += moved;
+    row.line += lines;
+  }
+  state.rows = state.rows.slice(0, front).concat(added, rest);
+  if (removed.length > 0 || added.length > 0) {
+    tellDesk({ change: { from: front, removed: removed.length, added: added.map((row) => [row.id, row.text]), places: places() } });
   }
   state.settled = added.length === 0 && state.rows.every((row) => row.answered);
   if (state.settled) finish();

@@ -59,8 +59,8 @@ export function takeDrawn(drawn) {
   fill($('empty'), told.seen ? '' : emptyWords(told));
   for (const id of ['fit', 'in', 'out-zoom']) $(id).disabled = !told.seen;
   canvas.setAttribute('aria-label', described(told));
-  canvas.dataset.painted = told.painted;
-  canvas.dataset.labels = JSON.stringify(told.labels ?? []);
+  // For tests, and no attributes: those would have the page laid out once more.
+  Object.assign(canvas, { painted: told.painted, labels: told.labels ?? [] });
   fill($('drawn'), drawnWords(told));
 }
 

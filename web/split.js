@@ -47,27 +47,20 @@ function goesOn(text, begin, depth, from, to) {
 }
 
 /** Lines, each of which is a piece where it isn't blank. */
-function byLine(text) {
-  const pieces = { texts: [], offsets: [], lines: [] };
-  let offset = 0;
-  text.split('\n').forEach((line, i) => {
-    if (line.trim() !== '') add(pieces, line, offset, i + 1);
-    offset += line.length + 1;
-  });
-  return pieces;
-}
-
-function add({ texts, offsets, lines }, text, offset, line) {
-  texts.push(text);
-  offsets.push(offset);
-  lines.push(line);
+function* byLine(text, at, line) {
+  for (let offset = at, n = line; offset <= text.length; n++) {
+    const feed = text.indexOf('\n', offset);
+    const to = feed < 0 ? text.length : feed;
+    const piece = text.slice(offset, to);
+    if (piece.trim() !== '') yield { text: piece, offset, line: n };
+    offset = to + 1;
+  }
 }
 
 /** A line begins a piece, or goes on with the one before it, as long as that has parentheses open. */
-function byParentheses(text) {
-  const pieces = { texts: [], offsets: [], lines: [] };
+function* byParentheses(text, from, line) {
   let [begin, end, first, depth] = [-1, 0, 0, null];
-  for (let at = 0, line = 1; at <= text.length; line++) {
+  for (let at = from, n = line; at <= text.length; n++) {
     const feed = text.indexOf('\n', at);
     const to = feed < 0 ? text.length : feed;
     if (begin >= 0 && goesOn(text, begin, depth, at, to)) {
@@ -75,26 +68,75 @@ function byParentheses(text) {
       if (more !== null) depth += more;
       end = to;
     } else if (firstMark(text, at, to) !== '') {
-      if (begin >= 0) add(pieces, text.slice(begin, end), begin, first);
-      [begin, end, first, depth] = [at, to, line, opened(text, at, to)];
+      if (begin >= 0) yield { text: text.slice(begin, end), offset: begin, line: first };
+      [begin, end, first, depth] = [at, to, n, opened(text, at, to)];
     }
     at = to + 1;
   }
-  if (begin >= 0) add(pieces, text.slice(begin, end), begin, first);
-  return pieces;
+  if (begin >= 0) yield { text: text.slice(begin, end), offset: begin, line: first };
 }
+
+const splitter = (split) => (split === 'lines' ? byLine : byParentheses);
 
 /**
  * The pieces of a text that are answered each for itself: their texts, the places where they begin, and their lines, from
  * 1 on. `split`: `one` piece in all, `lines`, or `auto`.
  */
 export function piecesOf(text, split) {
-  if (text.trim() === '') return { texts: [], offsets: [], lines: [] };
-  if (split === 'one') return { texts: [text], offsets: [0], lines: [1] };
-  if (split === 'lines') return byLine(text);
-  const pieces = byParentheses(text);
+  if (text.trim() === '') return [];
+  const pieces = split === 'one' ? [] : [...splitter(split)(text, 0, 1)];
   // What is around a single one belongs to it: then the places are those of the text.
-  return pieces.texts.length === 1 ? piecesOf(text, 'one') : pieces;
+  return split === 'one' || (split === 'auto' && pieces.length === 1) ? [{ text, offset: 0, line: 1 }] : pieces;
+}
+
+/** How many characters of so many agree; `part` says whether those from one to before another do. */
+function agreed(length, part) {
+  let [low, high] = [0, length];
+  while (low < high) {
+    const middle = (low + high + 1) >> 1;
+    if (part(low, middle)) low = middle;
+    else high = middle - 1;
+  }
+  return low;
+}
+
+/** The last of some pieces that ends before a place; -1: none does. */
+function lastBefore(pieces, place) {
+  let [low, high] = [0, pieces.length];
+  while (low < high) {
+    const middle = (low + high) >> 1;
+    if (pieces[middle].offset + pieces[middle].text.length < place) low = middle + 1;
+    else high = middle;
+  }
+  return low - 1;
+}
+
+/**
+ * The pieces of a text that was changed: how many of the `old` ones, which are those of the text before in the same split,
+ * stand at its front and at its back, the new ones between, and by how many characters and lines the back has moved.
+ */
+export function changedPieces(before, old, text, split) {
+  const whole = () => ({ front: 0, back: 0, pieces: piecesOf(text, split), moved: 0, lines: 0 });
+  if (split === 'one' || old.length < 2) return whole();
+  const shorter = Math.min(before.length, text.length);
+  const from = agreed(shorter, (a, b) => before.slice(a, b) === text.slice(a, b));
+  const same = agreed(shorter - from, (a, b) => before.slice(before.length - b, before.length - a) === text.slice(text.length - b, text.length - a));
+  const moved = text.length - before.length;
+  // A piece that ends right before the change may go on in it now, so it is split anew.
+  const last = lastBefore(old, from);
+  const front = Math.max(0, last);
+  const start = last < 0 ? { offset: 0, line: 1 } : old[last];
+  const pieces = [];
+  let [next, back, lines] = [front, 0, 0];
+  for (const piece of splitter(split)(text, start.offset, start.line)) {
+    while (next < old.length && old[next].offset + moved < piece.offset) next++;
+    if (piece.offset >= text.length - same && old[next]?.offset + moved === piece.offset) {
+      [back, lines] = [old.length - next, piece.line - old[next].line];
+      break;
+    }
+    pieces.push(piece);
+  }
+  return front + pieces.length + back < 2 ? whole() : { front, back, pieces, moved, lines };
 }
 
 /**
@@ -102,7 +144,7 @@ export function piecesOf(text, split) {
  * first piece that is cut isn't known, and the file is taken for lines.
  */
 export function splitOfFront(text, cut) {
-  const { texts } = piecesOf(text, 'auto');
-  if (texts.length < 2) return cut && !texts[0]?.trim().includes('\n') ? 'lines' : 'one';
-  return texts.slice(0, cut ? -1 : undefined).some((piece) => piece.trim().includes('\n')) ? 'pieces' : 'lines';
+  const texts = piecesOf(text, 'auto').map((piece) => piece.text.trim());
+  if (texts.length < 2) return cut && !texts[0]?.includes('\n') ? 'lines' : 'one';
+  return texts.slice(0, cut ? -1 : undefined).some((it) => it.includes('\n')) ? 'pieces' : 'lines';
 }

@@ -176,6 +176,11 @@ function ofQuotes(text) {
   return { texts: lines.map(([line]) => line), lines: lines.map(([, n]) => n), left: [] };
 }
 
+function ofPieces(text) {
+  const pieces = piecesOf(text, 'auto');
+  return { texts: pieces.map((piece) => piece.text), lines: pieces.map(({ line }) => line), left: [] };
+}
+
 /** The texts that such a text has, one on each line, the lines that they had, and words about what was left out. */
 export function turned(text, form, wkt, places) {
   const whole = text[0] === MARK ? text.slice(1) : text;
@@ -184,7 +189,7 @@ export function turned(text, form, wkt, places) {
     geojson: () => ofGeoJSON(whole, wkt, places),
     quotes: () => ofQuotes(whole),
     csv: () => ofCsv(whole, form),
-    pieces: () => ({ ...piecesOf(text, 'auto'), left: [] }),
+    pieces: () => ofPieces(text),
   }[form.form]();
   return { texts: texts.map((it) => it.replaceAll('\n', ' ')), lines, left };
 }

@@ -74,10 +74,8 @@ function sayOne(row) {
 export const repeatsInWords = (n) => (n === 0 ? 'No geometry is repeated.' : `${count(n, 'line repeats', 'lines repeat')} the geometry of an earlier line.`);
 
 function sayMany(row) {
-  const { rows } = state;
-  const unit = rows.some(({ spread }) => spread) ? 'text' : 'line';
-  const refused = rows.reduce((n, it) => n + !it.accepted, 0);
-  const repeats = rows.reduce((n, it) => n + Boolean(it.repeats), 0);
+  const { rows, counted: { refused, repeats, spread } } = state;
+  const unit = spread ? 'text' : 'line';
   if (refused === 0) say('good', `All ${count(rows.length, unit)} accepted`, repeatsInWords(repeats));
   else say('bad', `${number(refused)} of ${count(rows.length, unit)} refused`, ...(row.accepted ? [`Line ${row.line} is accepted.`] : reason(row, true)));
 }
@@ -100,7 +98,7 @@ export function showVerdict() {
   else if (state.rows.length === 1) sayOne(row);
   else sayMany(row);
   showPlace(row);
-  const refused = state.rows.reduce((n, it) => n + !it.accepted, 0);
+  const { refused } = state.counted;
   $('next').hidden = refused === 0;
   fill($('next'), refused > 1 ? 'Next refusal' : 'Show the place');
   $('text').setAttribute('aria-invalid', String(refused > 0));

@@ -165,7 +165,7 @@ class Page(unittest.TestCase):
 
     def painted(self):
         """How often the picture was drawn."""
-        return int(self.script("return document.getElementById('canvas').dataset.painted") or 0)
+        return int(self.script("return document.getElementById('canvas').painted") or 0)
 
     def still(self):
         """Waits until nothing more is drawn."""
@@ -185,11 +185,14 @@ class Page(unittest.TestCase):
         """The processor time of the page's main thread so far, in milliseconds; nothing that its workers take."""
         return 1000 * self.metric("TaskDuration")
 
-    def metric(self, name):
-        """One of Chromium's figures; ProcessTime is the processor time of all threads of the page, in seconds."""
+    def metrics(self, *names):
+        """Some of Chromium's figures; ProcessTime is the processor time of all threads of the page, in seconds."""
         self.driver.execute_cdp_cmd("Performance.enable", {"timeDomain": "threadTicks"})
         found = self.driver.execute_cdp_cmd("Performance.getMetrics", {})["metrics"]
-        return next(it["value"] for it in found if it["name"] == name)
+        return [next(it["value"] for it in found if it["name"] == name) for name in names]
+
+    def metric(self, name):
+        return self.metrics(name)[0]
 
     def press(self, *keys):
         webdriver.ActionChains(self.driver).send_keys(*keys).perform()

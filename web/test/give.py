@@ -144,7 +144,7 @@ class Give(Page):
             "MULTIPOINT(-0.00000000012345 5,1000000000.123456789 6)",
         ):
             self.paste(text)
-            labels = json.loads(self.by_id("canvas").get_attribute("data-labels"))
+            labels = self.script("return document.getElementById('canvas').labels")
             self.assertGreater(len(labels), 1)
             for i, (x, y, width) in enumerate(labels):
                 for other, at, wide in labels[:i]:

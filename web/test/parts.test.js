@@ -4,7 +4,7 @@ import { readFileSync, readdirSync } from 'node:fs';
 import { test } from 'node:test';
 import { Range, compare } from '../range.js';
 import { Repeats } from '../repeats.js';
-import { piecesOf, splitOfFront } from '../split.js';
+import { changedPieces, piecesOf, splitOfFront } from '../split.js';
 import { Summary } from '../summary.js';
 import { Tally } from '../tally.js';
 
@@ -15,7 +15,7 @@ const SPLITS = [
   ['MULTIPOINT(1 2,\nEMPTY)', true], ['FOO\nPOINT(1 2)', false], ['POINT(1 2))\n(3 4)', false], [`POINT(${' '.repeat(1e6)}1\n2)`, true],
 ];
 test('one geometry over lines, or one on each line', () => {
-  for (const [text, one] of SPLITS) assert.equal(piecesOf(text, 'auto').texts.length < 2, one, text.slice(0, 60));
+  for (const [text, one] of SPLITS) assert.equal(piecesOf(text, 'auto').length < 2, one, text.slice(0, 60));
 });
 
 // A text; its pieces, and the lines where they begin.
@@ -28,10 +28,39 @@ const PIECES = [
 test('a geometry ends where its parentheses close', () => {
   for (const [text, texts, lines] of PIECES) {
     const found = piecesOf(text, 'auto');
-    assert.deepEqual([found.texts, found.lines], [texts, lines]);
-    found.texts.forEach((piece, i) => assert.ok(text.startsWith(piece, found.offsets[i])));
+    assert.deepEqual([found.map((piece) => piece.text), found.map(({ line }) => line)], [texts, lines]);
+    for (const piece of found) assert.ok(text.startsWith(piece.text, piece.offset));
   }
-  assert.deepEqual(piecesOf('POINT(1\n2)', 'lines').texts, ['POINT(1', '2)']);
+  assert.deepEqual(piecesOf('POINT(1\n2)', 'lines').map(({ text }) => text), ['POINT(1', '2)']);
+});
+
+/** What the page has of a text after a change: the pieces that it had, but for those of the change. */
+function changed(before, old, text, split) {
+  const { front, back, pieces, moved, lines } = changedPieces(before, old, text, split);
+  const rest = old.slice(old.length - back).map((it) => ({ text: it.text, offset: it.offset + moved, line: it.line + lines }));
+  return { rows: [...old.slice(0, front), ...pieces, ...rest], kept: front + back };
+}
+
+const TYPED = ['POINT(1 2)', 'LINESTRING(0 0,\n1 1)', 'POLYGON((0 0,', '1 1,1 0,0 0))', 'POINT', 'EMPTY', '\n', '\n', '(', ')', ' ', '7', 'GEOMETRYCOLLECTION(\n', 'x'];
+test('the pieces of a changed text are those of the text', () => {
+  let seed = 1;
+  const some = (n) => (seed = (seed * 48271) % 2147483647) % n;
+  let kept = 0;
+  for (const split of ['auto', 'lines', 'one']) {
+    let [text, rows] = ['', []];
+    for (let i = 0; i < 3000; i++) {
+      const [from, cut] = [some(text.length + 1), some(4) === 0 ? some(text.length > 500 ? 200 : 9) : 0];
+      const next = text.slice(0, from) + (cut ? '' : TYPED[some(TYPED.length)]) + text.slice(from + cut);
+      const made = changed(text, rows, next, split);
+      assert.deepEqual(made.rows, piecesOf(next, split), JSON.stringify([text, next]));
+      [text, rows] = [next, made.rows];
+      kept += made.kept;
+    }
+  }
+  assert.ok(kept > 10000, `${kept} kept`);
+  const many = Array.from({ length: 1000 }, (_, i) => `POINT(${i} 2)`).join('\n');
+  const { front, back, pieces } = changedPieces(many, piecesOf(many, 'auto'), many.replace('500 2', '500.5 2'), 'auto');
+  assert.ok(pieces.length < 3 && front + back > 997);
 });
 
 test('how a file is split, by its front', () => {
