@@ -1,5 +1,6 @@
 // The answers to what stands in the field: only what was changed is answered anew, in a worker.
 import { $ } from './elements.js';
+import { grouped } from './causes.js';
 import { changedPieces } from './split.js';
 import { started, state } from './state.js';
 
@@ -59,7 +60,7 @@ function finish() {
     else first[row.number] = row.line;
     spread ||= row.spread;
   }
-  state.counted = { refused: refused.length, repeats, spread };
+  state.counted = { refused: refused.length, repeats, spread, causes: grouped(refused) };
   state.settled = true;
   settle();
   goOn();

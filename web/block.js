@@ -21,6 +21,12 @@ const { LAST_REFUSAL, NOT_UTF8, NOT_WHOLE } = STATUS;
 export const isRefusal = (error) =>
   error instanceof WktError && (error.status <= LAST_REFUSAL || error.status === NOT_UTF8 || error.status === NOT_WHOLE);
 
+/** The cause of a refusal, as a stable word. */
+export const causeOf = ({ place, status }) => place?.code ?? (status === NOT_UTF8 ? 'not_utf8' : `status_${status}`);
+
+/** Why a text is refused, in a sentence without the place. The Rust crate's message may be about another place. */
+export const sentenceIn = ({ cause }) => cause.slice(cause.indexOf(': ') + 2);
+
 const utf8 = new TextDecoder('utf-8', { ignoreBOM: true });
 
 /** The byte, from 1 on, at which a line stops being UTF-8. */
@@ -65,7 +71,7 @@ export class Refusals {
     this.#ask = ask;
   }
 
-  /** How many there are, and of the first the line, column, expected, found, hint, caret. */
+  /** How many there are, and of the first the line, column, expected, cause, found, hint, message, caret. */
   given() {
     return { count: this.count, whys: this.#whys };
   }
@@ -87,11 +93,13 @@ export class Refusals {
       if (!isRefusal(error)) throw error;
       if (error.place) {
         const { line, column, expected, hint, caret } = error.place;
-        return { down: line - 1, column, expected, hint: hint || '', caret, found: foundAt(bytes, error.place) };
+        const why = { column, expected, cause: causeOf(error), hint, message: sentenceIn(error.place), caret };
+        return { down: line - 1, ...why, found: foundAt(bytes, error.place) };
       }
       const at = notUtf8At(bytes.subarray(0, LONG));
       const caret = `${printable(utf8.decode(bytes.subarray(0, Math.min(at, 60))))}\n`;
-      return { down: 0, column: at, expected: 'UTF-8', hint: `byte ${at} of the line is not UTF-8`, caret, found: '' };
+      const hint = `byte ${at} of the line is not UTF-8`;
+      return { down: 0, column: at, expected: 'UTF-8', cause: causeOf(error), hint, message: error.words, caret, found: '' };
     }
     throw new Error('a refused line was read');
   }

@@ -1,5 +1,5 @@
 // The texts of the field, in a worker: each is answered once. What the picture needs of the answers stays here.
-import { isRefusal } from './block.js';
+import { causeOf, isRefusal } from './block.js';
 import { Range, boundsOf } from './range.js';
 import { Summary } from './summary.js';
 
@@ -80,7 +80,8 @@ export class Desk {
     } catch (error) {
       if (!isRefusal(error)) throw error;
       row.place = error.place;
-      return { accepted: false, words: error.words, status: error.status, place: error.place };
+      const { words, status, place } = error;
+      return { accepted: false, words, status, place, cause: causeOf(error) };
     }
   }
 

@@ -89,12 +89,13 @@ export function cell(value) {
   return /[",]/.test(safe) ? `"${safe.replaceAll('"', '""')}"` : safe;
 }
 
-const COLUMNS = ['line', 'column', 'expected', 'found', 'hint', 'caret'];
-
-/** A table of refusals, as a CSV (RFC 4180). The caret is cut to its line. */
+/** A table of refusals, as a CSV (RFC 4180): a place is a character of its line, and the text is what the caret shows of it. */
 export function tableOf(whys) {
-  const rows = whys.map((why) => COLUMNS.map((name) => cell(name === 'caret' ? why.caret.split('\n')[0] : why[name])).join(','));
-  return `${['line', 'column', 'expected', 'found', 'hint', 'text'].join(',')}\r\n${rows.map((row) => `${row}\r\n`).join('')}`;
+  const records = [['line', 'place', 'expected', 'cause', 'hint', 'message', 'text']];
+  for (const { line, column, expected, cause, hint, message, caret } of whys) {
+    records.push([line, column, expected, cause, hint, message, caret.split('\n')[0]]);
+  }
+  return records.map((record) => `${record.map(cell).join(',')}\r\n`).join('');
 }
 
 /**

@@ -1,13 +1,15 @@
 // A file: its answers as the worker finds them.
 import { askedSplit, forget, places } from './answers.js';
+import { LISTED } from './block.js';
 import { boundsInWords } from './canonical.js';
+import { causeTable, onCause, sentenceOf } from './causes.js';
 import { $, count, element, fill, number, printable, short, withoutCode, wordIn } from './elements.js';
 import { giveOf } from './give.js';
 import { leftWords, offerOf } from './offer.js';
 import { fit, showPoints } from './picture.js';
 import { splitOfFront } from './split.js';
 import { show, started, state } from './state.js';
-import { repeatsInWords, say } from './verdict.js';
+import { repeatsInWords, say, speak } from './verdict.js';
 
 /** So much of a file is looked at to see whether it is one geometry, and so much to see whether its lines are long. */
 const FRONT = 64 << 10, LONG = 1 << 20;
@@ -26,7 +28,8 @@ let saved = null; // the canonical lines, and the address of them once it is ask
 let name = '';
 let opened = null; // the file, how many others were dropped with it, and the form that it is turned from
 let drawn = false; // whether points of the file are drawn
-let told = null; // what the worker said last
+let told = null; // what the worker said last, and the lists that it said last
+let cause = null; // the refusals with that one are listed alone
 
 function stopWorker() {
   for (const it of [worker, ...helpers]) it?.terminate();
@@ -56,7 +59,7 @@ export function closeFile() {
   const current = begin();
   if (!state.file) return current;
   if (saved?.address) URL.revokeObjectURL(saved.address);
-  saved = told = null;
+  saved = told = cause = null;
   opened = null;
   state.file = false;
   showPoints(null, 0);
@@ -76,8 +79,9 @@ function showOpened() {
   $('text').setAttribute('aria-invalid', 'false');
   $('verdict').setAttribute('aria-busy', 'false');
   $('h-file').textContent = name;
-  const lists = element('div', { class: 'file', id: 'lists' });
-  lists.style.setProperty('padding', '0');
+  const found = element('div', { class: 'file', id: 'found' });
+  const lists = element('div', { class: 'file', id: 'lists' }, found);
+  for (const it of [found, lists]) it.style.setProperty('padding', '0');
   $('file-out').replaceChildren(element('progress', { max: 1, value: 0, 'aria-label': 'How much of the file is read', id: 'bar' }),
     element('p', { id: 'told' }), element('div', { class: 'meter', id: 'meter' }), lists);
 }
@@ -133,7 +137,7 @@ function cell(words, n, kind = null) {
 }
 
 function take(data) {
-  told = data;
+  told = { lists: told?.lists, ...data };
   const { done, read, size } = data;
   // A line is read, and then answered: each is half of the work.
   $('bar').value = size > 0 ? (read + done) / size / 2 : 1;
@@ -142,15 +146,24 @@ function take(data) {
     : `${megabytes(done)} of ${megabytes(size)} MB in ${data.seconds.toFixed(1)} s, ${rate < 10 ? rate.toFixed(1) : number(Math.round(rate))} MB/s`;
   fill($('meter'), cell('lines', data.lines), cell('accepted', data.accepted), cell('refused', data.refused, 'bad-text'),
     cell('repeats', data.repeats, 'note-text'), cell('points', data.lists?.points ?? 0), ...(data.blank > 0 ? [cell('blank', data.blank)] : []));
-  if (data.lists) takeLists(data, data.lists);
+  if (data.lists) {
+    showLists();
+    showPoints(data.lists.sample, data.lists.points);
+    if (!drawn || data.last) fit();
+    drawn = data.lists.points > 0;
+  }
   if (data.last) finish(data);
 }
 
-function takeLists(data, lists) {
-  fill($('lists'), ...kindsAndBounds(lists), ...reasons(data, lists), ...refusals(data, lists), ...repeats(data, lists));
-  showPoints(lists.sample, lists.points);
-  if (!drawn || data.last) fit();
-  drawn = lists.points > 0;
+function showLists() {
+  const { lists } = told;
+  fill($('found'), ...kindsAndBounds(lists), ...causes(told, lists), ...refusals(told, lists), ...repeats(told, lists));
+}
+
+function pickCause(picked) {
+  cause = cause === picked ? null : picked;
+  showLists();
+  speak($('refused-lines').textContent + (cause === null ? '' : `: ${withoutCode(sentenceOf(cause, places()))}`));
 }
 
 function kindsAndBounds({ kinds, bounds }) {
@@ -161,21 +174,25 @@ function kindsAndBounds({ kinds, bounds }) {
 
 const section = (heading, ...nodes) => element('section', {}, element('h3', {}, heading), ...nodes);
 
-function reasons(data, { reasons: found, asked }) {
-  if (found.length < 2) return [];
-  const items = found.sort((a, b) => b[1] - a[1]).slice(0, 8).map(([words, n]) => element('li', {}, `${number(n)} × ${withoutCode(words)}`));
-  return [section(asked < data.refused ? `Why the first ${number(asked)} are refused` : 'Why lines are refused', element('ul', {}, ...items))];
+function causes(data, { causes: found, asked }) {
+  if (asked < 2) return [];
+  return [section(asked < data.refused ? `Why the first ${number(asked)} are refused` : 'Why lines are refused', causeTable(found, places(), cause))];
 }
 
-function refusals(data, { refusals: first }) {
-  if (first.length === 0) return [];
+/** The first refusals; or those with the chosen cause, among all that are known. */
+function refusals(data, { refusals: listed, causes: found }) {
+  const all = cause === null ? data.refused : found.find((it) => it.cause === cause)?.n ?? 0;
+  const first = cause === null ? listed : (data.whys ?? listed).filter((why) => why.cause === cause).slice(0, LISTED);
+  if (all === 0) return [];
+  const what = cause === null ? count(all, 'refused line') : `${count(all, 'line')} refused by ${cause}`;
+  const head = element('h3', { id: 'refused-lines' }, first.length < all ? `The first ${first.length} of ${what}` : what);
   const block = element('div', { class: 'refusals', tabindex: 0, role: 'region', 'aria-label': 'Refused lines' });
   for (const { line, column, expected, found, hint, caret } of first) {
     const word = wordIn(found);
     const says = word ? `, and not ${word}` : '';
     block.append(element('b', {}, `line ${number(line)}, column ${number(column)}: ${withoutCode(expected)} was expected${says}`), `\n${caret}\n`, hint ? `why: ${hint}\n\n` : '\n');
   }
-  return [section(first.length < data.refused ? `The first ${first.length} refused lines` : 'Refused lines', block)];
+  return [element('section', {}, head, block)];
 }
 
 function repeats(data, { repeats: first, entered }) {
@@ -241,6 +258,7 @@ function stop() {
 
 export function startFiles() {
   $('stop').addEventListener('click', stop);
+  onCause($('file-out'), pickCause);
   $('save').addEventListener('click', () => {
     saved.address ??= URL.createObjectURL(linesOf());
     $('save').href = saved.address;

@@ -1,5 +1,6 @@
 // What is given out of all lines: their canonical texts, GeoJSON, or a table of the refusals; copied, or saved.
 import { lineOf, whenSettled } from './answers.js';
+import { sentenceIn } from './block.js';
 import { $, copied, count, fill, number } from './elements.js';
 import { started, state } from './state.js';
 import { tableOf } from './features.js';
@@ -23,9 +24,9 @@ function source() {
   if (file) return { ...file, lines: file.lines() };
   const { rows } = state;
   const whys = rows.filter((row) => !row.accepted).map((row) => {
-    if (!row.place) return { line: row.line, column: 1, expected: row.words, found: '', hint: '', caret: row.text };
-    const { column, expected, hint, caret, start, stop } = row.place;
-    return { line: lineOf(row), column, expected, hint: hint || '', caret, found: row.text.slice(start, Math.min(stop, start + 200)) };
+    const { text, cause, words } = row;
+    if (!row.place) return { line: row.line, column: 1, expected: '', cause, hint: words, message: words, caret: text };
+    return { ...row.place, cause, message: sentenceIn(row.place), line: lineOf(row) };
   });
   return { name: 'texts', lines: new Blob([rows.map((row) => `${row.accepted ? row.canonical : 'refused'}\n`).join('')]), numbers: rows.map((row) => row.line), whys, refused: whys.length };
 }

@@ -2,6 +2,7 @@
 // kept but what is counted, listed, and saved.
 import { joined } from '../javascript/src/lines.js';
 import { ASKED, Blocks, LISTED } from './block.js';
+import { grouped } from './causes.js';
 import { Range, boundsOf } from './range.js';
 import { Repeats, WORDS, lineEnd } from './repeats.js';
 import { LOOKED, formsOf, turned } from './takein.js';
@@ -212,12 +213,7 @@ export class Reading {
   #lists(now) {
     this.#listed = now;
     const all = summed([...this.#counted.values()]);
-    const reasons = new Map();
-    for (const { hint, expected } of this.#whys) {
-      const reason = hint || `${expected} was expected`;
-      reasons.set(reason, (reasons.get(reason) ?? 0) + 1);
-    }
-    return { ...all, refusals: this.#whys.slice(0, LISTED), reasons: [...reasons], asked: this.#whys.length,
+    return { ...all, refusals: this.#whys.slice(0, LISTED), causes: grouped(this.#whys), asked: this.#whys.length,
       repeats: this.#repeats.first.map((pair) => pair.map((line) => numberOf(this.#numbers, line))), entered: this.#repeats.full ? this.#repeats.entered : null };
   }
 }

@@ -1,7 +1,9 @@
 // The table of lines. Only those that are seen, and some around them, stand in the document.
-import { $, button, colored, element, fill, number, printable } from './elements.js';
+import { $, button, colored, count, element, fill, number, printable, withoutCode } from './elements.js';
+import { places } from './answers.js';
+import { causeTable, onCause, sentenceOf } from './causes.js';
 import { choose, state } from './state.js';
-import { withAxes } from './verdict.js';
+import { speak, withAxes } from './verdict.js';
 
 /** The height of a row, as page.css has it, and how many more than are seen stand there. */
 const HEIGHT = 33, MORE = 10;
@@ -11,20 +13,44 @@ const FILTERS = {
   repeats: (row) => Boolean(row.repeats),
 };
 const scroller = $('rows-scroll');
-let filter = 'all';
+let filter = 'all'; // one of FILTERS, or a cause
 let shown = []; // the places of the rows that the filter takes
 /** Where the table is scrolled to, and how high it is: to ask for it would lay out the page at each key. */
 let scrolled = { top: 0, height: 420 };
 
-function filterButtons() {
-  const counts = Object.entries(FILTERS).map(([name, takes]) => [name, state.rows.reduce((n, row) => n + takes(row), 0)]).filter(([, n]) => n > 0);
-  if (!counts.some(([name]) => name === filter)) filter = 'all';
-  return counts.map(([name, n]) => button(`${name} ${number(n)}`, { 'aria-pressed': String(filter === name), 'data-filter': name }, () => {
-    filter = name;
-    scroller.scrollTop = scrolled.top = 0;
-    showRows();
+const takes = (row) => (FILTERS[filter] ? FILTERS[filter](row) : row.cause === filter);
+
+function filterTo(name) {
+  filter = name;
+  scroller.scrollTop = scrolled.top = 0;
+  showRows();
+}
+
+function filterButtons({ refused, repeats, causes }) {
+  const chosen = causes.find(({ cause }) => cause === filter);
+  const some = [['all', state.rows.length], ['refused', refused], ['repeats', repeats], [filter, chosen?.n ?? 0]].filter(([, n]) => n > 0);
+  if (!some.some(([name]) => name === filter)) filter = 'all';
+  return some.map(([name, n]) => button(`${name} ${number(n)}`, { 'aria-pressed': String(filter === name), 'data-filter': name }, () => {
+    filterTo(name);
     document.querySelector(`[data-filter=${name}]`)?.focus();
   }));
+}
+
+/** Shows the lines with a cause alone, and all of them where those are shown already. */
+function pickCause(cause) {
+  filterTo(filter === cause ? 'all' : cause);
+  if (filter !== cause) {
+    speak(`All ${count(shown.length, 'line')} are shown.`);
+    return;
+  }
+  choose(shown[0]);
+  speak(`${count(shown.length, 'line')} shown: ${withoutCode(sentenceOf(cause, places()))}.`);
+}
+
+/** The table of causes, where one has several lines: else the table of lines says all of it. */
+function showCauses({ refused, causes }) {
+  $('causes').hidden = causes.length === refused;
+  fill($('causes'), causeTable(causes, places(), filter));
 }
 
 function answerCell(row, i) {
@@ -67,9 +93,10 @@ export function showRows() {
     shown = [];
     return;
   }
-  fill($('filters'), ...filterButtons());
+  fill($('filters'), ...filterButtons(state.counted));
+  showCauses(state.counted);
   shown = [];
-  state.rows.forEach((row, i) => FILTERS[filter](row) && shown.push(i));
+  state.rows.forEach((row, i) => takes(row) && shown.push(i));
   $('table').setAttribute('aria-rowcount', shown.length + 1);
   showSeen();
 }
@@ -93,6 +120,7 @@ export function startRows(go) {
     if (state.settled) showSeen(); // else its rows may be gone
   };
   scroller.addEventListener('scroll', follow);
+  onCause($('causes'), pickCause);
   $('rows').addEventListener('click', (event) => {
     const row = event.target.closest('tr[data-i]');
     if (row) choose(Number(row.dataset.i));

@@ -8,8 +8,8 @@ export const state = {
   rows: [],
   /** Whether each of them is answered. */
   settled: true,
-  /** What was counted when they were: how many are refused, how many repeat another, and whether one has many lines. */
-  counted: { refused: 0, repeats: 0, spread: false },
+  /** What was counted when they were: how many are refused, and by which causes, how many repeat another, and whether one has many lines. */
+  counted: { refused: 0, repeats: 0, spread: false, causes: [] },
   /** Which of them is looked at; -1: none. */
   chosen: -1,
   /** Whether a file is open, and not the field's text. */

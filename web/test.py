@@ -5,8 +5,8 @@ PAGE is dist/web/index.html where it is left out. It is opened without a server,
 server's log. MB is the size of the large file, 8 where it is left out. FOLDER gets pictures of the page, light and
 dark, wide and narrow. It needs the Debian packages chromium, chromium-driver and python3-selenium.
 
-Here are the tests that nothing leaves the page; those of texts, files, access, and of what it takes in and
-gives out are in web/test.
+Here are the tests that nothing leaves the page; those of texts, files, causes, access, and of what it takes in
+and gives out are in web/test.
 """
 import argparse
 import functools
@@ -20,6 +20,7 @@ import unittest
 
 sys.path.insert(0, os.path.dirname(os.path.abspath(__file__)) + "/test")
 from access import Access  # noqa: E402 (found by the line above)
+from causes import Causes  # noqa: E402
 from chromium import Page, Quiet  # noqa: E402
 from files import Files  # noqa: E402
 from give import Give  # noqa: E402
@@ -28,7 +29,7 @@ from texts import Texts  # noqa: E402
 
 TOP = os.path.dirname(os.path.dirname(os.path.abspath(__file__)))
 # The tests that unittest.main finds in this module besides its own.
-TESTS = (Texts, Files, Access, Give)
+TESTS = (Texts, Files, Access, Give, Causes)
 
 # What a page could send or load, and the directive of the policy that refuses it.
 LEAVING = {

@@ -12,7 +12,7 @@ const QUIET = 700;
 let timer = 0;
 
 /** Speaks words, for those who don't see the page, when nothing else was said for a while. */
-function speak(words) {
+export function speak(words) {
   clearTimeout(timer);
   timer = setTimeout(() => {
     fill($('spoken'), words);

@@ -9,6 +9,12 @@ from selenium.webdriver.common.by import By
 from selenium.webdriver.support.ui import Select
 
 LINES = "POINT(0.10 2)\nLINESTRING(1 2)\nPOLYGON((0 0,0 1,1 1,0 0))\nPOINT(1)\nPOINT M(1 2 3)"
+# The table of their refusals, by docs/names.tsv.
+REFUSALS = [
+    "line,place,expected,cause,hint,message,text",
+    '4,8,a second number,expected_y,,"a second number was expected, and not )",POINT(1)',
+    "",
+]
 # A text; the words on the button; what stands in the field then.
 TAKEN = [
     ("\ufeffPOINT(1 2)", "Take it off", "POINT(1 2)"),
@@ -50,7 +56,7 @@ class Give(Page):
         self.assertEqual([1, 2], features[2]["geometry"]["coordinates"])
         self.assertIn("line 2: a line has less than two positions", self.said("given"))
         self.choose(form="csv")
-        self.assertEqual("4,8,a second number,),,POINT(1)", self.saved("texts.refusals.csv").split("\r\n")[1])
+        self.assertEqual(REFUSALS, self.saved("texts.refusals.csv").split("\r\n"))
         self.choose(form="wkt", refused="keep")
         self.by_id("give-copy").click()
         self.wait(lambda: self.said("given").startswith("Copied"))

@@ -1,8 +1,10 @@
 // What the page takes in beside well-known text, and what it gives out: node --test web/test/give.test.js
 import assert from 'node:assert/strict';
+import { readFileSync } from 'node:fs';
 import { test } from 'node:test';
 import { load } from '../../javascript/src/node.js';
 import { Blocks } from '../block.js';
+import { grouped, sentenceOf } from '../causes.js';
 import { asRfc7946, cell, formed, tableOf } from '../features.js';
 import { describe, found, lengthOf, stepped } from '../hit.js';
 import { Summary } from '../summary.js';
@@ -104,10 +106,29 @@ test('canonical lines', () => {
 });
 
 test('a table of refusals', () => {
-  const why = { line: 3, column: 7, expected: 'a first number, `(` or EMPTY', found: '=1+2', hint: '', caret: 'POINT("a")\n      ^' };
+  const expected = 'a first number, `(` or EMPTY';
+  const why = { line: 3, column: 7, expected, cause: 'expected_point', hint: '', message: 'Format', caret: '=POINT("a")\n      ^' };
   assert.deepEqual([...records(tableOf([why]), ',')].map(({ cells }) => cells),
-    [['line', 'column', 'expected', 'found', 'hint', 'text'], ['3', '7', 'a first number, `(` or EMPTY', "'=1+2", '', 'POINT("a")']]);
+    [['line', 'place', 'expected', 'cause', 'hint', 'message', 'text'], ['3', '7', expected, 'expected_point', '', 'Format', '\'=POINT("a")']]);
   assert.deepEqual(['\u202e', '-1', 'a\nb'].map(cell), ['\\u{202e}', "'-1", 'a\\x0ab']);
+});
+
+test('refusals by their causes', () => {
+  const lines = ['POINT(1', 'SRID=1;POINT(1 2)', 'POINT(1 2) x', 'POINT(1', 'POINT(0.1234 1)', 'POINT(0.12345 1)', 'POINT(\xff 1)', 'POINT(1 2)'];
+  const bytes = Uint8Array.from(lines.join('\n'), (c) => c.charCodeAt(0));
+  const { whys } = new Blocks(wkt, { places: 3 }).lines(bytes, 100).refusals;
+  assert.deepEqual(grouped(whys), [
+    { cause: 'expected_y', n: 2, first: 1 }, { cause: 'places', n: 2, first: 5 }, { cause: 'srid', n: 1, first: 2 }, { cause: 'not_whole', n: 1, first: 3 },
+    { cause: 'not_utf8', n: 1, first: 7 }]);
+  assert.equal(sentenceOf('places', 3), 'numbers have at most 3 places here');
+  assert.equal(sentenceOf('not_utf8'), 'the text is not UTF-8');
+  assert.equal(sentenceOf('hint_99'), 'hint_99');
+  // Each cause of docs/names.tsv has the sentence that stands there.
+  for (const [group, , name, text] of readFileSync(new URL('../../docs/names.tsv', import.meta.url), 'utf8').split('\n').map((row) => row.split('\t'))) {
+    const word = name?.replace(/(?<=[a-z])(?=[A-Z])/g, '_').toLowerCase();
+    if (group === 'hint' && text) assert.equal(sentenceOf(word, '%u'), text);
+    if (group === 'expected') assert.equal(sentenceOf(`expected_${word}`), `${text} was expected`);
+  }
 });
 
 test('what lies at a place of the picture', () => {
