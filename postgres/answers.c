@@ -8,10 +8,8 @@
 static const char *const kinds[] = WKT_KIND_WORDS;
 static const char *const dimensions[] = WKT_DIMENSION_WORDS;
 
-uint32_t places_of(int32 places, int32 most) {
-    if (places < 0 || places > most)
-        ereport(ERROR, (errcode(ERRCODE_INVALID_PARAMETER_VALUE), errmsg("places must be between 0 and %d", most)));
-    return (uint32_t)places;
+void fail_with_places(int32 most) {
+    ereport(ERROR, (errcode(ERRCODE_INVALID_PARAMETER_VALUE), errmsg("places must be between 0 and %d", most)));
 }
 
 static bool is_ascii(const char *given, size_t length) {
@@ -51,38 +49,45 @@ static bool is_refusal(wkt_status status) {
  * nothing, and an answer that doesn't fit would be made twice. */
 static size_t room_for(size_t length) { return Min(2 * length + 16, MaxAllocSize - VARHDRSZ); }
 
+static inline wkt_status call_canonical(Call *call) {
+    const Question *asked = call->asked;
+    uint8_t *out = call->made ? (uint8_t *)VARDATA(call->made) : NULL;
+    size_t room = out ? room_for(asked->length) : 0, end;
+    return wkt_canonical(asked->utf8, asked->length, asked->places | WKT_WHOLE, out, room, &call->needed, &end);
+}
+
 /* The canonical text of a whole text, if `answer` is asked for; false where it is refused. */
 bool canonical_of(const Question *asked, text **answer) {
-    size_t needed = 0, end;
     text *made = answer ? palloc(VARHDRSZ + room_for(asked->length)) : NULL;
-    wkt_status status;
+    Call call = {.asked = asked, .made = made};
+    wkt_status status = make_call(call_canonical, &call, asked->length);
 
-    CALL(status, asked->length,
-         wkt_canonical(asked->utf8, asked->length, asked->places | WKT_WHOLE, made ? (uint8_t *)VARDATA(made) : NULL,
-                       made ? room_for(asked->length) : 0, &needed, &end));
-    if (status == WKT_TOO_SMALL && answer)
-        ereport(ERROR, (errcode(ERRCODE_PROGRAM_LIMIT_EXCEEDED),
-                        errmsg("the canonical text is too long: it has %zu bytes", needed)));
+    if (status == WKT_TOO_SMALL && !answer) return true; /* there was no room, and nothing else was wrong */
     if (status == WKT_OK && answer) {
-        SET_VARSIZE(made, VARHDRSZ + needed);
+        SET_VARSIZE(made, VARHDRSZ + call.needed);
         *answer = made;
-    } else if (made)
-        pfree(made);
-    if (status == WKT_OK || status == WKT_TOO_SMALL) return true;
+        return true;
+    }
+    if (made) pfree(made);
+    if (status == WKT_TOO_SMALL)
+        ereport(ERROR, (errcode(ERRCODE_PROGRAM_LIMIT_EXCEEDED),
+                        errmsg("the canonical text is too long: it has %zu bytes", call.needed)));
     if (!is_refusal(status)) fail_with(status);
     return false;
 }
 
+static inline wkt_status call_same(Call *call) {
+    const Question *one = call->asked, *other = one + 1;
+    return wkt_same(one->utf8, one->length, other->utf8, other->length, one->places | WKT_WHOLE, &call->same);
+}
+
 /* Whether two whole texts have one canonical text; false where one of them is refused. */
 bool are_same(const Question asked[2], bool *same) {
-    uint32_t answer = 0;
-    wkt_status status;
+    Call call = {.asked = asked};
+    wkt_status status = make_call(call_same, &call, Max(asked[0].length, asked[1].length));
 
-    CALL(
-        status, Max(asked[0].length, asked[1].length),
-        wkt_same(asked[0].utf8, asked[0].length, asked[1].utf8, asked[1].length, asked[0].places | WKT_WHOLE, &answer));
     if (status != WKT_OK && !is_refusal(status)) fail_with(status);
-    *same = answer;
+    *same = call.same;
     return status == WKT_OK;
 }
 

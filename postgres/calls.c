@@ -6,6 +6,7 @@
  * three, nor amid a handler of the server's. */
 #include "wkt_pg.h"
 
+#include <setjmp.h>
 #include <signal.h>
 #include <stdlib.h>
 #include <sys/time.h>
@@ -16,8 +17,7 @@
 
 #define TICK 50000 /* microseconds of the processor */
 
-sigjmp_buf call_left;
-
+static sigjmp_buf call_left;
 static volatile sig_atomic_t may_leave; /* the library's own code runs, in a long call */
 static bool was_left;                   /* the call is made again */
 static struct sigaction handler_before;
@@ -54,15 +54,7 @@ static void start_timer(void) {
     setitimer(ITIMER_PROF, &timer, &timer_before);
 }
 
-void begin_call(void) {
-    was_left = false;
-    start_timer();
-}
-
-void enter_call(void) { set_may_leave(1); }
-
-void end_call(void) {
-    set_may_leave(0);
+static void stop_timer(void) {
     setitimer(ITIMER_PROF, &timer_before, NULL);
     sigaction(SIGPROF, &handler_before, NULL);
 }
@@ -123,10 +115,23 @@ void __wrap_free(void *at) {
 }
 
 /* Serves what the call was left for. If that is no error, the call is made again. */
-void serve_interrupt(void) {
-    end_call();
+static void serve_interrupt(void) {
+    stop_timer();
     while (blocks.after != &blocks) __wrap_free(blocks.after + 1);
     CHECK_FOR_INTERRUPTS();
     was_left = true;
     start_timer();
+}
+
+wkt_status long_call(wkt_status (*function)(Call *), Call *call) {
+    wkt_status status;
+    was_left = false;
+    start_timer();
+    while (sigsetjmp(call_left, 1) != 0) serve_interrupt();
+    set_may_leave(1);
+    status = function(call);
+    set_may_leave(0);
+    stop_timer();
+    CHECK_FOR_INTERRUPTS();
+    return status;
 }

@@ -19,31 +19,39 @@ typedef struct Refusal {
     const char *expected, *cause, *hint, *message;
 } Refusal;
 
+static inline wkt_status call_hint(Call *call) {
+    const Question *asked = call->asked;
+    return wkt_hint(asked->utf8, asked->length, asked->places, &call->hint);
+}
+
 /* What the text may come from, or what would be read. */
 static void add_hint(Refusal *refusal, const Question *asked) {
     static const char *const hints[] = WKT_HINTS, *const words[] = WKT_HINT_WORDS;
-    uint32_t hint = WKT_HINT_NONE;
-    wkt_status status;
+    Call call = {.asked = asked};
     char *said;
-    CALL(status, asked->length, wkt_hint(asked->utf8, asked->length, asked->places, &hint));
-    if (status != WKT_OK || hint == WKT_HINT_NONE) return;
-    said = psprintf(hints[hint], asked->places);
+    if (make_call(call_hint, &call, asked->length) != WKT_OK || call.hint == WKT_HINT_NONE) return;
+    said = psprintf(hints[call.hint], asked->places);
     said[0] = (char)pg_toupper((unsigned char)said[0]);
     refusal->hint = psprintf("%s.", said);
-    refusal->cause = words[hint];
+    refusal->cause = words[call.hint];
+}
+
+static inline wkt_status call_explain(Call *call) {
+    const Question *asked = call->asked;
+    uint32_t message;
+    size_t stop;
+    return wkt_explain(asked->utf8, asked->length, asked->places | WKT_WHOLE, &message, &call->start, &stop,
+                       &call->expected);
 }
 
 static Refusal refusal_of(const Question *asked) {
     static const char *const expected[] = WKT_EXPECTED, *const words[] = WKT_EXPECTED_WORDS;
-    Refusal refusal = {0};
-    uint32_t message, what;
-    size_t stop;
-    wkt_status status;
-    CALL(status, asked->length,
-         wkt_explain(asked->utf8, asked->length, asked->places | WKT_WHOLE, &message, &refusal.start, &stop, &what));
+    Call call = {.asked = asked};
+    wkt_status status = make_call(call_explain, &call, asked->length);
+    Refusal refusal = {.start = call.start};
     if (status == WKT_OK) {
-        refusal.expected = expected[what];
-        refusal.cause = psprintf("expected_%s", words[what]);
+        refusal.expected = expected[call.expected];
+        refusal.cause = psprintf("expected_%s", words[call.expected]);
         add_hint(&refusal, asked);
     } else if (status == WKT_NOT_WHOLE) {
         refusal.expected = "the end of the text";

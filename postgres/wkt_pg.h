@@ -4,8 +4,6 @@
 
 #include "postgres.h"
 
-#include <setjmp.h>
-
 #include "fmgr.h"
 #include "miscadmin.h"
 #include "nodes/nodes.h"
@@ -30,33 +28,32 @@ typedef struct Question {
     uint32_t places;
 } Question;
 
-/* Calls the library. A cancel or a timeout ends the call within a second, also amid a long text (calls.c). */
-#define CALL(status, length, call) \
-    do { \
-        CHECK_FOR_INTERRUPTS(); \
-        if ((length) < LONG_CALL) { \
-            (status) = (call); \
-            break; \
-        } \
-        begin_call(); \
-        while (sigsetjmp(call_left, 1) != 0) serve_interrupt(); \
-        enter_call(); \
-        (status) = (call); \
-        end_call(); \
-        CHECK_FOR_INTERRUPTS(); \
-    } while (0)
+/* A call of the library: what it is asked, and what it answers. */
+typedef struct Call {
+    const Question *asked; /* wkt_same: two */
+    text *made;            /* with room for the canonical text; NULL where it isn't asked for */
+    union {
+        size_t needed, start;
+    };
+    union {
+        uint32_t same, expected, hint;
+    };
+} Call;
+
+/* calls.c */
+extern wkt_status long_call(wkt_status (*function)(Call *), Call *call);
 /* What the library reads within some 30 milliseconds. */
 #define LONG_CALL (1 << 20)
 
-/* calls.c */
-extern sigjmp_buf call_left;
-extern void begin_call(void);
-extern void enter_call(void);
-extern void end_call(void);
-extern void serve_interrupt(void);
+/* Makes a call on so many bytes. A cancel or a timeout ends it within a second, also amid a long text. The functions are
+ * inline, so that a short text is read without a call through a pointer. */
+static inline wkt_status make_call(wkt_status (*function)(Call *), Call *call, size_t length) {
+    CHECK_FOR_INTERRUPTS();
+    return length < LONG_CALL ? function(call) : long_call(function, call);
+}
 
 /* answers.c */
-extern uint32_t places_of(int32 places, int32 most);
+extern void fail_with_places(int32 most);
 extern Question question_of(const char *given, size_t length, uint32_t places);
 extern Question question_of_text(text *given, uint32_t places);
 extern bool canonical_of(const Question *asked, text **answer);
@@ -64,6 +61,11 @@ extern bool are_same(const Question asked[2], bool *same);
 extern char *header_of(uint32_t kind, uint32_t dimension);
 extern text *front_of(Datum given, int32 length);
 extern bool header_from(Datum given, uint32_t *kind, uint32_t *dimension);
+
+static inline uint32_t places_of(int32 places, int32 most) {
+    if (places < 0 || places > most) fail_with_places(most);
+    return (uint32_t)places;
+}
 
 /* refusals.c */
 extern Datum refuse(Node *context, const Question *asked);

@@ -17,6 +17,12 @@ SELECT wkt_same('LINESTRING(0 0,1 1)', 'LINESTRING(1 1,0 0)'), wkt_same('POINT(0
 SELECT wkt_kind('polygon zm ((1'), wkt_kind('POINT(1 2)'), wkt_kind('nonsense'), wkt_kind('');
 SELECT wkt_reads('POINT(1 2)'), wkt_reads('POINT(1)'), wkt_reads('POINT(1 2) more'), wkt_reads('POINT(1 2) '), wkt_reads('');
 SELECT wkt_reads('POINT(1.5 2)', 0), wkt_reads('POINT(1.5 2)', 6);
+-- Of long texts, which a cancel can leave
+CREATE TABLE long AS SELECT 'LINESTRING(' || repeat('1.0 2,', 200000) || '3 4' AS t;
+SELECT length(wkt_canonical(t || ')')), wkt_canonical(t || ')') = 'LINESTRING(' || repeat('1 2,', 200000) || '3 4)' AS is_it, wkt_reads(t || ')'), wkt_reads(t) FROM long;
+SELECT wkt_same(t || ')', t || '.0 )'), wkt_same(t || ')', t || ',3 4)'), wkt_same(t || ')', 'POINT(1 2)') FROM long;
+SELECT length(t), e.place, e.expected, e.cause, e.hint, r.place, r.hint, length(s.value::text) FROM long, wkt_explain(t || ' 5)') e, wkt_read(t || ' 5)') r, wkt_read(t || ')') s;
+SELECT wkt_same(t || ')', t) FROM long;
 -- Null in, null out
 SELECT wkt_canonical(NULL), wkt_canonical('POINT(1 2)', NULL), wkt_same(NULL, 'POINT(1 2)'), wkt_same('POINT(1 2)', NULL),
        wkt_reads(NULL), wkt_kind(NULL::text), wkt_kind(NULL::wkt), wkt_explain(NULL), NULL::wkt;
