@@ -103,16 +103,23 @@ text *front_of(Datum given, int32 length) {
     return (text *)(is_elsewhere ? PG_DETOAST_DATUM_SLICE(given, 0, length) : held);
 }
 
+static inline wkt_status call_infer(Call *call) {
+    return wkt_infer(call->asked->utf8, call->asked->length, &call->kind, &call->dimension);
+}
+
 /* The kind and the dimension that the header of a text names; false where it names none. The header ends at the first
  * parenthesis, so a text that has one in its front is read no further. */
 bool header_from(Datum given, uint32_t *kind, uint32_t *dimension) {
     text *front = front_of(given, LONGEST_FRONT);
     const char *opening = memchr(VARDATA_ANY(front), '(', VARSIZE_ANY_EXHDR(front));
     Question asked;
+    Call call = {.asked = &asked};
     wkt_status status;
     if (opening == NULL) front = DatumGetTextPP(given);
     asked = question_of(VARDATA_ANY(front), opening ? opening + 1 - VARDATA_ANY(front) : VARSIZE_ANY_EXHDR(front), 0);
-    status = wkt_infer(asked.utf8, asked.length, kind, dimension);
+    status = make_call(call_infer, &call, asked.length);
     if (status == WKT_NO_MEMORY) fail_with(status);
+    *kind = call.kind;
+    *dimension = call.dimension;
     return status == WKT_OK;
 }

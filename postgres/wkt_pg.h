@@ -36,8 +36,9 @@ typedef struct Call {
         size_t needed, start;
     };
     union {
-        uint32_t same, expected, hint;
+        uint32_t same, expected, hint, kind;
     };
+    uint32_t dimension;
 } Call;
 
 /* calls.c */

@@ -26,12 +26,12 @@ static uint32_t places_needed(const Question *asked) {
     uint32_t needed = 0, digits = 0;
     bool is_large = false, is_behind = false;
     for (size_t i = 0; i < asked->length; i++) {
+        CHECK_FOR_INTERRUPTS();
         if (isdigit(asked->utf8[i])) {
             digits++;
             if (!is_behind && digits > 20) is_large = true;
             if (is_behind && asked->utf8[i] != '0') needed = Max(needed, digits);
         } else {
-            CHECK_FOR_INTERRUPTS();
             is_behind = asked->utf8[i] == '.';
             digits = 0;
         }

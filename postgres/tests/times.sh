@@ -1,6 +1,7 @@
 # Sourced by test.sh: how long calls take, and what wkt_same keeps from row to row.
 
 # cancel: a cancel, or a timeout, that comes amid a call of the library on some 100 MB ends it. The fifth shape takes longest.
+# Two texts of digits have 600 MB.
 ask postgres "create database cancel"
 ask cancel "create extension wkt" "create table long (id int, t text)" "alter table long alter t set storage external" "insert into long
     select 1, 'LINESTRING(' || repeat('12.345678 34.567891,', 5000000) || '0 0)' union all
@@ -53,6 +54,8 @@ done <<'CALLS'
 1200 count(*) from long, wkt_points(t::wkt) where id = 2
 1300 wkt_num_points(t::wkt) from long where id = 2
 1100 count(*) from long, wkt_each(t::wkt) where id = 2
+1200 wkt_kind(repeat(repeat('9', 1000000), 600))
+2700 repeat(repeat('9', 1000000), 600)::wkt
 CALLS
 echo "cancel: calls on some 100 MB take at most $most ms of the processor after a cancel ($which)"
 # A session goes on after timeouts, and has given their memory back.
