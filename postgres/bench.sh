@@ -34,7 +34,7 @@ counted() {
     rm -f counted*
     printf '%s\n' "${twice[@]}" "${twice[@]}" | as valgrind --tool=callgrind --dump-before=pg_parse_query --callgrind-out-file=counted \
         "$bin/postgres" --single -D data "${server_flags[@]}" postgres > "$dir/err" 2>&1
-    printf '| %s | %s |\n' "$1" "$(sed -n 's/.*ERROR: */fails: /p' "$dir/err" | grep -m 1 . || awk '/^summary:|^totals:/ { printf "%.1f", $2 / 1e6; exit }' counted.8)"
+    printf '| %s | %s |\n' "$1" "$(sed -n 's/.*ERROR: */fails: /p' "$dir/err" | grep -m 1 . || awk '/^summary:|^totals:/ { printf "%.2f", $2 / 1e6; exit }' counted.8)"
     as "$bin/pg_ctl" -D data -w -o "-k $PGHOST -h '' -F ${server_flags[*]}" -l log start > /dev/null
 }
 # measured NAME SETUP STATEMENT: a row of the table, the statement in a transaction that is rolled back
