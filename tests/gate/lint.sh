@@ -16,7 +16,7 @@ asked() {
         echo "lint: no $tool: tests/needs.sh installs it, SKIP=$tool passes it over"
         status=1
     elif "${@:3}"; then
-        echo "lint: $tool: no word about $what"
+        echo "lint: $tool: nothing to report on $what"
     else
         echo "lint: $tool: FAILED"
         status=1
@@ -36,6 +36,6 @@ asked shellcheck "${#scripts[@]} scripts" shellcheck -x -a -S warning -f gcc "${
 mapfile -d '' -t c < <(git ls-files -z '*.c' '*.h' '*.cpp')
 case $(clang-format --version 2> /dev/null) in
     '' | *' version 14.'*) asked clang-format "${#c[@]} files of C" clang-format --dry-run -Werror "${c[@]}" ;;
-    *) echo "lint: clang-format isn't of version 14: not asked" ;;
+    *) echo "lint: clang-format isn't of version 14: not asked" | tee -a "${NOT_RUN:-/dev/null}" ;;
 esac
 exit $status

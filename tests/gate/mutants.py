@@ -164,6 +164,9 @@ def main():
             print(f"{name}: {'refused' if answer[0] else 'NOT REFUSED'}: {answer[1]}", flush=True)
     note_refused(refused)
     print(f"{len(refused)} mutants refused, {failed} not, {left} left for the next time")
+    if left and "NOT_RUN" in os.environ:  # of the gate, which ends with what it didn't run
+        with open(os.environ["NOT_RUN"], "a", encoding="utf-8") as passed_over:
+            passed_over.write(f"{left} stale mutants: tests/gate/mutants.py --stale\n")
     return 1 if failed else 0
 
 
