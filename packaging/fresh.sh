@@ -64,6 +64,7 @@ cd /; python -c \"import wkt; assert wkt.canonical('point ( 1 2.50 )') == '$answ
 row "C, C++" "" "$(first "C, C++")"
 row Rust "$(packages Rust) librust-geo-types-dev" "rm -rf /tmp/mine && cargo new -q /tmp/mine && tests/lib/cargo_home.sh ~/.cargo && cd /tmp/mine; $(first Rust | sed 's,CLONE,/clone,')
 echo 'fn main() { print!(\"{}\", wkt_proved::canonical(\"point ( 1 2.50 )\", 6).unwrap()) }' > src/main.rs; [ \"\$(cargo run -q --offline)\" = '$answer' ]"
+row JavaScript "$(packages JavaScript)" "echo \"$(first JavaScript); console.log((await load()).canonical('point ( 1 2.50 )'))\" > try.mjs; node try.mjs | grep -qxF '$answer'"
 printf '%s;\n' "$(cell PostgreSQL 2 | sed -n 2p)" "SELECT wkt_canonical('point ( 1 2.50 )')" 'DROP EXTENSION wkt' > "$debian/row.sql"
 row PostgreSQL "$(packages PostgreSQL)" "$(first PostgreSQL)
 service postgresql start; trap 'service postgresql stop' EXIT; su postgres -c 'psql -qAt -v ON_ERROR_STOP=1 -f /row.sql' | grep -xF '$answer'"
