@@ -15,8 +15,8 @@ from ._values import MOST_PLACES, places_of
 
 REJECTS = ["file", "row", "column", "cause", "hint", "text"]
 SHOWN = 10  # So many refusals are shown where they go to no file.
-END = """Rows that have a key are written to --out, behind it. A text that is refused has none, and neither has an empty
-field. Status 0: each text was read; 1: some were refused; 2: wrong usage, or a file that can't be read or written.
+END = """Rows that have a key are written to --out, with the key first. A text that is refused has none, and neither has an
+empty field. Status 0: each text was read; 1: some were refused; 2: wrong usage, or a file that can't be read or written.
 docs/FILES.md has a nightly job."""
 
 
@@ -203,7 +203,7 @@ def options(words: Sequence[str]) -> Any:
     add("files", nargs="+", metavar="FILE", help="a file of comma-separated rows, with a header; - is standard input")
     add("--column", required=True, metavar="NAME", help="the column with the texts; its number without a header")
     add("--places", type=int, default=18, metavar="N", help="digits that may stand after the point, 0 to 36 (18)")
-    add("--out", default="-", metavar="FILE", help="where the rows go, each behind its key (standard output)")
+    add("--out", default="-", metavar="FILE", help="where the rows go, each after its key (standard output)")
     add("--rejects", metavar="FILE", help="where refused texts go: " + ", ".join(REJECTS))
     add("--dedup", action="store_true", help="of rows with one key only the first")
     add("--join", metavar="OTHER", help="each row with each row of OTHER that has its key")
@@ -211,7 +211,7 @@ def options(words: Sequence[str]) -> Any:
     add("--all", action="store_true", help="rows without a key too: their key is empty. Not with --join")
     add("--key", default="key", metavar="NAME", help="the name of the new column (key)")
     add("--delimiter", default=",", metavar="C", help="what separates fields: a character, or the word tab")
-    add("--no-header", action="store_true", help="the first row is a row as the others")
+    add("--no-header", action="store_true", help="the first row is a row like the others")
     add("-q", "--quiet", action="store_true", help="says nothing on standard error but why a run fails")
     asked = parser.parse_args(words)
     asked.delimiter = "\t" if asked.delimiter == "tab" else asked.delimiter
