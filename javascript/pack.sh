@@ -14,6 +14,8 @@ trap 'rm -rf "$work"' EXIT
 mkdir "$work/package"
 cp -r "$here"/{package.json,README.md,src} "$top"/LICENSE-{APACHE,MIT} "$work/package"
 cp "$top/dist/NOTICE" "$work/package"
+# Of what the module was made, where that is beside it, as in dist/wasm.
+[ ! -e "$(dirname "$module")/PROVENANCE" ] || cp "$(dirname "$module")/PROVENANCE" "$work/package"
 "$here/build.py" "$module" "$work/package"
 tar -C "$work" --format=ustar --sort=name --owner=0 --group=0 --numeric-owner --mode=u=rwX,go=rX --mtime="@$when" -cf - package |
     gzip -9n > "$out/wkt-proved-$version.tgz"

@@ -97,7 +97,8 @@ javascript() {
     tar -C "$dir/app/node_modules/wkt-proved" --strip-components=1 -xzf "$out"/wkt-proved-*.tgz
     echo "import { load } from 'wkt-proved'; console.log((await load()).canonical('$text'));" > "$dir/app/app.mjs"
     [ "$(cd "$dir/app" && node app.mjs)" = "$answer" ] || fail "the package for JavaScript"
-    echo "package for JavaScript: called by its name"
+    (cd "$dir/app/node_modules/wkt-proved" && grep ' wkt.wasm$' PROVENANCE | sha256sum --quiet -c) || fail "PROVENANCE of the package for JavaScript"
+    echo "package for JavaScript: called by its name; its module has the sum of PROVENANCE"
 }
 
 # in_root WORD..: runs in the Debian
