@@ -2,7 +2,7 @@
 """What a release is made of, as SPDX 2.3, and the sums of its files: sbom.py OUT
 
 It writes wkt-proved-VERSION.spdx.json and SHA256SUMS, beside the archive that release.sh has made in OUT. The first has
-each file that is given out, and whose code is in it: that of this repository, which is a port of a Rust crate, and that
+each file that is released, and whose code is in it: that of this repository, which is a port of a Rust crate, and that
 of the Rattle toolchain's library (dist/NOTICE). Its bytes depend on these files alone; its time is theirs.
 """
 import glob

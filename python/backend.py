@@ -236,7 +236,7 @@ def _wheel(folder, held, built, library):
         record += "%s,sha256=%s,%d\n" % (name, digest, len(data))
     held.append((INFO + "RECORD", (record + INFO + "RECORD,,\n").encode()))
     name = "%s-%s-%s.whl" % (NAME, VERSION, tag)
-    # In their order, with one time, and no word of who made it.
+    # In their order, with one time, and without who made it.
     with zipfile.ZipFile(os.path.join(folder, name), "w", zipfile.ZIP_DEFLATED) as archive:
         for path, data in held:
             entry = zipfile.ZipInfo(path, time.gmtime(_when())[:6])

@@ -50,5 +50,5 @@ echo "rust: README.md: $(wc -l <<< "$wanted") answers, each as it says"
 if cargo clippy --version > /dev/null 2>&1; then
     cargo clippy --offline -q --all-targets --target-dir "$dir/found" -- -D warnings || fail "clippy"
     cargo fmt --check || fail "rustfmt"
-    echo "rust: no word of clippy and rustfmt"
+    echo "rust: clippy and rustfmt report nothing"
 fi

@@ -37,7 +37,7 @@ class Quiet(http.server.SimpleHTTPRequestHandler):
 
 
 def shows(driver, address):
-    """Opens a page, and wants the answer of the example on it, and no word in the console."""
+    """Opens a page, and wants the answer of the example on it, and nothing in the console."""
     driver.get(address)
     driver.set_script_timeout(60)
     shown = driver.execute_async_script(

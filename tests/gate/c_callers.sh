@@ -65,7 +65,7 @@ each C "$cc" -O2
 if ! skips valgrind; then
     valgrind -q --leak-check=full --error-exitcode=9 "$dir/calls" > "$dir/said" 2>&1 || { cat "$dir/said"; fail "valgrind: errors"; }
     [ "$(wc -l < "$dir/said")" = 1 ] || { cat "$dir/said"; fail "valgrind: words"; }
-    echo "valgrind: no word"
+    echo "valgrind: nothing to report"
 fi
 each "C under ASan and UBSan" "$cc" -O1 -g -fsanitize=address,undefined -fno-sanitize-recover
 skips c++ || each C++ g++ -O2 -x c++

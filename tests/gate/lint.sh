@@ -1,6 +1,6 @@
 #!/usr/bin/env bash
-# What flake8, shellcheck (from warnings on) and clang-format say of what isn't Rattle: any word of theirs fails. .flake8,
-# .shellcheckrc and .clang-format say how they look. SKIP=flake8,shellcheck,clang-format passes them over.
+# Runs flake8, shellcheck (from warnings on) and clang-format over what isn't Rattle: whatever they report fails. .flake8,
+# .shellcheckrc and .clang-format configure them. SKIP=flake8,shellcheck,clang-format passes them over.
 #
 # Scripts are those with a `#!` line; what these source is looked at with them. The layout of C is that of clang-format 14,
 # Debian 12's: another version isn't asked.
@@ -8,7 +8,7 @@ set -u
 cd "$(dirname "$0")/../.." || exit 1
 skips() { case ",${SKIP:-}," in *",$1,"*) true ;; *) false ;; esac; }
 status=0
-# asked TOOL WHAT WORD.. FILE..: says how many files it looked at; any word of the tool fails
+# asked TOOL WHAT WORD.. FILE..: says how many files it looked at; whatever the tool reports fails
 asked() {
     local tool=$1 what=$2
     if skips "$tool"; then return; fi

@@ -42,7 +42,7 @@ export WKT_NATIVE=$dir/native
 WKT_LIB=$lib python3 javascript/test/native.py 40000 > "$WKT_NATIVE" &
 writing=$!
 
-# The package as it is given away, where nothing of the repository is.
+# The package as it is released, where nothing of the repository is.
 package=$(javascript/pack.sh "$module" "$dir") || fail "pack.sh"
 app=$dir/app
 mkdir -p "$app/node_modules/wkt-proved"
@@ -57,12 +57,12 @@ for file in "$app"/by_name.*; do
 done
 cp javascript/test/types.ts "$app"
 echo "web: $(basename "$package"): $(stat -c %s "$package") bytes, imported and required by its name"
-# types WORD..: the compiler of TypeScript finds the package so, and has no word about it
+# types WORD..: the compiler of TypeScript finds the package so, and reports nothing
 types() { (cd "$app" && tsc --strict --noEmit --target es2022 --lib es2022,dom,dom.iterable "$@" types.ts) || fail "types: $*"; }
 if ! skips types; then
     types --module node16 --moduleResolution node16
     types --module es2022 --moduleResolution node
-    echo "web: types: no word of tsc $(tsc --version | tr -dc 0-9.) --strict"
+    echo "web: types: tsc $(tsc --version | tr -dc 0-9.) --strict reports nothing"
 fi
 
 wait $writing || fail "native.py"
