@@ -44,7 +44,7 @@ INFO = "%s-%s.dist-info/" % (NAME, VERSION)
 # What a source package has of the rest of a clone.
 NATIVE = ("include/wkt.h", "capi/build.sh", "capi/*.c", "capi/*.h", "dist/Makefile", "dist/NOTICE", "dist/objects.sh",
           "dist/system.c", "dist/*/*.xz", "dist/*/PROVENANCE", "LICENSE-*")  # fmt: skip
-OWN = ("pyproject.toml", "backend.py", "README.md", "DASK.md", "show.py", "wkt/*.py", "wkt/*.pyi", "wkt/py.typed",
+OWN = ("pyproject.toml", "backend.py", "README.md", "DASK.md", "wkt/*.py", "wkt/*.pyi", "wkt/py.typed",
        "src/*.[ch]", "examples/*.py", "tests/*.py", "tests/*.[ch]", "tests/*.sh")  # fmt: skip
 # The command, as pip puts it beside Python: it becomes the proved program.
 SCRIPT = b'''#!python
