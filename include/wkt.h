@@ -4,7 +4,8 @@
  * after the point is refused (WKT_HINT_PLACES). A number is -2^127 to 2^127 - 1 units of ten to the minus `places`, and a
  * text with any other is refused (WKT_HINT_LARGE; WKT_HINT_FEWER if 18 places surely hold it). So more places leave less
  * room before the point: all numbers with up to 38 - `places` digits there fit. 18 places hold numbers up to some 1.7e20,
- * 35 up to 1701.4, and so all degrees, and 36 up to 170.14. A text has the same canonical text with all places that read it. Arrays hold units of 64 bits: see wkt_arrays.
+ * 35 up to 1701.4, and so all degrees, and 36 up to 170.14. A text has the same canonical text with all places that read
+ * it. Arrays hold units of 64 bits: see wkt_arrays.
  *
  * Every function except wkt_version, wkt_supported and wkt_message returns a status. After any status but WKT_OK the
  * caller's buffers are unchanged (except by wkt_lines_some), and so are the results (*needed, *end, *same, *sizes ..), unless
