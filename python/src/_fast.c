@@ -157,12 +157,17 @@ static int clear(PyObject *module) {
     return 0;
 }
 
-static PyModuleDef_Slot slots[] = {{Py_mod_exec, made_ready},
+/* All that it holds is in its State, so interpreters may have a lock each. Python 3.12 and later ask for that by a slot
+ * that 3.11 refuses. It isn't in the limited API of 3.11, so its numbers stand here. */
+enum { MULTIPLE_INTERPRETERS = 3, ITS_OWN_LOCK = 2 };
+static PyModuleDef_Slot slots[] = {{MULTIPLE_INTERPRETERS, (void *)ITS_OWN_LOCK},
+                                   {Py_mod_exec, made_ready},
 #ifdef Py_GIL_DISABLED
                                    {Py_mod_gil, Py_MOD_GIL_NOT_USED},
 #endif
                                    {0, NULL}};
-static struct PyModuleDef module = {
-    PyModuleDef_HEAD_INIT, "wkt._fast", NULL, sizeof(State), methods, slots, traverse, clear, NULL};
+#define MODULE(slots) \
+    { PyModuleDef_HEAD_INIT, "wkt._fast", NULL, sizeof(State), methods, slots, traverse, clear, NULL }
+static struct PyModuleDef module = MODULE(slots), module_of_311 = MODULE(slots + 1);
 
-PyMODINIT_FUNC PyInit__fast(void) { return PyModuleDef_Init(&module); }
+PyMODINIT_FUNC PyInit__fast(void) { return PyModuleDef_Init(Py_Version < 0x030c0000 ? &module_of_311 : &module); }

@@ -184,9 +184,17 @@ PyObject *arrow_export_schema(PyObject *self, PyObject *tree) {
     return capsule;
 }
 
+/* Whether this interpreter lends. A release takes the lock of the main one: in a subinterpreter it would wait for its own
+ * thread, or do without the lock of the buffers. */
+static int lends(void) {
+    if (PyInterpreterState_GetID(PyInterpreterState_Get()) == 0) return 1;
+    PyErr_SetString(PyExc_RuntimeError, "a subinterpreter lends no Arrow columns");
+    return 0;
+}
+
 PyObject *arrow_export(PyObject *self, PyObject *tree) {
     void *array;
-    PyObject *one = arrow_export_schema(self, tree), *other;
+    PyObject *one = lends() ? arrow_export_schema(self, tree) : NULL, *other;
     if (one == NULL) return NULL;
     other = capsule_of(sizeof(struct ArrowArray), "arrow_array", free_array, &array);
     if (other != NULL && make_array(tree, array) < 0) Py_CLEAR(other);
@@ -287,6 +295,7 @@ PyObject *arrow_export_stream(PyObject *self, PyObject *args) {
     (void)self;
     if (!PyArg_ParseTuple(args, "OO", &type, &arrays)) return NULL;
     if (!PyIter_Check(arrays)) return PyErr_SetString(PyExc_TypeError, "the arrays of a stream are an iterator"), NULL;
+    if (!lends()) return NULL;
     if ((capsule = capsule_of(sizeof(struct ArrowArrayStream), "arrow_array_stream", free_stream, &stream)) == NULL)
         return NULL;
     if ((part = calloc(1, sizeof *part)) == NULL) {
