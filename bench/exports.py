@@ -21,17 +21,31 @@ def spelled(number, way):
     return ("POLYGON((%s,%s))", "Polygon ((%s, %s))", "polygon ( ( %s , %s ) )")[way] % (text, first)
 
 
-def main(folder, rows, seed=1):
+def drawn(rows, seed=1):
+    """Of each row of both files the file's name, the number of the row, that of its geometry, and how it is spelled."""
     make, several = random.Random(seed), rows * 3 // 4
     for name, first in (("old", 0), ("new", several // 2)):
-        with open("%s/%s.csv" % (folder, name), "w", encoding="utf-8", newline="") as file:
-            out = csv.writer(file, lineterminator="\n")
-            out.writerow(["id", "geom"] if name == "old" else ["geom", "name"])
-            for i in range(rows):
-                luck = make.random()
-                text = spelled(first + int(luck * several), make.randrange(3))
-                text = "" if i % 1000 == 7 else "SRID=4326;" + text if i % 1000 == 8 else text
-                out.writerow([i, text] if name == "old" else [text, "%s %d" % (name, i)])
+        for i in range(rows):
+            yield name, i, first + int(make.random() * several), make.randrange(3)
+
+
+def is_read(i):
+    """Whether row i has a text that is read."""
+    return i % 1000 not in (7, 8)
+
+
+def main(folder, rows, seed=1):
+    files = {name: open("%s/%s.csv" % (folder, name), "w", encoding="utf-8", newline="") for name in ("old", "new")}
+    outs = {name: csv.writer(file, lineterminator="\n") for name, file in files.items()}
+    outs["old"].writerow(["id", "geom"])
+    outs["new"].writerow(["geom", "name"])
+    for name, i, number, way in drawn(rows, seed):
+        text = spelled(number, way)
+        if not is_read(i):
+            text = "" if i % 1000 == 7 else "SRID=4326;" + text
+        outs[name].writerow([i, text] if name == "old" else [text, "new %d" % i])
+    for file in files.values():
+        file.close()
 
 
 if __name__ == "__main__":

@@ -1,10 +1,10 @@
 """Canonical keys over Dask, on workers that are processes of their own: with_dask.py [ROWS [hosts|processes]]
 
 It starts a scheduler and three workers, as hosts of their own where network namespaces can be made (root, Linux,
-iproute2),
-and compares with one run: the bytes of all keys (a bag of a text file), the counts of a group-by (a dataframe), the
-rows that are refused, by their number, and each row joined to the first one of its geometry (wkt.dask); then a worker
-is killed in the middle of that join, and the rows have to be the same.
+iproute2), and makes a table with the key that each row should have. By cut, sort and uniq of these it compares one
+run, and Dask: the bytes of all keys (a bag of a text file), the counts of a group-by (a dataframe), the rows that are
+refused, by their number, and each row joined to the first one of its geometry (wkt.dask); then a worker is killed in
+the middle of that join, and the rows have to be the same.
 Status 0: all of it holds. The package has to be there for the workers as it is here: PYTHONPATH and WKT_LIB are handed
 on.
 """
@@ -29,32 +29,54 @@ import wkt.dask
 from dask.distributed import Client
 
 WORKERS, PARTITIONS = 3, 30
-READ = dict(sep="\t", names=["id", "geometry"], quoting=csv.QUOTE_NONE, dtype={"id": "int64", "geometry": "object"})
+READ = dict(sep="\t", names=["id", "geometry", "made"], usecols=["id", "geometry"], quoting=csv.QUOTE_NONE,
+            dtype={"id": "int64", "geometry": "object"})  # fmt: skip
+
+
+def plain(number):
+    """A number as a key has it: without the digits that mean nothing."""
+    short = number.rstrip("0").rstrip(".")
+    return "0" if short == "-0" else short
 
 
 def spellings(make):
-    """A geometry, spelled in several ways."""
-    x, y = ("%.3f" % make.uniform(-180, 180) for _ in range(2))
+    """A geometry, spelled in several ways, each beside its key."""
+    x, y, z, t = numbers = ["%.3f" % make.uniform(-180, 180) for _ in range(4)]
     if make.random() < 0.3:
-        z, t = ("%.3f" % make.uniform(-180, 180) for _ in range(2))
-        return ["LINESTRING(%s %s,%s %s)" % (x, y, z, t), "LineString ( %s00 %s , %s %s )" % (x, y, z, t)]
-    return ["POINT(%s %s)" % (x, y), "point ( %s0 %s )" % (x, y), "Point(%s %s00)" % (x, y)]
+        texts = ["LINESTRING(%s %s,%s %s)" % (x, y, z, t), "LineString ( %s00 %s , %s %s )" % (x, y, z, t)]
+        key = "LINESTRING(%s %s,%s %s)" % tuple(map(plain, numbers))
+    else:
+        texts = ["POINT(%s %s)" % (x, y), "point ( %s0 %s )" % (x, y), "Point(%s %s00)" % (x, y)]
+        key = "POINT(%s %s)" % (plain(x), plain(y))
+    return [(text, key) for text in texts]
 
 
 def make_table(path, rows):
-    """A table of ids and texts, some null; it returns the ids of the rows that are refused."""
+    """A table of ids, texts, some null, and keys; it returns the ids of the rows that are refused."""
     make = random.Random(7)
-    pool = [text for _ in range(max(rows // 50, 10)) for text in spellings(make)]
+    pool = [pair for _ in range(max(rows // 50, 10)) for pair in spellings(make)]
     refused = sorted(make.sample(range(rows), 20))
     wrong = dict(zip(refused, ["POINT(1", "PINT(1 2)", "POINT(1 2", "LINESTRING(1 2,3 x)"] * 5))
     with open(path, "w", encoding="utf-8") as file:
-        for first in range(0, rows, 100_000):
-            ids = range(first, min(first + 100_000, rows))
-            texts = make.choices(pool, k=len(ids))
-            file.writelines(
-                "%d\t%s\n" % (i, wrong.get(i) or ("" if i % 1009 == 5 else text)) for i, text in zip(ids, texts)
-            )
+        for i in range(rows):
+            text, key = make.choice(pool)
+            if i in wrong or i % 1009 == 5:
+                text, key = wrong.get(i, ""), ""
+            file.write("%d\t%s\t%s\n" % (i, text, key))
     return refused
+
+
+def by_shell(words, path):
+    command = ["sh", "-c", "cut -f 3 | " + words]
+    with open(path, "rb") as file:
+        return subprocess.run(command, stdin=file, stdout=subprocess.PIPE, check=True, text=True).stdout
+
+
+def counted(path):
+    """The digest of all keys of the table, and the rows of each key, with no call of the package."""
+    rows = [line.split(None, 1) for line in by_shell("LC_ALL=C sort | uniq -c", path).splitlines()]
+    counts = {it[1]: int(it[0]) for it in rows if len(it) == 2}
+    return by_shell("sha256sum", path).split()[0], pandas.Series(counts).sort_index()
 
 
 def key_lines(keys):
@@ -62,15 +84,13 @@ def key_lines(keys):
 
 
 def one_run(path):
-    """The digest of all keys, the counts of each, and the refused rows, by this process alone."""
-    made, counts, refused = hashlib.sha256(), None, []
+    """The digest of all keys, and the refused rows, by this process alone."""
+    made, refused = hashlib.sha256(), []
     for chunk in pandas.read_csv(path, chunksize=500_000, **READ):
         keys = wkt.canonical(chunk.geometry, invalid="null")
         made.update(key_lines(keys).encode())
         refused += chunk.id[keys.isna() & chunk.geometry.notna()].tolist()
-        here = keys.value_counts()
-        counts = here if counts is None else counts.add(here, fill_value=0)
-    return made.hexdigest(), counts.astype("int64").sort_index(), refused
+    return made.hexdigest(), refused
 
 
 def keys_of(lines):
@@ -208,18 +228,19 @@ def killed_in_the_middle(client, graph):
 
 
 def compared(client, path, refused, folder):
-    """Compares what the workers answer with one run."""
+    """Compares what the workers answer with what the table was made of."""
+    digest, counts = counted(path)
     start = spent()
-    digest, counts, alone = one_run(path)
+    answer = one_run(path)
     took("one run: %d keys" % len(counts), start)
-    assert alone == refused, (alone, refused)
+    assert answer == (digest, refused), answer
 
     start, size = spent(client), os.path.getsize(path) // PARTITIONS + 1
     bag = dask.bag.read_text(path, blocksize=size).map_partitions(keys_of)
     bag.to_textfiles(folder + "/*.txt", last_endline=True)
     took("a bag of the text file, %d partitions" % bag.npartitions, start, client)
     assert digest_of(folder) == digest, "other bytes"
-    print("the bag: the bytes of one run")
+    print("the bag: the bytes of the table")
 
     frame = dask.dataframe.read_csv(path, blocksize=size, **READ)
     key = frame.geometry.map_partitions(wkt.canonical, invalid="null", meta=("key", "object"))
@@ -228,7 +249,7 @@ def compared(client, path, refused, folder):
     answer = grouped.compute().sort_index()
     took("a dataframe grouped by key, %d partitions" % frame.npartitions, start, client)
     assert answer.index.tolist() == counts.index.tolist() and answer.tolist() == counts.tolist(), "other counts"
-    print("the dataframe: the counts of one run")
+    print("the dataframe: the counts of uniq")
     rows = frame.id[key.isna() & frame.geometry.notnull()].compute().tolist()
     assert rows == refused, (rows, refused)
     try:
@@ -250,7 +271,7 @@ def compared(client, path, refused, folder):
         assert answer.index.tolist() == counts.index.tolist(), "%s: other keys" % what
         assert answer["id", "count"].tolist() == counts.tolist(), "%s: other rows" % what
         assert answer["id_first", "min"].tolist() == answer["id_first", "max"].tolist(), "%s: two firsts" % what
-        print("%s: the rows of one run" % what)
+        print("%s: the rows of uniq" % what)
         if left == WORKERS:
             start = time.monotonic()
             answer, left = killed_in_the_middle(client, sums)
