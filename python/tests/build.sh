@@ -79,8 +79,16 @@ without() {
     grep -q "^the fast module $1\$" "$work/said" || { cat "$work/said"; fail "WKT_FAST=1, not said: $1"; }
 }
 without 'needs Python.h' 'import sysconfig; sysconfig.get_paths = lambda: {"include": "/nowhere"}'
-without "doesn't compile" pass CFLAGS=-DPy_GIL_DISABLED=1
+without "doesn't compile" pass CFLAGS=-DPyInit__fast=1
 echo "without the fast module it is built too"
+# Debian has no free-threaded Python, but since 3.13 headers that know it.
+if "$python" -c 'import sys; sys.exit(sys.version_info < (3, 13))'; then
+    headers=$("$python" -c 'import sysconfig; print(sysconfig.get_paths()["include"])')
+    for file in "$top"/python/src/*.c; do
+        gcc -Wall -Wextra -Werror -fsyntax-only -DPy_GIL_DISABLED=1 -I"$headers" -I"$top/include" "$file" || fail "free-threaded: $file"
+    done
+    echo "the fast module compiles for free-threaded Python"
+fi
 
 wheel flags CFLAGS='-g -O1' LDFLAGS=-Wl,-soname,named
 (cd "$work/flags" && "$python" -m zipfile -e ./*.whl . && readelf -SdW wkt/_fast.abi3.so) > "$work/said"

@@ -2,6 +2,7 @@
 import contextlib
 import ctypes
 import unittest.mock
+import warnings
 
 import wkt
 from wkt._native import BOUND, _fast
@@ -9,10 +10,12 @@ from wkt._native import BOUND, _fast
 
 def installed(name):
     """The module of that name, the package where the name has a dot, or None where it can't be imported."""
-    try:
-        return __import__(name)
-    except ImportError:
-        return None
+    with warnings.catch_warnings():  # of what others say of themselves
+        warnings.simplefilter("ignore")
+        try:
+            return __import__(name)
+        except ImportError:
+            return None
 
 
 @contextlib.contextmanager

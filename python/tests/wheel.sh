@@ -19,12 +19,12 @@ export PYTHONDONTWRITEBYTECODE=1
 each() {
     local name=$1 folder=$2 skipped
     shift 2
-    skipped='no (fast module|Dask)|only under sanitizers|the fast module isn.t tried'
-    [ ! -e "$folder/wkt/_fast.abi3.so" ] || skipped='only under sanitizers|no Dask'
+    skipped='no (fast module|Dask|GDAL that lends)|only under sanitizers|the fast module isn.t tried'
+    [ ! -e "$folder/wkt/_fast.abi3.so" ] || skipped='only under sanitizers|no (Dask|GDAL that lends)'
     [ ! -e "$folder/numpy.py" ] || skipped="$skipped|no (NumPy|pandas|Shapely)"
     (cd "$work" && env "$@" PYTHONPATH="$folder:$here:$work/peer" "$python" -W error -m unittest -v test_wkt test_arguments \
         test_columns test_interrupts test_table_command test_pandas test_dask test_keys test_words test_streams test_geoarrow test_pack \
-        test_arrow test_arrow_shared test_arrow_lent test_geoarrow_keys test_interpreters) > "$work/said" 2>&1 || { cat "$work/said"; echo "$name: the tests fail"; exit 1; }
+        test_arrow test_arrow_shared test_arrow_lent test_geoarrow_keys test_interpreters test_producers) > "$work/said" 2>&1 || { cat "$work/said"; echo "$name: the tests fail"; exit 1; }
     ! grep "skipped '" "$work/said" | grep -vE "$skipped" || { echo "$name: a test was skipped"; exit 1; }
     echo "$name: $(grep '^Ran' "$work/said"), $(tail -n 1 "$work/said")"
 }
