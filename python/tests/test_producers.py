@@ -52,6 +52,8 @@ class Producers(unittest.TestCase):
         self.assertGreater(len(batches), 1)
         with lent(columns=[]) as (_, stream), self.assertRaisesRegex(TypeError, "wkt.keys takes a GeoSeries itself"):
             wkt.keys(stream)
+        with lent() as (_, stream), self.assertRaisesRegex(TypeError, "nor of a table of several"):
+            wkt.keys(stream)
         read = geopandas.read_file(path, rows=3)
         keys = wkt.keys(read.geometry)
         self.assertEqual((keys.tolist(), keys.attrs["crs"]), (["POINT(%d 0.5)" % i for i in range(3)], read.crs))

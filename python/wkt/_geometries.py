@@ -105,7 +105,7 @@ def _geo_type(about: Any) -> Tuple[int, int, bytes]:
     lists, axes, metadata = about
     words = _arrow.pairs_of(metadata)
     _arrow.refuse_binary(words)
-    name = words.get("ARROW:extension:name", "a column without a name of GeoArrow")
+    name = words.get("ARROW:extension:name", "a column without a name of GeoArrow, nor of a table of several")
     kind, axes = name.partition("geoarrow.")[2], axes.upper()
     made = _arrow.metadata_of({**words, "ARROW:extension:name": "geoarrow.wkt"})
     if kind == "geometrycollection" and lists == 1 and not axes:
