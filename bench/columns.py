@@ -79,6 +79,7 @@ def tasks():
         "canonical, a loop": (list, one_by_one(wkt.canonical)),
         "reads, list": (list, wkt.reads),
         "infer, list": (list, wkt.infer),
+        "explain, list": (list, wkt.explain),
         "lines, list": (list, wkt.lines),
         "Arrays, list": (list, wkt.to_arrays),
         "texts of Arrays, list": (wkt.to_arrays, wkt.from_arrays),

@@ -2,6 +2,7 @@
 import io
 from typing import Any, List, Optional, Tuple
 
+import numpy
 from typing_extensions import assert_type
 
 import wkt
@@ -50,6 +51,20 @@ def of_arrow(texts: wkt.ArrowTexts) -> None:
     assert_type(texts.to_pylist(), List[Optional[str]])
     assert_type(wkt.keys(texts), wkt.ArrowTexts)  # of whatever lends GeoArrow
     assert_type(wkt.keys([None]), List[Optional[str]])
+
+
+Objects = numpy.ndarray[Any, numpy.dtype[numpy.object_]]
+Fixed = numpy.ndarray[Any, numpy.dtype[numpy.bytes_]]
+
+
+def of_numpy(texts: Objects, fixed: Fixed) -> None:
+    assert_type(wkt.canonical(texts, places=6), Objects)
+    assert_type(wkt.canonical(fixed, invalid="keep"), Fixed)
+    assert_type(wkt.canonical_column(texts, whole=False), Tuple[List[Optional[str]], List[int]])
+    assert_type(wkt.to_arrays(texts, invalid="null"), List[Optional[wkt.Arrays]])
+    assert_type(wkt.to_arrays_column(fixed), wkt.ColumnArrays)
+    wkt.same(texts, fixed), wkt.reads(texts), wkt.infer(fixed), wkt.explain(texts), wkt.lines(texts), wkt.keys(texts)
+    wkt.geometries(wkt.to_arrays_column(texts))
 
 
 def of_frames(frame: Any) -> None:
