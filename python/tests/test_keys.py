@@ -82,6 +82,31 @@ class Doubles(unittest.TestCase):
         for text in self.TEXTS:
             self.assertEqual(wkt.keys(wkt.geometries(wkt.to_arrays_column([text, None, text]))), [text, None, text])
 
+    COLUMNS = [
+        ["MULTIPOINT(EMPTY,(1 2))", None, "MULTIPOINT((3 4),(5 6))"], ["MULTIPOINT Z((1 2 3),EMPTY)"],
+        ["MULTILINESTRING(EMPTY,(1 2,3 4))", "MULTILINESTRING((1 2,3 4))"], ["POINT Z EMPTY", "POINT Z(1 2 3)"],
+        ["MULTIPOLYGON(((0 0,4 0,2 4,0 0)))", "MULTIPOLYGON(EMPTY,((0 0,4 0,2 4,0 0)))", None],
+        ["LINESTRING Z(1 2 3,4 5 6)", "LINESTRING Z EMPTY"], ["MULTILINESTRING(EMPTY)", None],
+    ]  # fmt: skip
+    MEASURED = [
+        ["POINT M(1 2 3)", "POINT M EMPTY"], ["POLYGON ZM((0 0 1 2,1 0 1 2,1 1 1 2,0 0 1 2))", None],
+        ["MULTIPOINT M(EMPTY,(1 2 3))"],
+    ]  # fmt: skip
+
+    def test_empty_and_measured(self):
+        """Rows with something EMPTY beside others, and with M: as Shapely reads their texts."""
+        if not hasattr(shapely, "to_ragged_array"):
+            return
+        has_m = hasattr(shapely, "has_m") and shapely.geos_version >= (3, 12)
+        for texts in self.COLUMNS + self.MEASURED * has_m:
+            self.assertEqual(wkt.keys([text if text is None else shapely.from_wkt(text) for text in texts]), texts)
+            made = wkt.geometries(wkt.to_arrays_column(texts)).tolist()
+            theirs = [text if text is None else shapely.to_wkt(shapely.from_wkt(text)) for text in texts]
+            self.assertEqual([it if it is None else shapely.to_wkt(it) for it in made], theirs)
+        for texts in self.MEASURED * (not has_m):
+            with self.assertRaises(ValueError):
+                wkt.geometries(wkt.to_arrays_column(texts))
+
     def test_series(self):
         """A GeoSeries comes back as a Series with its index, its name and its reference system."""
         if not hasattr(shapely, "to_ragged_array") or pandas is None:

@@ -3,12 +3,12 @@ import sys
 from typing import Any, Dict, Iterator, List, Optional, Tuple
 
 from . import _arrow
-from ._arrays import ColumnArrays, from_arrays_column
+from ._arrays import ColumnArrays, from_arrays, from_arrays_column
 from ._buffers import Texts, joined
 from ._columns import check_invalid, is_series
 from ._doubles import decimals, scaled
 from ._errors import WktError, printable, words_of
-from ._geoarrow import LISTS
+from ._geoarrow import LISTS, GeoArrow
 from ._names import COLLECTION, DIMENSIONS, KINDS, NULL
 from ._native import _fast
 from ._values import numpy, places_of
@@ -178,6 +178,20 @@ def _raise_first(statuses: Any, invalid: str, first: int) -> None:
         raise WktError(status, words_of(status), first + int(wrong[0]))
 
 
+def _coordinates(shapely: Any, kind: int, held: Any, z: bool, m: bool) -> Tuple[Any, Tuple[Any, ...]]:
+    """The coordinates of geometries of one kind and dimension, and their lists, from the outermost on."""
+    lists: Tuple[Any, ...] = ()
+    if kind == 3:  # point by point, since Shapely's arrays of multipoints are without EMPTY ones
+        count = len(held)
+        held, rows = shapely.get_parts(held, return_index=True)
+        lists = (numpy.searchsorted(rows, numpy.arange(count + 1)),)
+        if not len(held):
+            return numpy.empty((0, 2 + z + m)), lists
+    more = dict(include_m=m) if hasattr(shapely, "has_m") else {}
+    _, coordinates, offsets = shapely.to_ragged_array(held, include_z=z, **more)
+    return coordinates, lists + offsets[::-1]
+
+
 def _shapely_texts(shapely: Any, held: Any, places: int) -> Tuple[Any, Any]:
     """The canonical texts of an array of geometries, and the status of each."""
     kinds = shapely.get_type_id(held)
@@ -190,9 +204,7 @@ def _shapely_texts(shapely: Any, held: Any, places: int) -> Tuple[Any, Any]:
             rows = numpy.flatnonzero((kinds == theirs) & (flags[0] == z) & (flags[1] == m))
             if not len(rows):
                 continue
-            more = dict(include_m=m) if hasattr(shapely, "has_m") else {}
-            _, coordinates, lists = shapely.to_ragged_array(held[rows], include_z=z, **more)
-            made, codes = texts_of(ragged(kind, dimension, coordinates, lists[::-1]), places)
+            made, codes = texts_of(ragged(kind, dimension, *_coordinates(shapely, kind, held[rows], z, m)), places)
             texts[rows], statuses[rows] = numpy.array(made, object), codes
     return texts, statuses
 
@@ -228,17 +240,44 @@ def keys(geometries: Any, places: int = 18, invalid: str = "raise") -> Any:
     return answer
 
 
+def _with_empty(made: GeoArrow) -> Any:
+    """Which rows are EMPTY, or have a part that is."""
+    found = numpy.isnan(made.coordinates).all(axis=1)
+    for offsets in reversed(made.offsets):
+        before = numpy.concatenate([[0], numpy.cumsum(found)])[offsets]
+        found = (numpy.diff(before) > 0) | (numpy.diff(offsets) == 0)
+    return found
+
+
+def _taken(made: GeoArrow, rows: Any) -> Tuple[Any, Tuple[Any, ...]]:
+    """The coordinates of some rows, which a mask says, and the offsets of their lists."""
+    offsets = []
+    for each in made.offsets:
+        counts = numpy.diff(each)
+        offsets.append(numpy.concatenate([[0], numpy.cumsum(counts[rows])]))
+        rows = numpy.repeat(rows, counts)
+    return made.coordinates[rows], tuple(offsets)
+
+
 def geometries(arrays: ColumnArrays) -> Any:
     """Geometries of Shapely 2 of a column of arrays, which is of one kind and dimension; None of a null row.
 
-    `geopandas.GeoSeries(wkt.geometries(arrays), crs=crs)` takes them. ValueError: the rows have several kinds.
+    `geopandas.GeoSeries(wkt.geometries(arrays), crs=crs)` takes them. ValueError: the rows have several kinds, or they
+    have M, for which Shapely 2.1 and GEOS 3.12 are needed.
     """
     shapely, made = _shapely(), arrays.geoarrow()
     kind = [name.lower() for name in KINDS].index(made.extension.partition(".")[2])
-    known = shapely.GeometryType({v: k for k, v in _KINDS.items()}[kind])
-    if len(made.coordinates):
-        answer = shapely.from_ragged_array(known, made.coordinates, made.offsets[::-1] or None)
-    else:  # Shapely 2.1 takes no arrays of EMPTY ones alone
-        answer = numpy.full(len(made.valid), shapely.from_wkt(KINDS[kind].upper() + " EMPTY"), object)
-    answer[~made.valid] = None
+    measured = made.dimension.endswith("M")
+    if measured and (not hasattr(shapely, "has_m") or shapely.geos_version < (3, 12)):
+        raise ValueError("geometries with M need Shapely 2.1 and GEOS 3.12")
+    answer = numpy.full(len(made.valid), None, object)
+    # Shapely takes no arrays with M, and of those with something EMPTY it makes other geometries, or ends the process.
+    plain = made.valid & ~_with_empty(made) & (not measured)
+    if plain.any():
+        known = shapely.GeometryType({v: k for k, v in _KINDS.items()}[kind])
+        coordinates, offsets = _taken(made, plain)
+        answer[plain] = shapely.from_ragged_array(known, coordinates, offsets[::-1] or None)
+    rest = numpy.flatnonzero(made.valid & ~plain)
+    if len(rest):
+        answer[rest] = shapely.from_wkt(from_arrays([arrays.row(i) for i in rest.tolist()]))
     return answer
