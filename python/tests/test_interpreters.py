@@ -5,7 +5,7 @@ import unittest
 
 from wkt._native import _fast
 
-# As Python 3.11, 3.12 and 3.13 have them. Before 3.13 ctypes is for interpreters with one lock alone.
+# As Python 3.8, 3.12 and 3.13 have them. Before 3.13 ctypes is for interpreters with one lock alone.
 START = """
 import sys, threading
 try:
@@ -14,7 +14,8 @@ try:
     kinds = ["legacy", "isolated"]
 except ImportError:
     import _xxsubinterpreters as several
-    make = lambda kind: several.create(isolated=False)
+    one_lock = {"isolated": False} if sys.version_info >= (3, 12) else {}
+    make = lambda kind: several.create(**one_lock)
     kinds = ["legacy"]
 
 def run(it, words):  # NumPy is for one interpreter alone

@@ -17,7 +17,9 @@ KEYS = ["POINT(1 2.5)", None, None, "LINESTRING(1 2,3 4)"] * 20_000
 @unittest.skipUnless(lends, "no GDAL that lends")
 class Producers(unittest.TestCase):
     def setUp(self):
-        self.folder = self.enterContext(tempfile.TemporaryDirectory())
+        folder = tempfile.TemporaryDirectory()
+        self.addCleanup(folder.cleanup)
+        self.folder = folder.name
 
     def test_gdal(self):
         """A column of a file of comma-separated values, in several batches."""

@@ -320,7 +320,9 @@ class Later(unittest.TestCase):
         calls.update(wkt_column_canonical=column(11), wkt_column_arrays=column(24), wkt_explain=lambda *given: 34)
         calls["wkt_message"] = lambda words, status: b"A reason of tomorrow"
         for name, change in calls.items():
-            self.enterContext(patched(name, change))
+            changed = patched(name, change)
+            changed.__enter__()
+            self.addCleanup(changed.__exit__, None, None, None)
         texts = ["POINT(1 2)", None, "PINT(1)"]
         for call in (wkt.canonical, wkt.to_arrays, lambda it: wkt.same(it, "POINT(1 2)"), wkt.infer):
             for given in (texts[2], texts):
