@@ -1,10 +1,11 @@
 """Seconds and the peak of memory of `python -m wkt.table`: files.py FOLDER [ROWS]
 
-In FOLDER it makes the two exports of exports.py, each of so many rows (ten million), and runs what is below over them,
-each run in a process of its own. How many rows a run has to give follows from how the exports are made. TMPDIR names
-the folder of the temporary files.
+In FOLDER it makes the two exports of exports.py, each of so many rows (ten million), unless they are there. It runs
+what is below over them, each run in a process of its own. How many rows a run has to give follows from how the exports
+are made. TMPDIR names the folder of the temporary files.
 """
 import array
+import collections
 import os
 import subprocess
 import sys
@@ -23,11 +24,13 @@ def wanted(rows):
     counts = {name: array.array("i", bytes(8 * rows)) for name in ("old", "new")}
     for name, i, number, _ in exports.drawn(rows):
         counts[name][number] += exports.is_read(i)
-    pairs = list(zip(counts["old"], counts["new"]))
+    pairs = collections.Counter(zip(counts["old"], counts["new"]))  # how often there are so many on each side
     return {
-        "keys": sum(old for old, _ in pairs), "--dedup": sum(old > 0 for old, _ in pairs),
-        "--join": sum(old * new for old, new in pairs), "--join --dedup": sum(old * new > 0 for old, new in pairs),
-    }  # fmt: skip
+        "keys": sum(old * often for (old, _), often in pairs.items()),
+        "--dedup": sum((old > 0) * often for (old, _), often in pairs.items()),
+        "--join": sum(old * new * often for (old, new), often in pairs.items()),
+        "--join --dedup": sum((old * new > 0) * often for (old, new), often in pairs.items()),
+    }
 
 
 def ran(folder, more):
@@ -45,7 +48,8 @@ def ran(folder, more):
 
 
 def main(folder, rows=10_000_000):
-    exports.main(folder, rows)
+    if not os.path.exists(folder + "/new.csv"):
+        exports.main(folder, rows)
     held = sum(os.path.getsize("%s/%s.csv" % (folder, name)) for name in ("old", "new"))
     has = wanted(rows)
     print("| two files of %d rows, %.0f MB | rows | by the clock | of a processor | peak |" % (rows, held / 1e6))
