@@ -32,6 +32,23 @@ export function fill(node, ...children) {
   }
 }
 
+const kept = new WeakMap();
+
+/** Gives a node the children that are made for some keys. One that was made for the same key before stays. */
+export function fillByKeys(node, made) {
+  const before = kept.get(node) ?? new Map();
+  const now = new Map([...made].map(([key, make]) => [key, before.get(key) ?? make()]));
+  kept.set(node, now);
+  for (const [key, child] of before) {
+    if (!now.has(key)) child.remove();
+  }
+  let next = node.firstChild;
+  for (const child of now.values()) {
+    if (child === next) next = next.nextSibling;
+    else node.insertBefore(child, next);
+  }
+}
+
 /** A button with words on it. */
 export function button(words, attributes, click) {
   const node = element('button', { class: 'button', type: 'button', ...attributes }, words);

@@ -1,5 +1,5 @@
 // The table of lines. Only those that are seen, and some around them, stand in the document.
-import { $, button, colored, count, element, fill, number, printable, withoutCode } from './elements.js';
+import { $, button, colored, count, element, fill, fillByKeys, number, printable, withoutCode } from './elements.js';
 import { places } from './answers.js';
 import { causeTable, onCause, sentenceOf } from './causes.js';
 import { choose, state } from './state.js';
@@ -61,35 +61,42 @@ function answerCell(row, i) {
   return colored(element('span', { class: 'chip' }, element('i'), kind + withAxes(dimension), repeat), i);
 }
 
-function tableRow(row, i, at) {
-  return element('tr', { 'aria-selected': String(i === state.chosen), tabindex: i === state.chosen ? 0 : -1, 'data-i': i, 'aria-rowindex': at + 2 },
+function tableRow(row, i, at, reached) {
+  return element('tr', { 'aria-selected': String(i === state.chosen), tabindex: i === reached ? 0 : -1, 'data-i': i, 'aria-rowindex': at + 2 },
     element('td', { class: 'n' }, String(row.line)), element('td', {}, answerCell(row, i)),
     element('td', { class: 'n' }, row.accepted ? number(row.facts.points) : ''), element('td', { class: 'text' }, printable(row.text.slice(0, 200).replace(/[\t\r\n]/g, ' '))));
 }
 
 /** What stands for rows that aren't seen. */
-function space(rows) {
-  if (rows <= 0) return [];
-  const node = element('tr', { class: 'space', 'aria-hidden': 'true' }, element('td', { colspan: 4 }));
-  node.style.setProperty('height', `${rows * HEIGHT}px`);
-  return [node];
+function space(where, rows) {
+  const make = () => {
+    const node = element('tr', { class: 'space', 'aria-hidden': 'true' }, element('td', { colspan: 4 }));
+    node.style.setProperty('height', `${rows * HEIGHT}px`);
+    return node;
+  };
+  return rows > 0 ? [[`${where} ${rows}`, make]] : [];
 }
 
 function showSeen() {
   const focused = $('rows').contains(document.activeElement);
   const first = Math.max(0, Math.min(shown.length - 1, Math.floor(scrolled.top / HEIGHT)) - MORE);
   const last = Math.min(shown.length, first + Math.ceil(scrolled.height / HEIGHT) + 2 * MORE);
-  const nodes = shown.slice(first, last).map((i, k) => tableRow(state.rows[i], i, first + k));
+  const seen = shown.slice(first, last);
   // By the keyboard one row is reached, and from it the others.
-  if (nodes.length > 0 && !nodes.some((node) => node.tabIndex === 0)) nodes[0].tabIndex = 0;
-  fill($('rows'), ...space(first), ...nodes, ...space(shown.length - last));
+  const reached = seen.includes(state.chosen) ? state.chosen : seen[0];
+  const nodes = seen.map((i, k) => {
+    const row = state.rows[i];
+    const key = [row.id, i, first + k, row.line, row.answered, row.repeats, i === state.chosen, i === reached].join();
+    return [key, () => tableRow(row, i, first + k, reached)];
+  });
+  fillByKeys($('rows'), [...space('before', first), ...nodes, ...space('after', shown.length - last)]);
   if (focused) $('rows').querySelector('[tabindex="0"]')?.focus({ preventScroll: true });
 }
 
 export function showRows() {
   $('rows-card').hidden = state.rows.length < 2;
   if (state.rows.length < 2) {
-    fill($('rows'));
+    fillByKeys($('rows'), []);
     shown = [];
     return;
   }
