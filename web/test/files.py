@@ -187,7 +187,8 @@ class Files(Page):
         """What was read before one stopped is shown; a long line is stopped too."""
         stop = """
             new MutationObserver((_, observer) => {
-              if (!document.getElementById('told')?.textContent) return;
+              const said = document.getElementById('told')?.textContent;
+              if (!said || said.endsWith(' read') !== arguments[1]) return;
               observer.disconnect();
               document.getElementById('stop').focus();
               document.getElementById('stop').click();
@@ -200,13 +201,13 @@ class Files(Page):
 
         def stopped():
             self.open()
-            self.script(stop, [["POINT(1 2)\n", 4000000]])
+            self.script(stop, [["POINT(1 2)\n", 4000000]], False)
             said = self.wait(lambda: re.match("(Stopped: )?All (.*) lines accepted|Stopped before", self.said("say")))
             return said[1] and 0 < int(said[2].replace(",", "")) < 4000000
 
-        # On a busy machine the worker may be done before the page hears of its first part, or may not have begun.
+        # It is stopped when the first part is answered. On a busy machine the worker may be done by then.
         self.assertTrue(any(stopped() for _ in range(5)))
         self.open()
-        self.script(stop, [["LINESTRING(", 1], ["1 2,", 20000000], ["1 2)\n", 1]])
+        self.script(stop, [["LINESTRING(", 1], ["1 2,", 20000000], ["1 2)\n", 1]], True)
         self.wait(lambda: self.said("say").startswith("Stopped"))
         self.assertEqual("h-file", self.script("return document.activeElement.id"))
