@@ -1,10 +1,9 @@
 // The field: the numbers of its lines and the marks under what is refused. They stand in a mirror that lies below the field.
-import { $, element, fill } from './elements.js';
+import { $, element, fillByKeys } from './elements.js';
 import { lineOf } from './answers.js';
+import { field } from './field.js';
 import { choose, chosenRow, state } from './state.js';
 
-/** Lines are wrapped in a text of so many lines and characters: then the mirror holds all of it. Else it has what is seen. */
-const WRAPPED = 200, WRAPPED_LENGTH = 40000;
 /** A wrapped text that is longer than this has no marks; nor has a line that is longer than that. */
 const MARKED = 200000, MARKED_LINE = 4000;
 /** The height of a line, and what is above the first, as page.css has them; and how many more lines than are seen stand there. */
@@ -13,22 +12,13 @@ const HEIGHT = 21, ABOVE = 12, MORE = 8;
 const WIDTH = 8.1;
 const MOVES = new Set(['ArrowUp', 'ArrowDown', 'ArrowLeft', 'ArrowRight', 'Home', 'End', 'PageUp', 'PageDown']);
 
-const text = $('text');
 const mirror = $('mirror');
-const editor = $('editor');
-let starts = [0]; // where the lines begin
-let value = '';
-let many = false;
+/** What stood in the mirror: how many lines, in which field. */
+let before = { lines: 0, many: false };
 /** Where the field is scrolled to, and how high it is: to ask for it would lay out the page at each key. */
 let scrolled = { top: 0, left: 0, height: 0 };
 
-function startsOf(words) {
-  const found = [0];
-  for (let at = words.indexOf('\n'); at >= 0; at = words.indexOf('\n', at + 1)) found.push(at + 1);
-  return found;
-}
-
-const lineText = (i) => value.slice(starts[i], i + 1 < starts.length ? starts[i + 1] - 1 : value.length);
+const lineText = (i) => field.value.slice(field.starts[i], i + 1 < field.starts.length ? field.starts[i + 1] - 1 : field.value.length);
 
 /** The number of the last row that begins at a line, from 1 on, or before it; -1: none does. */
 function rowBefore(line) {
@@ -46,61 +36,57 @@ function marksOf(i) {
   const row = state.rows[rowBefore(i + 1)];
   if (!row || !row.answered) return { name: '', place: null };
   const at = row.place ? lineOf(row) : 0;
-  if (at === i + 1) return { name: 'bad', place: [row.offset + row.place.start - starts[i], row.offset + row.place.stop - starts[i]] };
+  if (at === i + 1) return { name: 'bad', place: [row.offset + row.place.start - field.starts[i], row.offset + row.place.stop - field.starts[i]] };
   if (row.line !== i + 1 || state.rows.length === 1) return { name: '', place: null };
   return { name: !row.accepted ? 'bad' : row.repeats ? 'twice' : 'good', place: null };
 }
 
 /** The text of a line, as far as it has to stand there, and its mark. */
 function contents(line, place) {
-  if (!place || (many && place[0] > MARKED_LINE)) return [many ? '' : line || '\u200b'];
-  const [start, stop] = [place[0], Math.min(place[1], line.length, many ? MARKED_LINE : Infinity)];
-  return [line.slice(0, start), element('mark', { class: stop > start ? null : 'none' }, line.slice(start, stop)), many ? '' : line.slice(Math.max(start, stop)) || '\u200b'];
+  if (!place || (field.isMany && place[0] > MARKED_LINE)) return [field.isMany ? '' : line || '\u200b'];
+  const [start, stop] = [place[0], Math.min(place[1], line.length, field.isMany ? MARKED_LINE : Infinity)];
+  return [line.slice(0, start), element('mark', { class: stop > start ? null : 'none' }, line.slice(start, stop)), field.isMany ? '' : line.slice(Math.max(start, stop)) || '\u200b'];
 }
 
+/** The key and the node of a line. */
 function lineNode(i) {
   const { name, place } = marksOf(i);
-  const inside = contents(lineText(i), place);
-  return element('div', { class: name || null, 'data-n': i + 1 }, ...(many ? [element('span', {}, ...inside)] : inside));
+  const line = place || !field.isMany ? lineText(i) : '';
+  const make = () => {
+    const inside = contents(line, place);
+    return element('div', { class: name || null, 'data-n': i + 1 }, ...(field.isMany ? [element('span', {}, ...inside)] : inside));
+  };
+  return [`${field.isMany} ${i} ${name} ${place} ${line}`, make];
 }
 
 /** The lines that are seen stand in the mirror, each at its height. */
 function showSeen() {
   const { top, left, height } = scrolled;
   const first = Math.max(0, Math.floor((top - ABOVE) / HEIGHT) - MORE);
-  const last = Math.min(starts.length, Math.ceil((top + height) / HEIGHT) + MORE);
-  const nodes = [];
-  for (let i = first; i < last; i++) {
-    const node = lineNode(i);
-    node.style.setProperty('top', `${ABOVE + i * HEIGHT - top}px`);
-    nodes.push(node);
-  }
+  const last = Math.min(field.starts.length, Math.ceil((top + height) / HEIGHT) + MORE);
+  fillByKeys(mirror, Array.from({ length: last - first }, (_, k) => lineNode(first + k)));
+  [...mirror.children].forEach((node, k) => node.style.setProperty('top', `${ABOVE + (first + k) * HEIGHT - top}px`));
   mirror.style.setProperty('--left', `${-left}px`);
-  fill(mirror, ...nodes);
 }
 
 function follow() {
-  scrolled = { top: text.scrollTop, left: text.scrollLeft, height: text.clientHeight };
-  if (many) showSeen();
-  else mirror.scrollTop = text.scrollTop;
+  const { scrollTop, scrollLeft, clientHeight } = field.scroller;
+  scrolled = { top: scrollTop, left: scrollLeft, height: clientHeight };
+  if (field.isMany) showSeen();
+  else mirror.scrollTop = scrollTop;
 }
 
 /** Shows the numbers of the lines and the marks. `soon`: the answers come soon, and the numbers are shown where they changed. */
 export function showMarks(soon = false) {
-  const lines = starts.length;
-  if (text.value !== value) {
-    value = text.value;
-    starts = startsOf(value);
-  }
-  const wasMany = many;
-  many = starts.length > WRAPPED || (value.length > WRAPPED_LENGTH && starts.length > 1);
-  if (many !== wasMany) editor.classList.toggle('many', many);
-  if (many && soon && wasMany && starts.length === lines) return;
-  if (many) {
-    showSeen();
+  const { value, starts, isMany } = field;
+  const was = before;
+  before = { lines: starts.length, many: isMany };
+  if (isMany) {
+    if (!was.many) follow();
+    else if (!soon || was.lines !== starts.length) showSeen();
     return;
   }
-  fill(mirror, ...(value === '' || value.length > MARKED ? [] : starts.map((_, i) => lineNode(i))));
+  fillByKeys(mirror, value === '' || value.length > MARKED ? [] : starts.map((_, i) => lineNode(i)));
   mirror.scrollTop = scrolled.top;
 }
 
@@ -109,16 +95,17 @@ export function goToPlace() {
   const row = chosenRow();
   if (!row) return;
   const [start, stop] = row.place ? [row.place.start, row.place.stop] : [0, row.text.length];
-  text.focus();
-  text.setSelectionRange(row.offset + start, row.offset + stop);
+  field.focus();
+  field.select(row.offset + start, row.offset + stop);
   const line = row.place ? lineOf(row) : row.line;
-  if (many) {
-    text.scrollTop = (line - 1) * HEIGHT - 60;
-    text.scrollLeft = Math.max(0, (row.offset + start - starts[line - 1]) * WIDTH - text.clientWidth / 2);
+  const { scroller, starts } = field;
+  if (field.isMany) {
+    scroller.scrollTop = (line - 1) * HEIGHT - 60;
+    scroller.scrollLeft = Math.max(0, (row.offset + start - starts[line - 1]) * WIDTH - scroller.clientWidth / 2);
     return;
   }
   const mark = mirror.children[line - 1];
-  if (mark) text.scrollTop = mark.offsetTop - 60;
+  if (mark) scroller.scrollTop = mark.offsetTop - 60;
 }
 
 export function goToNextRefusal() {
@@ -134,7 +121,7 @@ export function goToNextRefusal() {
 
 /** The row of the line in which the cursor stands, or -1. */
 export function rowAtCursor() {
-  const at = text.selectionStart;
+  const at = field.caret;
   let [low, high] = [0, state.rows.length];
   while (low < high) {
     const middle = (low + high) >> 1;
@@ -151,10 +138,12 @@ function followCursor() {
 }
 
 export function startEditor() {
-  text.addEventListener('keyup', (event) => {
-    if (MOVES.has(event.key)) followCursor();
-  });
-  text.addEventListener('click', followCursor);
-  text.addEventListener('scroll', follow);
-  new ResizeObserver(follow).observe(text);
+  for (const node of [$('text'), $('many')]) {
+    node.addEventListener('keyup', (event) => {
+      if (MOVES.has(event.key)) followCursor();
+    });
+    node.addEventListener('click', followCursor);
+    node.addEventListener('scroll', follow);
+    new ResizeObserver(follow).observe(node);
+  }
 }

@@ -4,6 +4,7 @@ import { LISTED } from './block.js';
 import { boundsInWords } from './canonical.js';
 import { causeTable, onCause, sentenceOf } from './causes.js';
 import { $, count, element, fill, number, printable, short, withoutCode, wordIn } from './elements.js';
+import { field } from './field.js';
 import { giveOf } from './give.js';
 import { leftWords, offerOf } from './offer.js';
 import { fit, showPoints } from './picture.js';
@@ -76,7 +77,7 @@ function showOpened() {
   $('text').placeholder = 'Type or paste here to close the file';
   for (const id of ['caret', 'hint', 'save', 'next', 'offer']) $(id).hidden = true;
   $('file-card').hidden = $('stop').hidden = false;
-  $('text').setAttribute('aria-invalid', 'false');
+  field.invalid(false);
   $('verdict').setAttribute('aria-busy', 'false');
   $('h-file').textContent = name;
   const found = element('div', { class: 'file', id: 'found' });

@@ -5,6 +5,7 @@ import { answerText, showCanonical, takeTotals } from './canonical.js';
 import { goToNextRefusal, goToPlace, rowAtCursor, showMarks, startEditor } from './editor.js';
 import { $, button, copy, count, element } from './elements.js';
 import { EXAMPLES } from './examples.js';
+import { field, startField } from './field.js';
 import { begin, closeFile, readFile, rereadFile, startFiles } from './file.js';
 import { showGive, startGiving } from './give.js';
 import { showOffer } from './offer.js';
@@ -22,24 +23,22 @@ const PLACES = 18, MOST_PLACES = 36;
 /** After so many milliseconds without an answer the page says that it is at work. */
 const SLOW = 400;
 
-const text = $('text');
-
 let atCursor = false; // whether the row at the cursor is shown
 let slow = 0;
 
 /** Answers the text, and shows the row at the cursor where that is asked for, else the first that is refused. */
 function analyse(here = false) {
-  if (text.value.length > TYPED) {
-    readFile(new File([text.value], 'The text'));
+  if (field.value.length > TYPED) {
+    readFile(new File([field.value], 'The text'));
     return;
   }
   atCursor = here;
   $('verdict').setAttribute('aria-busy', 'true');
   clearTimeout(slow);
   slow = setTimeout(() => state.settled || say('idle', 'Checking', count(state.rows.length, 'text')), SLOW);
-  answer(text.value);
+  answer(field.value);
   if (!state.settled) marksSoon();
-  showOffer(text.value, put);
+  showOffer(field.value, put);
 }
 
 /** Shows the marks before the next frame, where they aren't shown with the answers. */
@@ -59,7 +58,7 @@ function settled() {
 
 // ---- Links. What stands behind `#` is never sent.
 function link() {
-  const said = new URLSearchParams({ wkt: text.value });
+  const said = new URLSearchParams({ wkt: field.value });
   if (places() !== PLACES) said.set('places', String(places()));
   if (askedSplit() !== 'auto') said.set('as', askedSplit());
   return `#${said}`;
@@ -82,7 +81,7 @@ let addressTimer = 0;
 function keepInAddress() {
   clearTimeout(addressTimer);
   addressTimer = setTimeout(() => {
-    const kept = text.value !== '' && text.value.length <= IN_ADDRESS;
+    const kept = field.value !== '' && field.value.length <= IN_ADDRESS;
     if (!kept && location.hash === '') return;
     try {
       history.replaceState(null, '', kept ? link() : location.pathname + location.search);
@@ -99,28 +98,9 @@ function changed(here = false) {
   keepInAddress();
 }
 
-let replacing = false;
-
-/** Puts a text in the field in place of what stands there, as one change that the browser can undo. */
-function replace(words) {
-  const value = words.replace(/\r\n?/g, '\n'); // as the field has its lines
-  if (value === text.value) return;
-  replacing = true;
-  text.focus();
-  text.select();
-  // Chrome takes seconds for a thousand lines by insertText, and Firefox has no insertHTML here.
-  if (value === '') document.execCommand('delete');
-  else document.execCommand('insertHTML', false, value.replaceAll('&', '&amp;').replaceAll('<', '&lt;')) || document.execCommand('insertText', false, value);
-  // What the browser doesn't put in so (a NUL) can't be undone.
-  if (text.value !== value) text.value = value;
-  text.setSelectionRange(0, 0);
-  text.scrollTop = 0;
-  replacing = false;
-}
-
 /** Puts a text in the field, and answers it. */
 function put(value) {
-  replace(value);
+  field.replace(value);
   state.chosen = 0;
   changed();
 }
@@ -139,7 +119,7 @@ function startCopying() {
 }
 
 function showLinkButton() {
-  const long = text.value.length > LINKED;
+  const long = field.value.length > LINKED;
   $('copy-link').disabled = long;
   $('copy-link').title = long ? 'The text is too long for a link' : 'A link to this page with the text in it';
 }
@@ -161,7 +141,7 @@ async function take(files) {
     }
     if (!current()) return;
   }
-  replace('');
+  field.replace('');
   keepInAddress();
   readFile(file, files.length - 1);
 }
@@ -216,20 +196,18 @@ function startExamples() {
 }
 
 function startControls() {
-  text.addEventListener('input', (event) => {
-    if (!replacing) changed(/^(insert(?!From)|delete)/.test(event.inputType));
-  });
+  startField((type) => changed(/^(insert(?!From)|delete)/.test(type)));
   for (const control of [$('places'), ...document.querySelectorAll('input[name=split]')]) {
     control.addEventListener('change', () => rereadFile() || changed());
   }
   $('clear').addEventListener('click', () => {
     put('');
-    text.focus();
+    field.focus();
   });
   $('skip').addEventListener('click', (event) => {
     // The address stays: the text stands in it.
     event.preventDefault();
-    text.focus();
+    field.focus();
   });
   $('next').addEventListener('click', goToNextRefusal);
   $('open').addEventListener('click', () => $('file').click());
@@ -257,7 +235,7 @@ function startKeys() {
     event.preventDefault();
   });
   addEventListener('hashchange', () => {
-    if (!readLink(replace)) return;
+    if (!readLink(field.replace)) return;
     state.chosen = 0;
     closeFile();
     analyse();
@@ -287,11 +265,7 @@ async function start() {
   startExamples();
   startKeys();
   startDropping();
-  // What stands in the field at first is no change that could be undone.
-  const set = (words) => {
-    text.value = words;
-  };
-  if (!readLink(set)) set(EXAMPLES[Object.keys(EXAMPLES)[0]]);
+  if (!readLink(field.begin)) field.begin(EXAMPLES[Object.keys(EXAMPLES)[0]]);
   analyse();
   document.documentElement.dataset.ready = 'yes';
 }

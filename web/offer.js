@@ -1,6 +1,7 @@
 // A text, or a file, in other clothes: the page says what it is, and buttons turn it.
 import { turnedText } from './answers.js';
 import { $, button, count, element, number, short } from './elements.js';
+import { field } from './field.js';
 import { LOOKED, formsOf } from './takein.js';
 
 const WORDS = {
@@ -26,10 +27,13 @@ const forget = () => {
   $('offer').replaceChildren();
 };
 
-let offered = '';
+let offered = '', looked = '';
 
 /** Looks at the field's text; `put` puts what it is turned into in its place. */
 export function showOffer(text, put) {
+  const front = `${text.length > LOOKED} ${text.slice(0, LOOKED)}`;
+  if (front === looked) return;
+  looked = front;
   const forms = formsOf(text.slice(0, LOOKED), text.length > LOOKED);
   const key = JSON.stringify(forms);
   if (key === offered && forms.length > 0) return;
@@ -40,15 +44,15 @@ export function showOffer(text, put) {
   }
   $('offer').hidden = false;
   $('offer').replaceChildren(...offerOf(forms, async (form) => {
-    const { texts, left, failed } = await turnedText($('text').value, form);
+    const { texts, left, failed } = await turnedText(field.value, form);
     if (failed) {
       $('offer').append(element('p', {}, short(failed, 200)));
       return;
     }
     put(texts.join('\n'));
-    offered = '';
+    offered = looked = '';
     $('offer').hidden = false;
     $('offer').replaceChildren(element('p', {}, `${count(texts.length, 'text')} taken. ${left.length > 0 ? leftWords(left) : ''}`));
-    $('text').focus();
+    field.focus();
   }));
 }

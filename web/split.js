@@ -90,7 +90,7 @@ export function piecesOf(text, split) {
 }
 
 /** How many characters of so many agree; `part` says whether those from one to before another do. */
-function agreed(length, part) {
+export function agreed(length, part) {
   let [low, high] = [0, length];
   while (low < high) {
     const middle = (low + high + 1) >> 1;

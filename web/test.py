@@ -24,12 +24,13 @@ from causes import Causes  # noqa: E402
 from chromium import Page, Quiet  # noqa: E402
 from files import Files  # noqa: E402
 from give import Give  # noqa: E402
+from many import Many
 from selenium.webdriver.common.by import By  # noqa: E402
 from texts import Texts  # noqa: E402
 
 TOP = os.path.dirname(os.path.dirname(os.path.abspath(__file__)))
 # The tests that unittest.main finds in this module besides its own.
-TESTS = (Texts, Files, Access, Give, Causes)
+TESTS = (Texts, Files, Access, Give, Causes, Many)
 
 # What a page could send or load, and the directive of the policy that refuses it.
 LEAVING = {

@@ -2,6 +2,7 @@
 import { STATUS } from '../javascript/src/index.js';
 import { lineOf } from './answers.js';
 import { $, count, element, fill, listed, number, withCode, withoutCode, wordIn } from './elements.js';
+import { field } from './field.js';
 import { chosenRow, state } from './state.js';
 
 const line = (d, width) => `<svg viewBox="0 0 16 16"><path d="${d}" fill="none" stroke="currentColor" stroke-width="${width}" stroke-linecap="round" stroke-linejoin="round"/></svg>`;
@@ -101,5 +102,5 @@ export function showVerdict() {
   const { refused } = state.counted;
   $('next').hidden = refused === 0;
   fill($('next'), refused > 1 ? 'Next refusal' : 'Show the place');
-  $('text').setAttribute('aria-invalid', String(refused > 0));
+  field.invalid(refused > 0);
 }

@@ -63,7 +63,7 @@ class Causes(Page):
             ],
             self.causes(),
         )
-        self.by_id("text").send_keys("")
+        self.field().send_keys("")
         for _ in range(40):
             self.press(Keys.TAB)
             if self.focused():

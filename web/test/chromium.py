@@ -50,6 +50,8 @@ SAID = """
 const [verdict, it] = ['verdict', arguments[0]].map((id) => document.getElementById(id));
 return [verdict.getAttribute('aria-busy') === 'true', it.innerText];
 """
+# The field that is shown: a textarea, or the one of many lines, which stand in blocks.
+FIELD = "const field = ['text', 'many'].map((id) => document.getElementById(id)).find((e) => e.checkVisibility());"
 # The picture as bytes: red, green, blue, alpha.
 PIXELS = """
 const c = document.getElementById('canvas');
@@ -148,9 +150,8 @@ class Page(unittest.TestCase):
 
     def type(self, text):
         """Types a text, key by key, in place of what stands in the field."""
-        field = self.by_id("text")
-        field.send_keys(Keys.CONTROL, "a")
-        field.send_keys(text)
+        self.field().send_keys(Keys.CONTROL, "a")
+        self.field().send_keys(text)
 
     def paste(self, text):
         """Puts a text in the field at once, and waits until it is answered and drawn."""
@@ -197,12 +198,26 @@ class Page(unittest.TestCase):
     def press(self, *keys):
         webdriver.ActionChains(self.driver).send_keys(*keys).perform()
 
+    def field(self):
+        """The field that has the text."""
+        return self.script(FIELD + "return field")
+
+    def hold(self, *keys):
+        """Presses the last key, while the others are held, where the focus is."""
+        chain = webdriver.ActionChains(self.driver)
+        for key in keys[:-1]:
+            chain.key_down(key)
+        chain.send_keys(keys[-1])
+        for key in keys[:-1]:
+            chain.key_up(key)
+        chain.perform()
+
     def undo(self):
-        self.by_id("text").send_keys(Keys.CONTROL, "z")
+        self.field().send_keys(Keys.CONTROL, "z")
 
     def pasted(self):
         """What the clipboard has, as the field takes it."""
-        self.by_id("text").send_keys(Keys.CONTROL, "av")
+        self.field().send_keys(Keys.CONTROL, "av")
         return self.value()
 
     def hear(self, name):
@@ -218,7 +233,8 @@ class Page(unittest.TestCase):
         return self.script("return window.heard")
 
     def value(self):
-        return self.by_id("text").get_attribute("value")
+        blocks = "[...field.children].map((block) => block.textContent).join('\\n')"
+        return self.script(FIELD + "return field.value ?? " + blocks)
 
     def drop(self, *paths):
         """Drops files on the page, as a file manager does."""

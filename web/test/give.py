@@ -4,6 +4,7 @@ import os
 import time
 
 from chromium import Page
+from many import SELECT
 from selenium.webdriver import ActionChains
 from selenium.webdriver.common.by import By
 from selenium.webdriver.support.ui import Select
@@ -22,26 +23,18 @@ TAKEN = [
     ('id,geom\n1,"LINESTRING(0 0,1 1)"\n2,POINT(1 2)', "Take column “geom”", "LINESTRING(0 0,1 1)\nPOINT(1 2)"),
     ("'POINT(1 2)',\n'POINT(3 4)'", "Take them off", "POINT(1 2)\nPOINT(3 4)"),
 ]
-# The most milliseconds of processor time that the page may add to a key, on the main thread, and with its worker until
-# the answer, where a key takes BARE in a bare field; on a machine that takes longer for that, as many times more. The
-# least of KEYS counts, and all is measured again up to ROUNDS times, so that the bounds hold on a busy machine too.
-ADDED, ANSWERED, BARE, KEYS, ROUNDS = 16, 50, 25, 10, 3
+# The most milliseconds that a key takes in ten thousand lines: of the main thread, and by the clock until the answer; on
+# a machine on which a key takes longer than BARE in a bare field, as many times more. The least of KEYS counts, and all
+# is measured again up to ROUNDS times, so that the bounds hold on a busy machine too.
+MAIN, ANSWERED, BARE, KEYS, ROUNDS = 16, 50, 40, 10, 3
 # Whether there is nothing left to answer.
 IDLE = "return document.getElementById('verdict')?.getAttribute('aria-busy') !== 'true'"
-# Lets no event of a key come to the page, or lets all come again.
-DEAF = """
-window.deaf ??= (event) => event.stopImmediatePropagation();
-for (const name of ['keydown', 'keyup', 'input', 'scroll', 'selectionchange']) {
-  if (arguments[0]) addEventListener(name, window.deaf, true);
-  else removeEventListener(name, window.deaf, true);
-}
-"""
 # Keeps how long each answer took after its key.
 ANSWERS = """
 window.answered = [];
 let begun = 0;
 const verdict = document.getElementById('verdict');
-document.getElementById('text').addEventListener('input', () => { begun = performance.now() }, true);
+addEventListener('beforeinput', () => { begun = performance.now() }, true);
 new MutationObserver(() => verdict.getAttribute('aria-busy') === 'false' && begun &&
   window.answered.push(performance.now() - begun)).observe(verdict, { attributeFilter: ['aria-busy'] });
 """
@@ -177,8 +170,8 @@ class Give(Page):
                     self.assertFalse(abs(y - at) < 11 and x < other + wide and other < x + width, text)
 
     def key(self):
-        """Milliseconds that a key takes: of the main thread, of its scripts, and of all threads."""
-        names = ("TaskDuration", "ScriptDuration", "ProcessTime")
+        """Milliseconds that a key takes of the main thread, and of its scripts."""
+        names = ("TaskDuration", "ScriptDuration")
         before = self.metrics(*names)
         for kind in ("keyDown", "keyUp"):
             key = {"type": kind, "key": "5", **({"text": "5"} if kind == "keyDown" else {})}
@@ -188,42 +181,38 @@ class Give(Page):
         return [1000 * (now - then) for now, then in zip(self.metrics(*names), before)]
 
     def least(self):
-        """The least that a key takes, of some in the middle of the field."""
-        self.script("const t = document.getElementById('text'); t.focus(); t.setSelectionRange(3000, 3000)")
+        """The least that a key takes of some: of the main thread, and of its scripts."""
         return [min(times) for times in zip(*(self.key() for _ in range(KEYS)))]
 
     def least_in_the_page(self, text):
-        """The same in the page: where it hears of the key, and where it doesn't; and the least until an answer."""
+        """The same in the page, in the middle of what is seen; and the least until an answer."""
         self.open()
         self.paste(text)
         self.assertLess(len(self.driver.find_elements(By.CSS_SELECTOR, "#rows tr, #mirror > div")), 120)
-        self.script(DEAF, True)
-        deaf = self.least()
-        self.script(DEAF, False)
         self.script(ANSWERS)
+        self.script(SELECT, [10, 10], [10, 10])
         page = self.least()
         answered = self.script("return window.answered")
         self.assertGreaterEqual(len(answered), KEYS)
-        return page, deaf, min(answered)
+        return page, min(answered)
 
     def least_in_a_field(self, text):
         field = "<textarea id=text spellcheck=false style='width:600px;height:300px;white-space:pre'>"
         self.driver.get("data:text/html," + field)
-        self.script("document.getElementById('text').value = arguments[0]", text)
+        self.script("const t = document.getElementById('text'); t.value = arguments[0]; t.focus()", text)
+        self.script("document.getElementById('text').setSelectionRange(400, 400)")
         return self.least()
 
     def test_typing(self):
-        """What the page adds to a key in ten thousand lines; few of the lines stand in the document."""
+        """What a key takes in ten thousand lines; few of the lines stand in the document beside the field."""
         text = "\n".join(f"POLYGON(({n} 0,4.25 0,2.125 4,{n} 0))" for n in range(10000))
         for _ in range(ROUNDS):
-            (page, deaf, answered), (bare, *_) = self.least_in_the_page(text), self.least_in_a_field(text)
-            main, scripts, process = (with_it - without for with_it, without in zip(page, deaf))
+            ((main, scripts), answered), (bare, _) = self.least_in_the_page(text), self.least_in_a_field(text)
             self.note(
-                f"a key in 10,000 lines: {page[0]:.1f} ms of the main thread, and {bare:.1f} in a bare field;"
-                f" the page adds {main:.1f}, {scripts:.1f} by scripts, {process:.1f} with the worker;"
-                f" by the clock {answered:.0f}"
+                f"a key in 10,000 lines: {main:.1f} ms of the main thread, {scripts:.1f} of them by scripts,"
+                f" {answered:.0f} until the answer; {bare:.1f} in a bare field"
             )
             slower = max(1, bare / BARE)
-            if main < ADDED * slower and process < ANSWERED * slower:
+            if main < MAIN * slower and answered < ANSWERED * slower:
                 return
-        self.fail(f"the page added more than {ADDED} ms to a key, or {ANSWERED} with its worker")
+        self.fail(f"a key took more than {MAIN} ms of the main thread, or {ANSWERED} until the answer")
