@@ -145,7 +145,9 @@ export class ManyLines {
 
   select(start, stop) {
     const [from, to] = [start, stop].map((place) => this.#find(place)).map(([i, at]) => [this.#blocks[i].node.firstChild, at]);
-    getSelection().setBaseAndExtent(...from, ...to);
+    // By setBaseAndExtent Firefox keeps the column to which the arrows went before.
+    getSelection().collapse(...from);
+    if (stop !== start) getSelection().extend(...to);
   }
 
   /** Has the blocks around the caret laid out, though they may not be in view: else a key passes over them. */

@@ -103,14 +103,15 @@ class Quiet(http.server.SimpleHTTPRequestHandler):
 
 
 class Page(unittest.TestCase):
-    """Tests of the page whose path is `page`."""
+    """Tests of the page whose path is `page`, in a browser that `browser` starts."""
 
     page = None
+    browser = staticmethod(browser)
 
     @classmethod
     def setUpClass(cls):
         cls.folder = tempfile.TemporaryDirectory()
-        cls.driver = browser(cls.folder.name)
+        cls.driver = cls.browser(cls.folder.name)
 
     @classmethod
     def tearDownClass(cls):

@@ -1,41 +1,89 @@
 #!/usr/bin/python3
-"""Tests by hand that Firefox answers and draws: web/test/firefox.py [PAGE]
+"""Tests the page in Firefox, by hand: web/test/firefox.py [--only WORD] [PAGE]
 
-PAGE is dist/web/index.html where it is left out. It needs firefox-esr alone: Debian has no geckodriver, so this speaks
-Firefox's own protocol, Marionette.
+They are the tests of web/test.py, and PAGE is as there. Those that ask Chromium for something that Firefox doesn't have
+are passed over, and say so. It needs the Debian packages firefox-esr and python3-selenium. Debian has no geckodriver,
+so this speaks Firefox's own protocol, Marionette.
 """
+import argparse
 import base64
 import json
 import os
+import runpy
 import socket
 import subprocess
 import sys
-import tempfile
 import time
+import unittest
+
+from selenium import webdriver
+from selenium.common import exceptions
+from selenium.webdriver.remote.command import Command
+
+sys.path.insert(0, os.path.dirname(os.path.abspath(__file__)))
+from chromium import Page  # noqa: E402 (found by the line above)
 
 TOP = os.path.dirname(os.path.dirname(os.path.dirname(os.path.abspath(__file__))))
-PUT = "const t = document.getElementById('text'); t.value = arguments[0]; t.dispatchEvent(new Event('input'))"
+PREFS = {
+    "browser.download.folderList": 2,
+    "browser.download.dir": None,
+    "browser.download.alwaysOpenPanel": False,
+    "browser.helperApps.neverAsk.saveToDisk": "text/plain,text/csv,application/geo+json,application/octet-stream",
+    "datareporting.policy.dataSubmissionEnabled": False,
+}
+# What Selenium asks for, as Marionette calls it, and what has to be called otherwise in its parameters.
+COMMANDS = {
+    Command.NEW_SESSION: "NewSession",
+    Command.GET: "Navigate",
+    Command.GET_CURRENT_URL: "GetCurrentURL",
+    Command.REFRESH: "Refresh",
+    Command.FIND_ELEMENT: "FindElement",
+    Command.FIND_ELEMENTS: "FindElements",
+    Command.FIND_CHILD_ELEMENT: "FindElement",
+    Command.FIND_CHILD_ELEMENTS: "FindElements",
+    Command.W3C_GET_ACTIVE_ELEMENT: "GetActiveElement",
+    Command.CLICK_ELEMENT: "ElementClick",
+    Command.SEND_KEYS_TO_ELEMENT: "ElementSendKeys",
+    Command.GET_ELEMENT_TEXT: "GetElementText",
+    Command.GET_ELEMENT_TAG_NAME: "GetElementTagName",
+    Command.GET_ELEMENT_RECT: "GetElementRect",
+    Command.GET_ELEMENT_ARIA_ROLE: "GetComputedRole",
+    Command.GET_ELEMENT_ARIA_LABEL: "GetComputedLabel",
+    Command.IS_ELEMENT_ENABLED: "IsElementEnabled",
+    Command.W3C_EXECUTE_SCRIPT: "ExecuteScript",
+    Command.W3C_ACTIONS: "PerformActions",
+    Command.SCREENSHOT: "TakeScreenshot",
+}
+ERRORS = {
+    "stale element reference": exceptions.StaleElementReferenceException,
+    "no such element": exceptions.NoSuchElementException,
+    "element not interactable": exceptions.ElementNotInteractableException,
+}
 DROP = """
+const [name, text] = arguments;
+const bytes = Uint8Array.from(atob(text), (c) => c.charCodeAt(0));
 const event = new Event('drop', { cancelable: true });
-event.dataTransfer = { files: [new File([arguments[0].repeat(200000)], 'many.wkt')], types: ['Files'] };
+event.dataTransfer = { files: [new File([bytes], name)], types: ['Files'] };
 dispatchEvent(event);
 """
-# What an element says, or null while the page is busy.
-SAID = """
-const busy = document.getElementById('verdict').getAttribute('aria-busy') === 'true';
-return document.documentElement.dataset.ready && !busy ? document.getElementById(arguments[0]).innerText : null;
-"""
 
 
-class Firefox:
-    def __init__(self, profile):
+class Marionette:
+    """Firefox, as Selenium asks a browser."""
+
+    def __init__(self, folder):
+        self.profile = os.path.join(folder, "profile")
+        os.mkdir(self.profile)
         with socket.socket() as free:
             free.bind(("127.0.0.1", 0))
             port = free.getsockname()[1]
-        with open(profile + "/user.js", "w", encoding="utf-8") as file:
-            file.write(f'user_pref("marionette.port", {port});\n')
-        command = ["firefox-esr", "--headless", "--marionette", "--no-remote", "--profile", profile]
-        self.process = subprocess.Popen(command, stdout=subprocess.DEVNULL, stderr=subprocess.DEVNULL)
+        with open(self.profile + "/user.js", "w", encoding="utf-8") as file:
+            for name, value in {**PREFS, "browser.download.dir": folder, "marionette.port": port}.items():
+                file.write(f"user_pref({json.dumps(name)}, {json.dumps(value)});\n")
+        command = ["firefox-esr", "--headless", "--marionette", "--no-remote", "--profile", self.profile]
+        self.process = subprocess.Popen(
+            [*command, "--width", "1280", "--height", "885"], stdout=subprocess.DEVNULL, stderr=subprocess.DEVNULL
+        )
         end = time.time() + 120
         while True:
             try:
@@ -46,7 +94,6 @@ class Firefox:
                 time.sleep(0.2)
         self.stream = self.socket.makefile("rb")
         self.told()
-        self.ask("NewSession", capabilities={})
 
     def told(self):
         length = b""
@@ -54,60 +101,64 @@ class Firefox:
             length += c
         return json.loads(self.stream.read(int(length)))
 
-    def ask(self, name, **asked):
-        words = json.dumps([0, 1, "WebDriver:" + name, asked]).encode()
+    def execute(self, command, asked):
+        if command == Command.QUIT:
+            self.process.terminate()
+            self.process.wait()
+            return {"value": None}
+        if command not in COMMANDS:
+            raise unittest.SkipTest(f"not in Firefox: {command}")
+        asked = {name: value for name, value in asked.items() if name != "sessionId"}
+        if command == Command.NEW_SESSION:
+            asked = {"capabilities": {}}
+        elif command.startswith("findChild"):
+            asked["element"] = asked.pop("id")
+        words = json.dumps([0, 1, "WebDriver:" + COMMANDS[command], asked]).encode()
         self.socket.sendall(b"%d:%s" % (len(words), words))
         _, _, error, result = self.told()
-        assert error is None, error
-        return result["value"] if result and "value" in result else result
+        if error:
+            raise ERRORS.get(error["error"], exceptions.WebDriverException)(error["message"])
+        if command == Command.NEW_SESSION:
+            return {"value": result}
+        return {"value": result["value"] if isinstance(result, dict) and "value" in result else result}
 
-    def script(self, text, *given):
-        return self.ask("ExecuteScript", script=text, args=list(given))
-
-    def wait(self, wanted, name="say"):
-        """Waits until an element says that."""
-        end = time.time() + 120
-        while (said := self.script(SAID, name)) != wanted:
-            assert time.time() < end, f"{wanted} was awaited, and it says {said}"
-            time.sleep(0.1)
-
-    def picture(self):
-        """The picture as it is on the screen, once it stays."""
-        (canvas,) = self.ask("FindElement", using="css selector", value="#canvas").values()
-        last = None
-        while last != (last := base64.b64decode(self.ask("TakeScreenshot", id=canvas, full=False))):
-            time.sleep(1)
-        return last
+    def close(self):
+        self.socket.close()
 
 
-def test(firefox, page):
-    firefox.ask("Navigate", url="file://" + os.path.abspath(page))
-    firefox.wait("Accepted: Polygon")
-    pictures = [firefox.picture()]
-    for text, said in (
-        ("LINESTRING(0 0,10 10,20 0)", "Accepted: LineString"),
-        ("POLYGON((0 0,9 0,9 9,0 0))\nPOINT(1", "1 of 2 lines refused"),
-        ("\n".join(f"POINT({n} {n * n})" for n in range(10000)), "All 10,000 lines accepted"),
-        ("LINESTRING(0 0,10 10,20 0)", "Accepted: LineString"),
-    ):
-        firefox.script(PUT, text)
-        firefox.wait(said)
-        pictures.append(firefox.picture())
-    assert pictures[1] == pictures[4], "one text has two pictures"
-    firefox.script("document.getElementById('out-zoom').click()")
-    pictures.append(firefox.picture())
-    firefox.script(DROP, "POINT(1 2)\nPOINT(3 4)\nPOINT(1)\n")
-    firefox.wait("200,000 of 600,000 lines refused")
-    pictures.append(firefox.picture())
-    assert len(set(pictures)) == len(pictures) - 1, "two texts have one picture"
+def firefox(folder):
+    driver = webdriver.Remote(command_executor=Marionette(folder), options=webdriver.FirefoxOptions())
+    driver.execute_cdp_cmd = lambda name, asked: Page.skipTest(Page, f"Firefox has no {name}")
+    driver.get_log = lambda name: []
+    return driver
+
+
+class InFirefox:
+    """What is done otherwise there."""
+
+    browser = staticmethod(firefox)
+
+    def metrics(self, *names):
+        self.skipTest(f"Firefox has no figures of {', '.join(names)}")
+
+    def drop(self, *paths):
+        for path in paths[:1]:
+            with open(path, "rb") as file:
+                text = base64.b64encode(file.read()).decode()
+            self.script(DROP, os.path.basename(path), text)
 
 
 if __name__ == "__main__":
-    with tempfile.TemporaryDirectory(ignore_cleanup_errors=True) as folder:
-        browser = Firefox(folder)
-        try:
-            test(browser, sys.argv[1] if len(sys.argv) > 1 else TOP + "/dist/web/index.html")
-        finally:
-            browser.process.terminate()
-            browser.process.wait()
-    print("Firefox answers and draws")
+    parser = argparse.ArgumentParser(description=__doc__.split("\n", maxsplit=1)[0])
+    parser.add_argument("--only", help="the tests whose names have this word")
+    parser.add_argument("page", nargs="?", default=TOP + "/dist/web/index.html")
+    arguments = parser.parse_args()
+    Page.page = arguments.page
+    for name in ("browser", "metrics", "drop"):
+        setattr(Page, name, vars(InFirefox)[name])
+    tests = runpy.run_path(TOP + "/web/test.py", run_name="tests")
+    module = type(sys)("tests")
+    vars(module).update({name: it for name, it in tests.items() if isinstance(it, type) and issubclass(it, Page)})
+    sys.modules["tests"] = module
+    only = ["-k", arguments.only] if arguments.only else []
+    unittest.main(module="tests", argv=[sys.argv[0], "-v", *only])

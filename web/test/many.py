@@ -221,7 +221,7 @@ class Many(Page):
 
     def in_a_textarea(self, start, stop, keys):
         """What stands in a bare textarea after some keys."""
-        self.driver.get("data:text/html,<textarea id=text wrap=off rows=20>")
+        self.driver.get("file://" + self.file("<textarea id=text wrap=off rows=20>", "textarea.html"))
         self.script(
             "const t = document.getElementById('text'); t.value = arguments[0]; t.focus();"
             "const at = ([line, n]) => t.value.split('\\n').slice(0, line).reduce((sum, it) => sum + it.length + 1, n);"
