@@ -278,6 +278,8 @@ class Page(unittest.TestCase):
         yield "accepted"
         self.choose_example("Refused, and why")
         yield "refused"
+        self.paste("\n".join(f"POINT({n} {n * n})" if n % 7 else f"POINT({n}" for n in range(300)))
+        yield "many"
         line = ",".join(f"{n} {n * n / 40}" for n in range(-40, 41))
         self.drop(self.file(f"LINESTRING({line})\nPOINT(1)\n" * 500))
         self.wait(lambda: "refused" in self.said("say"))
