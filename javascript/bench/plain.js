@@ -1,4 +1,5 @@
-// toGeoJSONObject beside a plain reader of doubles: plain.js MODULE. Processor time, the best of twelve runs.
+// toGeoJSONObject and arrays beside a plain reader of doubles, and fromArrays beside a plain writer: plain.js MODULE.
+// Processor time, the best of twelve runs.
 import { readFileSync } from 'node:fs';
 import { load } from '../src/node.js';
 
@@ -36,6 +37,14 @@ function plain(text) {
   }
 }
 
+/** Writes them. */
+function plainText({ type, coordinates }) {
+  const position = (it) => it.join(' ');
+  const line = (it) => `(${it.map(position).join(',')})`;
+  if (type === 'Point') return `POINT(${position(coordinates)})`;
+  return type === 'Polygon' ? `POLYGON(${coordinates.map(line).join(',')})` : `LINESTRING${line(coordinates)}`;
+}
+
 let seed = 1;
 const some = () => (seed = (seed * 48271) % 2147483647) / 2147483647;
 const position = () => `${(some() * 360 - 180).toFixed(6)} ${(some() * 180 - 90).toFixed(6)}`;
@@ -45,18 +54,26 @@ const WORKLOADS = {
   polygons: Array.from({ length: 2000 }, () => `POLYGON((${positions(20)}, 0 0))`),
   lines: Array.from({ length: 20 }, () => `LINESTRING(${positions(2000)})`),
 };
-const CALLS = { toGeoJSONObject: (text) => wkt.toGeoJSONObject(text), 'JSON.parse(toGeoJSON)': (text) => JSON.parse(wkt.toGeoJSON(text)), 'a plain reader': plain };
+const READERS = { toGeoJSONObject: (text) => wkt.toGeoJSONObject(text), 'JSON.parse(toGeoJSON)': (text) => JSON.parse(wkt.toGeoJSON(text)), arrays: (text) => wkt.arrays(text), 'a plain reader': plain };
 
-for (const [name, texts] of Object.entries(WORKLOADS)) {
-  const size = texts.reduce((n, text) => n + text.length, 0);
-  const best = Object.fromEntries(Object.keys(CALLS).map((call) => [call, Infinity]));
+/** The best speeds of some calls, each of which has things of its own, of a size in all. */
+function speeds(calls, size) {
+  const best = Object.fromEntries(Object.keys(calls).map((call) => [call, Infinity]));
   for (let i = 0; i < 12; i++) {
-    for (const [call, made] of Object.entries(CALLS)) {
+    for (const [call, [made, things]] of Object.entries(calls)) {
       const begun = process.cpuUsage();
-      for (const text of texts) made(text);
+      for (const it of things) made(it);
       const { user, system } = process.cpuUsage(begun);
       best[call] = Math.min(best[call], (user + system) / 1e6);
     }
   }
-  console.log(`${name}: ${Object.entries(best).map(([call, seconds]) => `${call} ${(size / 1e6 / seconds).toFixed(1)}`).join(', ')} MB/s`);
+  return `${Object.entries(best).map(([call, seconds]) => `${call} ${(size / 1e6 / seconds).toFixed(1)}`).join(', ')} MB/s`;
+}
+
+for (const [name, texts] of Object.entries(WORKLOADS)) {
+  const size = texts.reduce((n, text) => n + text.length, 0);
+  const read = Object.fromEntries(Object.entries(READERS).map(([call, made]) => [call, [made, texts]]));
+  console.log(`${name}: ${speeds(read, size)}`);
+  const written = { fromArrays: [(it) => wkt.fromArrays(it), texts.map((text) => wkt.arrays(text))], 'a plain writer': [plainText, texts.map(plain)] };
+  console.log(`${name}: ${speeds(written, size)}`);
 }

@@ -47,9 +47,12 @@ COMMANDS = {
     Command.GET_ELEMENT_TEXT: "GetElementText",
     Command.GET_ELEMENT_TAG_NAME: "GetElementTagName",
     Command.GET_ELEMENT_RECT: "GetElementRect",
+    Command.GET_ELEMENT_ATTRIBUTE: "GetElementAttribute",
+    Command.GET_ELEMENT_PROPERTY: "GetElementProperty",
     Command.GET_ELEMENT_ARIA_ROLE: "GetComputedRole",
     Command.GET_ELEMENT_ARIA_LABEL: "GetComputedLabel",
     Command.IS_ELEMENT_ENABLED: "IsElementEnabled",
+    Command.IS_ELEMENT_SELECTED: "IsElementSelected",
     Command.W3C_EXECUTE_SCRIPT: "ExecuteScript",
     Command.W3C_ACTIONS: "PerformActions",
     Command.SCREENSHOT: "TakeScreenshot",
@@ -129,7 +132,7 @@ class Marionette:
 def firefox(folder):
     driver = webdriver.Remote(command_executor=Marionette(folder), options=webdriver.FirefoxOptions())
     driver.execute_cdp_cmd = lambda name, asked: Page.skipTest(Page, f"Firefox has no {name}")
-    driver.get_log = lambda name: []
+    driver.get_log = lambda name: Page.skipTest(Page, f"Firefox has no log of its {name}")
     return driver
 
 

@@ -121,7 +121,7 @@ class Give(Page):
     def test_readout(self):
         self.open()
         self.paste("POLYGON((0 0,30 0,30 40.50,0 0))\nPOINT(1 1)")
-        self.driver.find_element(By.CSS_SELECTOR, "#rows tr").click()
+        self.driver.find_element(By.CSS_SELECTOR, "#rows td").click()
         self.by_id("canvas").send_keys("")
         for _ in range(3):
             self.press(".")

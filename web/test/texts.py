@@ -139,7 +139,7 @@ class Texts(Page):
             rows,
         )
         self.assertEqual("3 geometries · 4 points · x 0 to 4 · y 0 to 4", self.said("totals"))
-        self.driver.find_elements(By.CSS_SELECTOR, "#rows tr")[3].click()
+        self.driver.find_element(By.CSS_SELECTOR, "#rows tr:nth-child(4) td").click()
         self.assertEqual("LINESTRING(0 0,4 4)", self.said("out"))
         self.driver.find_element(By.CSS_SELECTOR, "[data-filter=repeats]").click()
         self.assertEqual(1, len(self.driver.find_elements(By.CSS_SELECTOR, "#rows tr")))
