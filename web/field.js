@@ -79,12 +79,12 @@ function edit(from, to, words, type) {
 }
 
 /** Takes what stands in the textarea. */
-function typed({ inputType = '' }) {
+function typed({ inputType = '', isComposing = false }) {
   const now = text.value;
   const change = difference(value, now);
   const end = change.at + change.added.length;
   history.add({ ...change, selected: [change.at, change.at + change.removed.length], kind: kindOf(inputType), when: performance.now() });
-  if (take(now)) select(end, end);
+  if (take(now, isComposing)) select(end, end);
   else if (isMany) many.build(value);
   changed(inputType);
 }

@@ -24,7 +24,7 @@ from causes import Causes  # noqa: E402
 from chromium import Page, Quiet  # noqa: E402
 from files import Files  # noqa: E402
 from give import Give  # noqa: E402
-from many import Many
+from many import Many  # noqa: E402
 from selenium.webdriver.common.by import By  # noqa: E402
 from texts import Texts  # noqa: E402
 

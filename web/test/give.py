@@ -23,9 +23,9 @@ TAKEN = [
     ('id,geom\n1,"LINESTRING(0 0,1 1)"\n2,POINT(1 2)', "Take column “geom”", "LINESTRING(0 0,1 1)\nPOINT(1 2)"),
     ("'POINT(1 2)',\n'POINT(3 4)'", "Take them off", "POINT(1 2)\nPOINT(3 4)"),
 ]
-# The most milliseconds that a key takes in ten thousand lines: of the main thread, and by the clock until the answer; on
-# a machine on which a key takes longer than BARE in a bare field, as many times more. The least of KEYS counts, and all
-# is measured again up to ROUNDS times, so that the bounds hold on a busy machine too.
+# The most milliseconds that a key takes in ten thousand lines: of the main thread, and by the clock until the answer.
+# On a machine on which a key takes longer than BARE in a bare field, it may take as many times more. The least of KEYS
+# counts, and all is measured again up to ROUNDS times, so that the bounds hold on a busy machine too.
 MAIN, ANSWERED, BARE, KEYS, ROUNDS = 16, 50, 40, 10, 3
 # Whether there is nothing left to answer.
 IDLE = "return document.getElementById('verdict')?.getAttribute('aria-busy') !== 'true'"

@@ -11,7 +11,8 @@ SELECT = """
 const place = ([line, column]) => {
   for (const block of document.getElementById('many').children) {
     const lines = block.textContent.split('\\n');
-    if (line < lines.length) return [block.firstChild, lines.slice(0, line).reduce((sum, it) => sum + it.length + 1, column)];
+    const before = lines.slice(0, line).reduce((sum, it) => sum + it.length + 1, column);
+    if (line < lines.length) return [block.firstChild, before];
     line -= lines.length;
   }
 };

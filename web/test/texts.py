@@ -215,7 +215,7 @@ class Texts(Page):
         self.wait(lambda: (lambda box: box[2] - box[0])(self.box("--c0")) < 0.8 * width)
 
     def test_undo(self):
-        """What is put in place of typed text is undone by the browser's own history, step by step."""
+        """What is put in place of typed text is undone, step by step."""
         self.open()
         typed = "POINT(12 34)"
         self.type(typed)
