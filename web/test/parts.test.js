@@ -2,6 +2,7 @@
 import assert from 'node:assert/strict';
 import { readFileSync, readdirSync } from 'node:fs';
 import { test } from 'node:test';
+import { History, difference } from '../history.js';
 import { Range, compare } from '../range.js';
 import { Repeats } from '../repeats.js';
 import { changedPieces, piecesOf, splitOfFront } from '../split.js';
@@ -203,6 +204,38 @@ test('the first repeats are listed, by their lines', () => {
   const { repeats, wanted } = check(random(3000, 100), good, { memory: 0, shown: 10 });
   assert.deepEqual(repeats.first, wanted.slice(0, 10));
   assert.equal(repeats.count, wanted.length);
+});
+
+/** A text that is changed to others, by kinds and at times; and what stands there after each step back, and forth. */
+function steps(texts) {
+  const history = new History();
+  const put = (text, at, length, words) => text.slice(0, at) + words + text.slice(at + length);
+  let text = texts[0][0];
+  for (const [next, kind, when] of texts.slice(1)) {
+    history.add({ ...difference(text, next), kind, when });
+    text = next;
+  }
+  const [back, forth] = [[], []];
+  for (let change; (change = history.undone()); back.push(text)) text = put(text, change.at, change.added.length, change.removed);
+  for (let change; (change = history.redone()); forth.push(text)) text = put(text, change.at, change.removed.length, change.added);
+  return [back, forth];
+}
+// The texts with kinds and times; those to which one comes back.
+const UNDONE = [
+  [[['a'], ['ab', 'typed', 0], ['abc', 'typed', 900], ['abcd', 'typed', 2000]], ['abc', 'a']], // not after a pause
+  [[['a'], ['ab', 'typed', 0], ['ab\n', 'typed', 1], ['ab\nc', 'typed', 2]], ['ab', 'a']], // a line is a step
+  [[['a c'], ['ab c', 'typed', 0], ['ab cd', 'typed', 1]], ['ab c', 'a c']], // nor elsewhere
+  [[['abcd'], ['abc', 'erased', 0], ['ab', 'erased', 1], ['b', 'erased', 2]], ['ab', 'abcd']],
+  [[['abcd'], ['acd', 'erased', 0], ['ad', 'erased', 1], ['d', 'erased', 2]], ['abcd']], // both ways
+  [[['x'], ['xn', 'typed', 0], ['xに', 'typed', 1], ['xにほ', 'typed', 2], ['x日本', 'typed', 3]], ['x']], // composed
+  [[['a'], ['ab', 'typed', 0], ['a', 'erased', 1], ['', '', 2], ['b', '', 3]], ['', 'a', 'ab', 'a']],
+];
+test('what was changed is undone by steps, and done again', () => {
+  for (const [texts, wanted] of UNDONE) {
+    const [back, forth] = steps(texts);
+    assert.deepEqual(back, wanted);
+    assert.deepEqual(forth, [...wanted.slice(0, -1).reverse(), texts.at(-1)[0]]);
+  }
 });
 
 // What the scripts of the page use, and since which Chrome that is there, by the tables of MDN.
