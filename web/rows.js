@@ -102,8 +102,8 @@ export function showRows() {
   }
   fill($('filters'), ...filterButtons(state.counted));
   showCauses(state.counted);
-  shown = [];
-  state.rows.forEach((row, i) => takes(row) && shown.push(i));
+  shown = [...state.rows.keys()];
+  if (filter !== 'all') shown = shown.filter((i) => takes(state.rows[i]));
   $('table').setAttribute('aria-rowcount', shown.length + 1);
   showSeen();
 }

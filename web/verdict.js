@@ -84,11 +84,12 @@ function sayMany(row) {
 /** The line with the mark, and the hint, of a row that is refused. The library’s message may be about another place. */
 function showPlace(row) {
   const place = row && !row.accepted ? row.place : null;
-  $('caret').hidden = $('hint').hidden = !place;
+  // Each is set once: an attribute that comes and goes has the page laid out anew.
+  $('caret').hidden = !place;
+  $('hint').hidden = !place?.hint;
   if (!place) return;
   const [text, mark] = place.caret.split('\n');
   fill($('caret'), `${text}\n`, element('b', {}, `${mark} ${withoutCode(place.expected)} was expected`));
-  $('hint').hidden = !place.hint;
   fill($('hint'), element('b', {}, 'Why: '), ...withCode(place.hint || ''), '.');
 }
 

@@ -27,7 +27,7 @@ TAKEN = [
 # The most milliseconds that a key takes in ten thousand lines: of the main thread, and by the clock until the answer.
 # On a machine on which a key takes longer than BARE in a bare field, it may take as many times more. The least of KEYS
 # counts, and all is measured again up to ROUNDS times, so that the bounds hold on a busy machine too.
-MAIN, ANSWERED, BARE, KEYS, ROUNDS = 16, 50, 30, 10, 3
+MAIN, ANSWERED, BARE, KEYS, ROUNDS = 16, 50, 40, 10, 3
 # Whether there is nothing left to answer.
 IDLE = "return document.getElementById('verdict')?.getAttribute('aria-busy') !== 'true'"
 # Keeps how long each answer took after its key.
@@ -170,11 +170,11 @@ class Give(Page):
                 for other, at, wide in labels[:i]:
                     self.assertFalse(abs(y - at) < 11 and x < other + wide and other < x + width, text)
 
-    def key(self):
-        """Milliseconds that a key takes of the main thread, and of its scripts."""
+    def key(self, *kinds):
+        """Milliseconds of the main thread, and of its scripts, from a key on until it is answered."""
         names = ("TaskDuration", "ScriptDuration")
         before = self.metrics(*names)
-        for kind in ("keyDown", "keyUp"):
+        for kind in kinds:
             key = {"type": kind, "key": "5", **({"text": "5"} if kind == "keyDown" else {})}
             self.driver.execute_cdp_cmd("Input.dispatchKeyEvent", key)
         time.sleep(0.4)
@@ -182,8 +182,10 @@ class Give(Page):
         return [1000 * (now - then) for now, then in zip(self.metrics(*names), before)]
 
     def least(self):
-        """The least that a key takes of some: of the main thread, and of its scripts."""
-        return [min(times) for times in zip(*(self.key() for _ in range(KEYS)))]
+        """The least that a key takes of some, without what asking for it takes."""
+        asking = zip(*(self.key() for _ in range(KEYS)))
+        keys = zip(*(self.key("keyDown", "keyUp") for _ in range(KEYS)))
+        return [min(times) - min(without) for times, without in zip(keys, asking)]
 
     def least_in_the_page(self, text):
         """The same in the page, in the middle of what is seen; and the least until an answer."""
