@@ -119,6 +119,7 @@ class Texts(Page):
         self.type("POLYGON((0 0,1 0,1 1))")
         self.assertIn("1 ring doesn’t end where it begins", self.said("notes"))
         self.type("POLYGON((0 0,1 0,1 1,0 0))")
+        self.assertEqual("Accepted: Polygon", self.said("say"))
         self.assertFalse(self.by_id("notes").is_displayed())
 
     def test_lines(self):
