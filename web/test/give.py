@@ -27,7 +27,7 @@ TAKEN = [
 # The most milliseconds that a key takes in ten thousand lines: of the main thread, and by the clock until the answer.
 # On a machine on which a key takes longer than BARE in a bare field, it may take as many times more. The least of KEYS
 # counts, and all is measured again up to ROUNDS times, so that the bounds hold on a busy machine too.
-MAIN, ANSWERED, BARE, KEYS, ROUNDS = 16, 50, 40, 10, 3
+MAIN, ANSWERED, BARE, KEYS, ROUNDS = 16, 50, 30, 10, 3
 # Whether there is nothing left to answer.
 IDLE = "return document.getElementById('verdict')?.getAttribute('aria-busy') !== 'true'"
 # Keeps how long each answer took after its key.
