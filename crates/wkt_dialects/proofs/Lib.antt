@@ -1,0 +1,13 @@
+pub mod Units
+pub mod Scaled
+pub mod Passed
+pub mod FrontSrid
+pub mod Lexemes
+pub mod Looks
+pub mod Keeping
+pub mod Spelling
+pub mod Piecing
+pub mod Leading
+pub mod Lettering
+pub mod Writing
+pub mod OneValue

@@ -1,0 +1,238 @@
+//! Texts in dialects. What PostGIS 3.3 and GEOS 3.11 read is in the comment where it is something else; the values were
+//! written down by hand, by the definition; a polygon whose first ring is EMPTY has no rings.
+use crate::{Dialects, rest_of, split_srid, write_as_read};
+use std::alloc::Global;
+use std::process::Abort;
+use wkt_machine::read_text;
+use wkt_num::Decimal;
+
+// A text, the dialects by their first letters, and its canonical text; nothing where it is refused.
+const TEXTS: [(&str, &str, Option<&str>); 78] = [
+    ("SRID=4326;POINT(1 2)", "s", Some("POINT(1 2)")),
+    ("srid=4326;POINT(1 2)", "s", Some("POINT(1 2)")),
+    (" SRID=4326; POINT(1 2)", "s", Some("POINT(1 2)")),
+    ("SRID=999999999;POINT(1 2)", "s", Some("POINT(1 2)")),
+    // PostGIS reads it, with another number.
+    ("SRID=1000000000;POINT(1 2)", "s", None),
+    ("SRID=-1;POINT(1 2)", "s", None),
+    ("SRID=;POINT(1 2)", "s", None),
+    ("SRID =4326;POINT(1 2)", "s", None),
+    ("SRID= 4326;POINT(1 2)", "s", None),
+    // PostGIS reads it.
+    ("SRID=4326 ;POINT(1 2)", "s", None),
+    ("SRID=4326", "s", None),
+    ("SRID=1;SRID=1;POINT(1 2)", "s", None),
+    ("GEOMETRYCOLLECTION(SRID=1;POINT(1 2))", "s", None),
+    ("SRID=4326;POINT(1 2)", "uen", None),
+    ("SRID=4326;POINT(1 2 3)", "su", Some("POINT Z(1 2 3)")),
+    ("POINT(1 2 3)", "u", Some("POINT Z(1 2 3)")),
+    // GEOS 3.11 drops the fourth number.
+    ("point ( 1 2 3 4 )", "u", Some("POINT ZM(1 2 3 4)")),
+    ("POINT(1 2 3)", "sen", None),
+    ("POINT(1 2 3 4 5)", "u", None),
+    ("POINT(1)", "u", None),
+    ("POINT M(1 2 3)", "u", Some("POINT M(1 2 3)")),
+    ("POINT M(1 2 3 4)", "u", None),
+    ("POINTZ(1 2 3)", "u", Some("POINT Z(1 2 3)")),
+    (
+        "LINESTRING(1 2 3,4 5 6)",
+        "u",
+        Some("LINESTRING Z(1 2 3,4 5 6)"),
+    ),
+    // GEOS reads the next two: it fills up, and drops.
+    ("LINESTRING(1 2 3,4 5)", "u", None),
+    ("LINESTRING(1 2,4 5 6)", "u", None),
+    (
+        "LINEARRING(0 0 1,4 0 1,2 4 1)",
+        "u",
+        Some("LINESTRING Z(0 0 1,4 0 1,2 4 1)"),
+    ),
+    (
+        "POLYGON((0 0 1,4 0 1,2 4 1))",
+        "u",
+        Some("POLYGON Z((0 0 1,4 0 1,2 4 1))"),
+    ),
+    // Neither reads the next five: EMPTY has two numbers there, or may not stand there.
+    (
+        "POLYGON(EMPTY,EMPTY,(0 0 1,4 0 1))",
+        "u",
+        Some("POLYGON Z EMPTY"),
+    ),
+    (
+        "MULTIPOINT(EMPTY,1 2 3)",
+        "u",
+        Some("MULTIPOINT Z(EMPTY,(1 2 3))"),
+    ),
+    (
+        "MULTILINESTRING(EMPTY,(1 2 3))",
+        "u",
+        Some("MULTILINESTRING Z(EMPTY,(1 2 3))"),
+    ),
+    (
+        "MULTIPOLYGON((EMPTY),((0 0 1)))",
+        "u",
+        Some("MULTIPOLYGON Z(EMPTY,((0 0 1)))"),
+    ),
+    (
+        "MULTIPOLYGON((EMPTY,EMPTY),EMPTY)",
+        "u",
+        Some("MULTIPOLYGON(EMPTY,EMPTY)"),
+    ),
+    (
+        "MULTIPOINT(1 2 3,(4 5 6))",
+        "u",
+        Some("MULTIPOINT Z((1 2 3),(4 5 6))"),
+    ),
+    // PostGIS's collection is one of Z, too.
+    (
+        "GEOMETRYCOLLECTION(POINT(1 2 3))",
+        "u",
+        Some("GEOMETRYCOLLECTION(POINT Z(1 2 3))"),
+    ),
+    (
+        "GEOMETRYCOLLECTION(POINT(1 2 3),POINT(1 2))",
+        "u",
+        Some("GEOMETRYCOLLECTION(POINT Z(1 2 3),POINT(1 2))"),
+    ),
+    (
+        "GEOMETRYCOLLECTION(MULTIPOINT(EMPTY),POINT(1 2 3))",
+        "u",
+        Some("GEOMETRYCOLLECTION(MULTIPOINT(EMPTY),POINT Z(1 2 3))"),
+    ),
+    (
+        "GEOMETRYCOLLECTION(GEOMETRYCOLLECTION(POINT(1 2 3 4)))",
+        "u",
+        Some("GEOMETRYCOLLECTION(GEOMETRYCOLLECTION(POINT ZM(1 2 3 4)))"),
+    ),
+    (
+        "GEOMETRYCOLLECTION Z(POINT(1 2 3))",
+        "u",
+        Some("GEOMETRYCOLLECTION Z(POINT Z(1 2 3))"),
+    ),
+    ("GEOMETRYCOLLECTION(1 2 3)", "u", None),
+    ("POINT EMPTY 1 2 3", "u", Some("POINT EMPTY")),
+    ("POLYGON(EMPTY) 1 2 3", "u", Some("POLYGON EMPTY")),
+    // PostGIS reads points of NaN, GEOS empty points of two numbers.
+    ("POINT(nan nan)", "n", Some("POINT EMPTY")),
+    ("POINT ( NaN\tNAN ) x", "n", Some("POINT EMPTY")),
+    ("POINT(nan nan)", "sue", None),
+    ("POINT(nan nan nan)", "n", None),
+    ("POINT(nan nan nan)", "un", Some("POINT Z EMPTY")),
+    ("POINT Z(nan nan nan)", "n", Some("POINT Z EMPTY")),
+    ("POINT Z(nan nan)", "n", None),
+    ("POINTM(nan nan nan)", "n", Some("POINT M EMPTY")),
+    ("POINT(nan nan nan nan)", "un", Some("POINT ZM EMPTY")),
+    // GEOS keeps the next two as points, and PostGIS too.
+    ("POINT(nan 1)", "n", None),
+    ("POINT(1 nan)", "n", None),
+    ("POINT(nan nan 1)", "un", None),
+    ("POINT(-nan -nan)", "n", None),
+    ("POINT(nan)", "n", None),
+    ("POINT((nan nan))", "n", None),
+    (
+        "MULTIPOINT(nan nan,1 2)",
+        "n",
+        Some("MULTIPOINT(EMPTY,(1 2))"),
+    ),
+    (
+        "MULTIPOINT((nan nan),(1 2))",
+        "n",
+        Some("MULTIPOINT(EMPTY,(1 2))"),
+    ),
+    (
+        "MULTIPOINT(1 2,(NaN NaN),nan nan)",
+        "n",
+        Some("MULTIPOINT((1 2),EMPTY,EMPTY)"),
+    ),
+    ("MULTIPOINT(nan nan)", "n", Some("MULTIPOINT(EMPTY)")),
+    (
+        "MULTIPOINT Z (nan nan nan)",
+        "n",
+        Some("MULTIPOINT Z(EMPTY)"),
+    ),
+    (
+        "MULTIPOINT(nan nan nan,1 2 3)",
+        "un",
+        Some("MULTIPOINT Z(EMPTY,(1 2 3))"),
+    ),
+    ("MULTIPOINT(1 2 nan nan)", "n", None),
+    ("LINESTRING(nan nan,1 1)", "n", None),
+    ("POLYGON((nan nan))", "n", None),
+    (
+        "GEOMETRYCOLLECTION(POINT(nan nan),POINT(1 2))",
+        "n",
+        Some("GEOMETRYCOLLECTION(POINT EMPTY,POINT(1 2))"),
+    ),
+    ("POINT(1e3 -2.5E-3)", "e", Some("POINT(1000 -0.0025)")),
+    ("POINT(+1e+3 12.5e1)", "e", Some("POINT(1000 125)")),
+    // PostGIS refuses a point that stands first or last.
+    ("POINT(.5e1 5.e1)", "e", Some("POINT(5 50)")),
+    (
+        "POINT(0e99 -0e-999999999999999999999999)",
+        "e",
+        Some("POINT(0 0)"),
+    ),
+    (
+        "POINT(0.00000000000000000000000000000000000000000000001e47 1)",
+        "e",
+        Some("POINT(1 1)"),
+    ),
+    ("POINT(1e 2)", "e", None),
+    ("POINT(1e+ 2)", "e", None),
+    ("POINT(1e1.5 2)", "e", None),
+    ("POINT(1e1e1 2)", "e", None),
+    // Both read a rounded number, or infinity.
+    (
+        "POINT(1e-19 99999999999999999999999999999999999999999999e99)",
+        "e",
+        None,
+    ),
+    ("POINT(1e3 2)", "sun", None),
+];
+
+fn named(letters: &str) -> Dialects {
+    Dialects {
+        srid: letters.contains('s'),
+        untagged: letters.contains('u'),
+        exponents: letters.contains('e'),
+        nan: letters.contains('n'),
+    }
+}
+
+// What a text is read as: behind its SRID as it stands, or else as the dialects read it.
+fn canonical(rt: &impl Abort, alloc: Global, dialects: Dialects, text: &[u8]) -> Option<String> {
+    let rest = &text[rest_of(dialects, text)..];
+    if let Some(written) = plain(rt, alloc, rest) {
+        return Some(written);
+    }
+    let mut room = Vec::new(alloc);
+    match write_as_read(dialects, rest, &mut room) {
+        Ok(()) => plain(rt, alloc, &room),
+        Err(_) => panic!(rt; "no memory"),
+    }
+}
+
+fn plain(rt: &impl Abort, alloc: Global, text: &[u8]) -> Option<String> {
+    let Ok(text) = str::from_utf8(text) else {
+        panic!(rt; "no UTF-8");
+    };
+    match read_text::<Decimal<18>>(alloc, text) {
+        Ok((wkt, _)) => format!(in alloc; "{wkt}").ok(),
+        Err(_) => None,
+    }
+}
+
+#[test]
+fn texts(rt: HostRuntime) {
+    for (text, letters, wanted) in TEXTS {
+        let read = canonical(&rt, rt.alloc(), named(letters), text.as_bytes());
+        assert!(&rt; read.as_deref() == wanted, "{text}: {read:?}");
+    }
+}
+
+#[test]
+fn srids(rt: HostRuntime) {
+    assert!(&rt; split_srid(b"SRID=4326;POINT(1 2)") == Some((4326, 10)));
+    assert!(&rt; split_srid(b" sRid=000000001;") == Some((1, 16)));
+    assert!(&rt; split_srid(b"POINT(1 2)") == None);
+}
