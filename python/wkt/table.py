@@ -15,8 +15,8 @@ from ._values import MOST_PLACES, places_of
 
 REJECTS = ["file", "row", "column", "cause", "hint", "text"]
 SHOWN = 10  # So many refusals are shown where they go to no file.
-END = """Rows that have a key are written to --out, with the key first. A text that is refused has none, and neither has an
-empty field. Status 0: each text was read; 1: some were refused; 2: wrong usage, or a file that can't be read or written.
+END = """Rows that have a key are written to --out, with the key first. A text that is refused has none, nor has an
+empty field. Status 0: each text was read; 1: some were refused; 2: wrong usage, or a file can't be read or written.
 docs/FILES.md has a nightly job."""
 
 
