@@ -35,7 +35,7 @@ typedef struct {
     Py_ssize_t length;
 } Cell;
 
-/* A column, block by block: as many rows as have about 256 KB. It is a list or a tuple, or Arrow's buffers. */
+/* A column, block by block: as many rows as have about a megabyte. It is a list or a tuple, or Arrow's buffers. */
 typedef struct {
     State *state;
     PyObject *rows;   /* of nobody else, so that they stay as they are */
@@ -78,7 +78,7 @@ wkt_status compared(State *state, const Cell *one, const Cell *other, uint32_t p
 /* From where on other threads run during a call for one text. */
 enum { LONG_TEXT = 4096, LONG_ROW = 512, MOST_PLACES = 36 };
 /* What a block has, between which signals are handled. */
-enum { MOST_ROWS = 1 << 15, MOST_BYTES = 1 << 18 };
+enum { MOST_ROWS = 1 << 15, MOST_BYTES = 1 << 20 };
 
 PyObject *fast_canonical(PyObject *self, PyObject *const *args, Py_ssize_t count);
 PyObject *fast_front(PyObject *self, PyObject *const *args, Py_ssize_t count);

@@ -1,5 +1,5 @@
-/* Columns by blocks of about 256 KB, which stay in the cache until they are copied. The texts of a block are where Python or
- * Arrow has them: nothing is copied but what is neither str nor bytes. */
+/* Columns by blocks of about a megabyte. The texts of a block are where Python or Arrow has them: nothing is copied but
+ * what is neither str nor bytes. */
 #include "fast.h"
 
 int has_count(Py_ssize_t count, Py_ssize_t wanted) {
