@@ -20,7 +20,7 @@ pub const SHORT: usize = 200;
 /// How long a text may be that is answered with the least room, since that is cleared for each call: most points are no longer.
 pub(crate) const SHORTEST: usize = 32;
 /// How long a text may be that is answered with little room: the polygon of `capi/bench/calls.sh` is no longer.
-const SHORTER: usize = 63;
+pub(crate) const SHORTER: usize = 63;
 /// How many zeros stand behind a short text: what the machine looks at together.
 const BEHIND: usize = 32;
 

@@ -87,6 +87,16 @@ number_place axis.M p d = refl
 abbrev pub behind_item : Machine → Machine
 behind_item m = record { state = next.Item; part = m.part; dim = m.dim; depth = m.depth }
 
+-- the same behind a point of a multipoint, before one, and before its first number
+abbrev behind_member : Machine → Machine
+behind_member m = record { state = next.Item; part = part.MultiPoint; dim = m.dim; depth = m.depth }
+
+abbrev before_member : Machine → Machine
+before_member m = record { state = next.Opening; part = part.Member; dim = m.dim; depth = m.depth }
+
+abbrev before_number : Machine → Machine
+before_number m = record { state = next.X; part = part.Member; dim = m.dim; depth = m.depth }
+
 module _ {N : Type 0} (read : List ℕ → Option N) where
   stuck_number : (s : State) (p : Part) (d : Dimension) (more n : ℕ) → s ≡ at n (place.Number p d more) → (x : Spanned) (ps : List Spanned) → IsUnread read (x ∷ ps) → (l : Lexeme) → x.lexeme ≡ l → move read s l ≡ None
   stuck_number s p d more n q x ps h Open e = ap (λ s. move read s Open) q
@@ -108,7 +118,7 @@ module _ {N B : Type 0} (read : List ℕ → Option N) (maker : Maker N B) {n : 
   number_goes m k s t b c a at_a sound has h is = go (next_after a m.dim) refl
     where
       inner : (next_after a m.dim ≡ next.Item → ⊥) → Goes read (bytes_view feed) maker m s b (record { source = t; machine = k; builder = c })
-      inner never = inner_number read (bytes_view feed) maker m s t b c a at_a sound h k (Ok (record { source = t; machine = k; builder = c })) refl never is
+      inner never = inner_number read (bytes_view feed) maker m s t b c a at_a sound h k never is
 
       go : (x : Next) → next_after a m.dim ≡ x → Goes read (bytes_view feed) maker m s b (record { source = t; machine = k; builder = c })
       go next.Item e =
@@ -189,6 +199,23 @@ module _ {N B : Type 0} (read : List ℕ → Option N) (maker : Maker N B) {n : 
       goes_on_to read (bytes_view feed) maker m s b a (record { source = t; machine = k; builder = d }) way
       (from_item m a (record { source = t; machine = k; builder = d }) item (close_goes m k a.source t a.builder d (ap class_of byte ∙ bytes.close_mark) text to there sound makes))
 
+  -- behind a point of a multipoint: its parenthesis, and the comma and the parenthesis before the next point
+  pub member_goes : (m : Machine) (s t : Bytes n) (b c d e : B) (a : At (Bytes n) B) → Goes read (bytes_view feed) maker m s b a → a.machine ≡ behind_item m → m.state ≡ next.X → m.part ≡ part.Member → get_or a.source.text.now a.source.at 0 ≡ 41
+      → get_or a.source.text.now (a.source.at + 1) 0 ≡ 44 → get_or a.source.text.now (a.source.at + 1 + 1) 0 ≡ 40 → t.text ≡ a.source.text → t.at ≡ a.source.at + 1 + 1 + 1
+      → maker.makes a.builder (Event.Close m.part ∷ []) c → maker.makes c (Event.Comma part.MultiPoint ∷ []) d → maker.makes d (Event.Open part.Member ∷ []) e → Goes read (bytes_view feed) maker m s b (record { source = t; machine = m; builder = e })
+  member_goes m s t b c d e a way item at_x member close comma opens text to closed parted opened =
+      let here : before_number m ≡ m = ap (λ x. record { state = x; part = part.Member; dim = m.dim; depth = m.depth }) (sym at_x) ∙ ap (λ p. record { state = m.state; part = p; dim = m.dim; depth = m.depth }) (sym member) in
+      let before_comma = bytes.past a.source 1 in
+      let before_open = bytes.past before_comma 1 in
+      let comma_there = ap class_of comma ∙ bytes.comma_mark in
+      let open_there = ap class_of opens ∙ bytes.open_mark in
+      subst (λ x. Goes read (bytes_view feed) maker m s b (record { source = t; machine = x; builder = e })) here
+      (goes_on_to read (bytes_view feed) maker m s b (record { source = before_open; machine = before_member m; builder = d }) (record { source = t; machine = before_number m; builder = e })
+      (goes_on_to read (bytes_view feed) maker m s b (record { source = before_comma; machine = behind_member m; builder = c }) (record { source = before_open; machine = before_member m; builder = d })
+      (last_goes m (behind_member m) s before_comma b c a way item close refl refl (ap (λ p. outside p m.dim m.depth) (sym member)) tt closed)
+      (skipped read (bytes_view feed) maker (behind_member m) (before_member m) before_comma before_open c d (act.Comma part.MultiPoint) seen.Comma (sees_mark before_comma Comma comma_there) (λ e. cc) (bytes.skips_mark feed before_comma before_open Comma comma_there refl refl) refl parted tt))
+      (skipped read (bytes_view feed) maker (before_member m) (before_number m) before_open t d e (act.Open part.Member) seen.Open (sees_mark before_open Open open_there) (λ e. cc) (bytes.skips_mark feed before_open t Open open_there text to) refl opened tt))
+
   -- fewer lexemes are left
   pub goes_less : (m : Machine) (s : Bytes n) (b : B) (to : At (Bytes n) B) → Goes read (bytes_view feed) maker m s b to → length (remaining_spanned feed to.source.text.now to.source.at) < length (remaining_spanned feed s.text.now s.at)
   goes_less m s b to h =
@@ -205,6 +232,10 @@ point_name = record { row = _; names = refl; kind = refl; joined = refl; letters
 pub polygon_name : IsKindName part.Polygon (codes "POLYGON")
 unfolding kind_word kind_words class_of
 polygon_name = record { row = _; names = refl; kind = refl; joined = refl; letters = (refl, (refl, (refl, (refl, (refl, (refl, (refl, tt))))))); begins = refl }
+
+pub multipoint_name : IsKindName part.MultiPoint (codes "MULTIPOINT")
+unfolding kind_word kind_words class_of
+multipoint_name = record { row = _; names = refl; kind = refl; joined = refl; letters = (refl, (refl, (refl, (refl, (refl, (refl, (refl, (refl, (refl, (refl, tt)))))))))); begins = refl }
 
 pub collection_name : IsKindName part.Collection (codes "GEOMETRYCOLLECTION")
 unfolding kind_word kind_words class_of

@@ -21,6 +21,10 @@ use Rattle.wkt_machine.specs.declared.part.Axis.{Axis}
 use Rattle.wkt_machine.specs.declared.machine.Seen.TheVariants as seen
 use Rattle.wkt_num.specs.Number.{BeginsNumber, KeepsText, StopsRun, IsNumberText}
 
+-- a place behind so many bytes
+abbrev pub past : {n : ℕ} → Bytes n → ℕ → Bytes n
+past s k = record { text = s.text; at = s.at + k; end = s.at + k }
+
 -- the bytes of marks
 pub open_mark : class_of 40 ≡ Mark Open
 unfolding class_of

@@ -3,6 +3,7 @@ mod Places
 pub mod BegunIsWalked
 pub mod RoomForRest
 mod Stepping
+mod StepsJoin
 pub mod WaysJoin
 pub mod ByteViews
 pub mod TokenSteps

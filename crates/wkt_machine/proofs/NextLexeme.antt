@@ -285,9 +285,9 @@ module _ {N S B : Type 0} (read : List ℕ → Option N) (view : View N S) (make
       subst (λ l. move read (state_of m) l ≡ None) (sym is) (never_moves (step_at (state_of m).place m.depth (Num run)) run (h run p.end ps split))
 
   -- A number that isn't read stays.
-  pub unread : (m : Machine) (s t : S) (b c : B) (r : Result (At S B) (At S B)) → r ≡ Err (record { source = t; machine = m; builder = c }) → seen.Number ≡ sight (view.remaining s) → is_over (state_of m) ≡ false
-      → Stays view s t → ((k : view.Known) → view.keeps s k → IsUnread read (view.remaining s)) → maker.makes b [] c → IfErr r (Refuses read view maker m s b)
-  unread m s t b c r is sees o stays never nothing = subst (λ r. IfErr r (Refuses read view maker m s b)) (sym is) (record {
+  pub unread : (m : Machine) (s t : S) (b c : B) → seen.Number ≡ sight (view.remaining s) → is_over (state_of m) ≡ false
+      → Stays view s t → ((k : view.Known) → view.keeps s k → IsUnread read (view.remaining s)) → maker.makes b [] c → Refuses read view maker m s b (record { source = t; machine = m; builder = c })
+  unread m s t b c sees o stays never nothing = record {
     taken = [];
     events = [];
     split = sym stays.remaining;
@@ -297,7 +297,7 @@ module _ {N S B : Type 0} (read : List ℕ → Option N) (view : View N S) (make
     is_open = o;
     keeps = stays.keeps;
     stuck = λ j k. subst (IsStuck read m) (sym stays.remaining) (unread_stuck m (view.remaining s) sees (never j k));
-  })
+  }
 
   pub over_number : (m : Machine) (a : Axis) → m.state ≡ state_for a → is_over (state_of m) ≡ false
   over_number m a e = ap (λ s. over_at (place_of s m.part m.dim) m.depth) e ∙ open_for a
@@ -318,15 +318,14 @@ module _ {N S B : Type 0} (read : List ℕ → Option N) (view : View N S) (make
         ap (λ p. moved read (step_at p m.depth (Num h.run)) (said read (read h.run))) (ap (λ s. place_of s m.part m.dim) at_a ∙ e)
         ∙ ap (λ o. moved read (Some (number_step m.part m.dim more m.depth)) (said read o)) h.reads
 
-    pub inner_number : (n : Machine) (r : Result (At S B) (At S B)) → r ≡ Ok (record { source = t; machine = n; builder = c }) → (next_after a m.dim ≡ next.Item → ⊥)
-        → n ≡ record { state = next_after a m.dim; part = m.part; dim = m.dim; depth = m.depth } → IfOk r (Goes read view maker m s b)
-    inner_number n r is inner e =
+    pub inner_number : (n : Machine) → (next_after a m.dim ≡ next.Item → ⊥) → n ≡ record { state = next_after a m.dim; part = m.part; dim = m.dim; depth = m.depth }
+        → Goes read view maker m s b (record { source = t; machine = n; builder = c })
+    inner_number n inner e =
         let (k, q1, q2, q3, next_has) = at_inner a m.dim m.part has inner in
         let there : at m.depth (place.Number m.part m.dim k) ≡ state_of n = ap (at m.depth) (sym q3) ∙ ap state_of (sym e) in
         let moves : move read (state_of m) (Num h.run) ≡ Some (state_of n, Event.Number a h.number ∷ []) =
         moves_at (suc k) q1 ∙ ap (λ a. Some (at m.depth (place.Number m.part m.dim k), Event.Number a h.number ∷ [])) q2 ∙ ap (λ s. Some (s, Event.Number a h.number ∷ [])) there in
-        subst (λ r. IfOk r (Goes read view maker m s b)) (sym is)
-        (goes_one read view maker m n s t b c (record { lexeme = Num h.run; end = h.end }) (Event.Number a h.number ∷ []) h.remaining h.place h.keeps moves h.makes (subst IsSound (sym e) next_has))
+        goes_one read view maker m n s t b c (record { lexeme = Num h.run; end = h.end }) (Event.Number a h.number ∷ []) h.remaining h.place h.keeps moves h.makes (subst IsSound (sym e) next_has)
 
     pub closes_number : (r : Result (At S B) (At S B)) → next_after a m.dim ≡ next.Item → EndsPoint maker m t c r → IfOk r (Goes read view maker m s b)
     closes_number (Err to) i k = absurd k
@@ -344,17 +343,16 @@ module _ {N S B : Type 0} (read : List ℕ → Option N) (view : View N S) (make
     no_err (Ok to) k = tt
 
   -- The first number of a point without parentheses.
-  pub bare_number : (m n : Machine) (s t : S) (b o c : B) (r : Result (At S B) (At S B)) → r ≡ Ok (record { source = t; machine = n; builder = c }) → m.state ≡ next.Opening → m.part ≡ part.Member
-      → n ≡ record { state = next.Y; part = part.Bare; dim = m.dim; depth = m.depth } → maker.makes b (Event.Open part.Member ∷ []) o → MakesOneNumber read view maker s o axis.X t c → IfOk r (Goes read view maker m s b)
-  bare_number m n s t b o c r is opens member e makes h =
+  pub bare_number : (m n : Machine) (s t : S) (b o c : B) → m.state ≡ next.Opening → m.part ≡ part.Member → n ≡ record { state = next.Y; part = part.Bare; dim = m.dim; depth = m.depth }
+      → maker.makes b (Event.Open part.Member ∷ []) o → MakesOneNumber read view maker s o axis.X t c → Goes read view maker m s b (record { source = t; machine = n; builder = c })
+  bare_number m n s t b o c opens member e makes h =
       let here : place_of m.state m.part m.dim ≡ place.Opening part.Member m.dim = ap (λ s. place_of s m.part m.dim) opens ∙ ap (λ p. place.Opening p m.dim) member in
       let moves : move read (state_of m) (Num h.run) ≡ Some (state_of n, Event.Open part.Member ∷ Event.Number axis.X h.number ∷ []) =
       ap (λ p. moved read (step_at p m.depth (Num h.run)) (said read (read h.run))) here
       ∙ ap (λ o. moved read (bare_step part.Member m.dim m.depth) (said read o)) h.reads
       ∙ ap (λ s. Some (s, Event.Open part.Member ∷ Event.Number axis.X h.number ∷ [])) (ap state_of (sym e)) in
-      subst (λ r. IfOk r (Goes read view maker m s b)) (sym is)
-      (goes_one read view maker m n s t b c (record { lexeme = Num h.run; end = h.end }) (Event.Open part.Member ∷ Event.Number axis.X h.number ∷ []) h.remaining h.place h.keeps moves
-      (maker.more b o c (Event.Open part.Member ∷ []) (Event.Number axis.X h.number ∷ []) makes h.makes) (subst IsSound (sym e) tt))
+      goes_one read view maker m n s t b c (record { lexeme = Num h.run; end = h.end }) (Event.Open part.Member ∷ Event.Number axis.X h.number ∷ []) h.remaining h.place h.keeps moves
+      (maker.more b o c (Event.Open part.Member ∷ []) (Event.Number axis.X h.number ∷ []) makes h.makes) (subst IsSound (sym e) tt)
 
 -- where a number comes next, nothing else does
 pub other_none : (a : Axis) (p : Part) (d : Dimension) (n : ℕ) (k : Seen) → (k ≡ seen.Number → ⊥) → seen_at (place_of (state_for a) p d) n k ≡ None
@@ -362,9 +360,3 @@ other_none axis.X p d n k other = number_none p d (numbers_after d) n k other
 other_none axis.Y p d n k other = number_none p d (numbers_after d - 1) n k other
 other_none axis.Z p d n k other = number_none p d (after_third d) n k other
 other_none axis.M p d n k other = number_none p d 0 n k other
-
-pub open_at : (a : Axis) (p : Part) (d : Dimension) (n : ℕ) → over_at (place_of (state_for a) p d) n ≡ false
-open_at axis.X p d n = refl
-open_at axis.Y p d n = refl
-open_at axis.Z p d n = refl
-open_at axis.M p d n = refl

@@ -1,6 +1,6 @@
 -- How much lexemes take, and room that is left for what they make.
 use Rattle.std.proofs.Common.{◌≡◌, ◌≢◌, ℕ, suc, ◌+◌, ◌-◌, ◌*◌, ◌≤◌, List, [], ◌∷◌, length, get_or, drop, Option, Some, None, Bool, true, false, cond, if◌then◌else◌, ◌&&◌, ◌||◌, ◌==◌, nat_le, refl, sym, ap, ◌∙◌, subst, arith, lit≤, codes}
-use Rattle.std.specs.Prelude.{Result, Ok, Err, IfOk}
+use Rattle.std.specs.Prelude.{Result, Ok, IfOk}
 use Rattle.std.specs.Str.{bytes_eq, str_to_ascii_uppercase}
 use Rattle.std.specs.Char.{to_ascii_uppercase}
 use Rattle.std.proofs.lemmas.Bool.{leb-true}
@@ -287,10 +287,6 @@ after_owes axis.Z XYZ p n = refl
 after_owes axis.Z XYM p n = refl
 after_owes axis.M d p n = refl
 
--- what was refused needs no room
-pub no_room : {S B : Type 0} (P : At S B → Type 0) (r : Result (At S B) (At S B)) (to : At S B) → r ≡ Err to → IfOk r P
-no_room P r to is = subst (λ r. IfOk r P) (sym is) tt
-
 module _ {N S B : Type 0} (view : View N S) (maker : Maker N B) where
   -- no call takes no room
   pub leaves_none : (b : B) → Leaves maker b 0 b
@@ -322,13 +318,6 @@ module _ {N S B : Type 0} (view : View N S) (maker : Maker N B) where
         values = h.values;
         reads = h.reads;
       }
-
-  -- The same where the code has it: the next place owes so much.
-  pub room_on : (n after spent : ℕ) (k : Seen) (s t : S) (b c : B) (m : Machine) (r : Result (At S B) (At S B)) → r ≡ Ok (record { source = t; machine = m; builder = c }) → owed (state_of m) ≡ after
-      → k ≡ sight (view.remaining s) → Skips view s t → after + spent ≤ n + seen_cost k → Leaves maker b spent c → HasRoom view maker n s b → IfOk r (RoomAt view maker)
-  room_on n after spent k s t b c m r is owes sees skips order leaves h =
-      subst (λ r. IfOk r (RoomAt view maker)) (sym is)
-      (subst (λ n. HasRoom view maker n t c) (sym owes) (spent_room n after spent k s t b c sees skips order leaves h))
 
   -- so much is made, and no lexeme taken
   pub made_room : (n after spent : ℕ) (s : S) (b c : B) → after + spent ≤ n → Leaves maker b spent c → HasRoom view maker n s b → HasRoom view maker after s c

@@ -1,6 +1,6 @@
 -- Room for headers and numbers of bytes.
 use Rattle.std.proofs.Common.{◌≡◌, ℕ, ◌+◌, ◌*◌, List, length, get_or, Bool, Option, Some, refl, ap, ◌∙◌, arith, ◌-◌, ◌<◌, slice_range, IsTrue}
-use Rattle.wkt_num.specs.Bytes.{Lexeme, Mark, class_of, Num}
+use Rattle.wkt_num.specs.Bytes.{Lexeme, Open, Close, Comma, Mark, class_of, Num}
 use Rattle.wkt_events.specs.Remaining.{remaining_spanned, IsRunEnd, TakesOne}
 use Rattle.wkt_machine.specs.View.{bytes_view, seen_of, sight}
 use Rattle.wkt_machine.specs.Makers.{Maker, MakesNumber}
@@ -81,3 +81,21 @@ module _ {N B : Type 0} (maker : Maker N B) {n : ℕ} (feed : Bool) where
   byte_after l s t b c mark text at leaves h =
       let one = marks_one (get_or s.text.now s.at 0) l mark in
       spent_room (bytes_view {n = n} feed) maker 0 0 1 (seen_of l) s t b c (byte_seen l s mark) (bytes.skips_mark feed s t l mark text at) (omega (arith, one)) leaves h
+
+  -- Behind a point of a multipoint stand its parenthesis, and the comma and the parenthesis before the next point.
+  module _ (s : Bytes n) (b c : B) (h : HasRoom (bytes_view feed) maker 0 s b) (close : get_or s.text.now s.at 0 ≡ 41) (closed : Leaves maker b 1 c) (comma : get_or s.text.now (s.at + 1) 0 ≡ 44) where
+    before_comma : HasRoom (bytes_view feed) maker 0 (bytes.past s 1) c
+    before_comma = byte_after Close s (bytes.past s 1) b c (ap class_of close ∙ bytes.close_mark) refl refl closed h
+
+    pub fits_comma : maker.fits c 1
+    fits_comma = byte_fits Comma (bytes.past s 1) c (ap class_of comma ∙ bytes.comma_mark) before_comma
+
+    module _ (d : B) (parted : Leaves maker c 1 d) (opens : get_or s.text.now (s.at + 1 + 1) 0 ≡ 40) where
+      before_open : HasRoom (bytes_view feed) maker 0 (bytes.past (bytes.past s 1) 1) d
+      before_open = byte_after Comma (bytes.past s 1) (bytes.past (bytes.past s 1) 1) c d (ap class_of comma ∙ bytes.comma_mark) refl refl parted before_comma
+
+      pub fits_open : maker.fits d 1
+      fits_open = byte_fits Open (bytes.past (bytes.past s 1) 1) d (ap class_of opens ∙ bytes.open_mark) before_open
+
+      pub after_open : (t : Bytes n) (e : B) → t.text ≡ s.text → t.at ≡ s.at + 1 + 1 + 1 → Leaves maker d 1 e → HasRoom (bytes_view feed) maker 0 t e
+      after_open t e text at opened = byte_after Open (bytes.past (bytes.past s 1) 1) t d e (ap class_of opens ∙ bytes.open_mark) text at opened before_open

@@ -1,6 +1,5 @@
 -- One lexeme is taken, or none can be.
 use Rattle.std.proofs.Common.{◌≡◌, ◌≢◌, ◌<◌, ◌≤◌, ◌-◌, length, arith, ℕ, zero, suc, List, [], ◌∷◌, ◌++◌, sym, refl, ap, ◌∙◌, subst, append-nil, Option, Some, None, Bool, true, false, cond}
-use Rattle.std.specs.Prelude.{Result, Ok, Err, IfOk, IfErr}
 use Rattle.wkt_num.specs.Bytes.{Lexeme, Open, Close, Comma, Word, Num}
 use Rattle.wkt_access.specs.declared.dimensions.Dimension.{Dimension}
 use Rattle.wkt_access.specs.declared.dimensions.Dimension.TheVariants.{XY}
@@ -13,14 +12,13 @@ use Rattle.wkt_machine.specs.Action as act
 use Rattle.wkt_machine.specs.Machine.{is_over, over_at, at, part_of, inside, outside, kind_step, joined_step, dimension_step, bare_step, number_step, comma_step, step_at, made, number_of, moved, and_then, move, run, Place, State}
 use Rattle.wkt_machine.specs.Events.{Event}
 use Rattle.wkt_machine.specs.Goes.{Stays, Skips, IsStuck, Goes, Refuses}
-use Rattle.wkt_machine.specs.Machines.{state_of, place_of, is_single, IsSound}
+use Rattle.wkt_machine.specs.Machines.{state_of, is_single, IsSound}
 use Rattle.wkt_machine.specs.Makers.{Maker}
 use Rattle.wkt_machine.specs.Machine as place
 use Rattle.wkt_machine.specs.View.{seen_of, seen_word, seen_other, sight, View}
 use Rattle.wkt_machine.specs.declared.machine.Machine.{Machine}
 use Rattle.wkt_machine.specs.declared.machine.Seen.{Seen}
 use Rattle.wkt_machine.specs.declared.machine.Seen.TheVariants as seen
-use Rattle.wkt_machine.specs.declared.machine.State.{State as Next}
 use Rattle.wkt_machine.specs.declared.part.Part.{Part}
 use Rattle.wkt_machine.specs.declared.part.Part.TheVariants as part
 use Rattle.wkt_machine.specs.declared.source.At.{At}
@@ -45,7 +43,7 @@ abbrev pub is_number : Seen → Bool
 is_number seen.Number = true
 is_number k = false
 
-never_number : (k : Seen) → is_number k ≡ false → k ≢ seen.Number
+pub never_number : (k : Seen) → is_number k ≡ false → k ≢ seen.Number
 never_number seen.Number e = let never : ⊥ = cc in absurd never
 never_number k e = λ q. cc
 
@@ -308,22 +306,3 @@ module _ {N S B : Type 0} (read : List ℕ → Option N) (view : View N S) (make
   -- A lexeme that is seen isn't taken.
   pub stands_at : (m : Machine) (s : S) (b : B) (k : Seen) → k ≡ sight (view.remaining s) → is_over (state_of m) ≡ false → seen_at (state_of m).place m.depth k ≡ None → Refuses read view maker m s b (record { source = s; machine = m; builder = b })
   stands_at m s b k is o e = stands m s b o (λ j h. unmoved m (view.remaining s) (ap (seen_at (state_of m).place m.depth) (sym is) ∙ e))
-
-  -- The same where the code has it: it is seen as j, at the state x.
-  pub taken : (m n : Machine) (s t : S) (b c : B) (r : Result (At S B) (At S B)) (to : State) (a : Action) (k j : Seen) (x : Next) → r ≡ Ok (record { source = t; machine = n; builder = c })
-      → k ≡ sight (view.remaining s) → m.state ≡ x → k ≡ j → is_number j ≡ false → Skips view s t
-      → seen_at (place_of x m.part m.dim) m.depth j ≡ Some (to, a) → state_of n ≡ to → maker.makes b (made a None) c → IsSound n → IfOk r (Goes read view maker m s b)
-  taken m n s t b c r to a k j x is sees at_x as_j other skips steps there makes sound =
-      let whole : seen_at (state_of m).place m.depth k ≡ Some (state_of n, a) =
-      ap (λ s. seen_at (place_of s m.part m.dim) m.depth k) at_x ∙ ap (seen_at (place_of x m.part m.dim) m.depth) as_j ∙ steps ∙ ap (λ t. Some (t, a)) (sym there) in
-      subst (λ r. IfOk r (Goes read view maker m s b)) (sym is) (skipped m n s t b c a k sees (λ e. never_number j other (sym as_j ∙ e)) skips whole makes sound)
-
-  pub put_back : (m : Machine) (s : S) (b : B) (r : Result (At S B) (At S B)) (k : Seen) (x : Next) → r ≡ Err (record { source = s; machine = m; builder = b })
-      → k ≡ sight (view.remaining s) → m.state ≡ x → over_at (place_of x m.part m.dim) m.depth ≡ false → seen_at (place_of x m.part m.dim) m.depth k ≡ None
-      → IfErr r (Refuses read view maker m s b)
-  put_back m s b r k x is sees at_x o stuck =
-      subst (λ r. IfErr r (Refuses read view maker m s b)) (sym is)
-      (stands_at m s b k sees (ap (λ x. over_at (place_of x m.part m.dim) m.depth) at_x ∙ o) (ap (λ x. seen_at (place_of x m.part m.dim) m.depth k) at_x ∙ stuck))
-
-  pub is_err : (m : Machine) (s : S) (b : B) (r : Result (At S B) (At S B)) (to : At S B) → r ≡ Err to → IfOk r (Goes read view maker m s b)
-  is_err m s b r to is = subst (λ r. IfOk r (Goes read view maker m s b)) (sym is) tt

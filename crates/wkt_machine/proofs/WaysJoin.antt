@@ -1,17 +1,16 @@
 -- Ways: one after another, those that may be none, those behind a look, and those between the states of one part.
 use Rattle.std.proofs.Common.{◌≡◌, ℕ, List, [], ◌∷◌, ◌++◌, sym, refl, ap, ◌∙◌, subst, append_assoc, Option, Some, None, Bool, true, false}
-use Rattle.std.specs.Prelude.{Result, Ok, Err, IfErr, IfNone, IfOk}
+use Rattle.std.specs.Prelude.{Result, Ok, Err, IfErr, IfNone}
 use Rattle.std.specs.Bool.{OnTrue, OnFalse}
 use Rattle.wkt_read.specs.Spanned.{Spanned, lexemes_of, end_after}
 use Rattle.wkt_machine.specs.Events.{Event}
-use Rattle.wkt_machine.specs.Goes.{Stays, Goes, GoesFrom, Refuses, RefusesFrom, Leads, reached, standing}
+use Rattle.wkt_machine.specs.Goes.{Goes, GoesFrom, Refuses, RefusesFrom, Leads, reached, standing}
 use Rattle.wkt_machine.specs.Machine.{after, run, State}
 use Rattle.wkt_machine.specs.Machines.{state_of}
 use Rattle.wkt_machine.specs.Makers.{Maker}
 use Rattle.wkt_machine.specs.View.{View}
 use Rattle.wkt_machine.specs.declared.machine.Machine.{Machine}
 use Rattle.wkt_machine.specs.declared.source.At.{At}
-use Rattle.wkt_machine.proofs.Stepping.{from_goes, from_refuses}
 use Rattle.wkt_machine.proofs.WholeRuns.{run_append}
 use Rattle.wkt_machine.specs.declared.machine.State.{State as Next}
 
@@ -154,41 +153,6 @@ module _ {N S B : Type 0} (view : View N S) (maker : Maker N B) where
         keeps = λ j k. h.keeps j (l.keeps j k);
         stuck = λ j k. h.stuck j (l.keeps j k);
       }
-
-  pub leads_ok : (m : Machine) (s : S) (b : B) (n : Machine) (t : S) (c : B) (r : Result (At S B) (At S B)) → Leads (maker.reads b) view maker m s b n t c → IfOk r (Goes_from view maker n t c) → IfOk r (Goes_from view maker m s b)
-  leads_ok m s b n t c (Ok to) l h = leads_goes m s b n t c to l h
-  leads_ok m s b n t c (Err to) l h = tt
-
-  pub leads_refused : (m : Machine) (s : S) (b : B) (n : Machine) (t : S) (c : B) (r : Result (At S B) (At S B)) → Leads (maker.reads b) view maker m s b n t c → IfErr r (Refuses_from view maker n t c) → IfErr r (Refuses_from view maker m s b)
-  leads_refused m s b n t c (Ok to) l h = tt
-  leads_refused m s b n t c (Err to) l h = leads_refuses m s b n t c to l h
-
-  -- A way goes on with another, or is refused there.
-  pub goes_if : (m : Machine) (s : S) (b : B) (a : At S B) (r : Result (At S B) (At S B)) → Goes_from view maker m s b a → IfOk r (Goes_from view maker a.machine a.source a.builder) → IfOk r (Goes_from view maker m s b)
-  goes_if m s b a (Ok to) h k = goes_then view maker m s b a to h k
-  goes_if m s b a (Err to) h k = tt
-
-  pub refuses_if : (m : Machine) (s : S) (b : B) (a : At S B) (r : Result (At S B) (At S B)) → Goes_from view maker m s b a → IfErr r (Refuses_from view maker a.machine a.source a.builder) → IfErr r (Refuses_from view maker m s b)
-  refuses_if m s b a (Ok to) h k = tt
-  refuses_if m s b a (Err to) h k = refuses_then view maker m s b a to h k
-
--- What is refused where the source was only looked at is refused before.
-
-module _ {N S B : Type 0} (read : List ℕ → Option N) (view : View N S) (maker : Maker N B) where
-  pub stays_refused : (m : Machine) (s t : S) (b : B) (r : Result (At S B) (At S B)) → Stays view s t → IfErr r (Refuses read view maker m t b) → IfErr r (Refuses read view maker m s b)
-  stays_refused m s t b (Ok to) stays h = tt
-  stays_refused m s t b (Err to) stays h = from_refuses read view maker m s t b to stays h
-
--- A way goes on where the source was only looked at.
-
-module _ {N S B : Type 0} (view : View N S) (maker : Maker N B) where
-  pub looked_goes : (m : Machine) (s t : S) (b : B) (a : At S B) (r : Result (At S B) (At S B)) → Goes_from view maker m s b a → Stays view a.source t → IfOk r (Goes_from view maker a.machine t a.builder) → IfOk r (Goes_from view maker m s b)
-  looked_goes m s t b a (Ok to) h stays k = goes_then view maker m s b a to h (from_goes (maker.reads a.builder) view maker a.machine a.source t a.builder to stays k)
-  looked_goes m s t b a (Err to) h stays k = tt
-
-  pub looked_refuses : (m : Machine) (s t : S) (b : B) (a : At S B) (r : Result (At S B) (At S B)) → Goes_from view maker m s b a → Stays view a.source t → IfErr r (Refuses_from view maker a.machine t a.builder) → IfErr r (Refuses_from view maker m s b)
-  looked_refuses m s t b a (Ok to) h stays k = tt
-  looked_refuses m s t b a (Err to) h stays k = refuses_then view maker m s b a to h (from_refuses (maker.reads a.builder) view maker a.machine a.source t a.builder to stays k)
 
 -- Ways between the states of one part.
 

@@ -1,14 +1,10 @@
--- Lexemes that are looked at: where a message is asked for, kind words in bytes, and marks. Only private contracts cite this file.
+-- Lexemes that are looked at: where a message is asked for, and kind words in bytes. Only private contracts cite this file.
 use Rattle.std.specs.Prelude.{◌≡◌, ℕ, List, [], Option, Some, None, false, Bool, true, ◌≢◌, ◌⊎◌, get_or}
 use Rattle.wkt_num.specs.Bytes.{Lexeme, Open, Word, Run, AllRun, class_of}
 use Rattle.wkt_num.specs.Bytes as lex
 use Rattle.wkt_events.specs.Remaining.{remaining_spanned, TakesOne}
 use Rattle.wkt_machine.specs.declared.message.Given.{Given}
 use Rattle.wkt_machine.specs.declared.message.Given.TheVariants as given
-use Rattle.wkt_machine.specs.declared.machine.Seen.{Seen}
-use Rattle.wkt_machine.specs.declared.machine.State.{State}
-use Rattle.wkt_machine.specs.declared.machine.Seen.TheVariants as seen
-use Rattle.wkt_machine.specs.declared.machine.State.TheVariants as next
 use Rattle.wkt_access.specs.declared.dimensions.Dimension.{Dimension}
 use Rattle.wkt_access.specs.declared.dimensions.Dimension.TheVariants.{XY}
 use Rattle.wkt_machine.specs.declared.header.Then.{Then}
@@ -33,16 +29,6 @@ ShowsLexeme read given.Unread l = (run : List ℕ) × (l ≡ lex.Num run) × (re
 abbrev pub GivesNext : {T : Type 0} → (List ℕ → Option T) → List ℕ → ℕ → Option (Given × ℕ) → Type 0
 GivesNext read text at None = remaining_spanned false text at ≡ []
 GivesNext read text at (Some g) = (l : Lexeme) × TakesOne false text at l g.1 × ShowsLexeme read g.0 l
-
--- Marks that are taken in a row. Only private contracts cite this file.
-
--- whether a lexeme is a mark where one comes next, or is refused in place of one
-abbrev pub is_mark : State → Seen → Bool
-is_mark next.Item k = true
-is_mark next.Geometry k = true
-is_mark next.Opening seen.Open = true
-is_mark next.Opening seen.Empty = true
-is_mark s k = false
 
 -- Kind words in bytes, each with the parenthesis behind it. Only private contracts cite this file.
 

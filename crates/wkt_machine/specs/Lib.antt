@@ -11,4 +11,5 @@ pub mod Trees
 pub mod Values
 pub mod Refusing
 pub mod Goes
+pub mod Steps
 pub mod LexemesAhead

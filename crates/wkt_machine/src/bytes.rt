@@ -130,7 +130,6 @@ impl<'a, T: WktNum, const FEED_ENDS: bool> Source<T> for Bytes<'a, FEED_ENDS> {
 
 impl<'a, T: WktNum, const FEED_ENDS: bool> Walk<T> for Bytes<'a, FEED_ENDS> {
     #[inline(always)]
-    #[tactic(auto, using(crate::proofs::TokenSteps::kind_open, crate::proofs::TokenSteps::kind_sound, crate::proofs::RoomForRest::kind_room))]
     fn header<B: Builder<T>>(self, machine: Machine, builder: B) -> Walked<Self, B> {
         if self.at > self.text.len() {
             return machine.step(self, builder);
@@ -139,7 +138,6 @@ impl<'a, T: WktNum, const FEED_ENDS: bool> Walk<T> for Bytes<'a, FEED_ENDS> {
     }
 
     #[inline(always)]
-    #[tactic(auto, using(crate::proofs::TokenSteps::kind_open, crate::proofs::TokenSteps::kind_sound, crate::proofs::RoomForRest::kind_room))]
     fn first<B: Builder<T>>(self, machine: Machine, builder: B) -> Walked<Self, B> {
         if self.at > self.text.len() {
             return machine.step(self, builder);
@@ -148,7 +146,7 @@ impl<'a, T: WktNum, const FEED_ENDS: bool> Walk<T> for Bytes<'a, FEED_ENDS> {
     }
 
     #[inline(always)]
-    #[tactic(auto, using(crate::proofs::TokenSteps::x_open, crate::proofs::TokenSteps::x_sound, crate::proofs::RoomForRest::x_room))]
+    #[tactic(auto, using(crate::proofs::StepsJoin::rest_room))]
     fn coordinates<B: Builder<T>>(self, machine: Machine, builder: B) -> Walked<Self, B> {
         // A point without parentheses ends with its coordinate.
         if self.at > self.text.len() || !has_coordinates(machine.part) {

@@ -1,9 +1,10 @@
 //! The one loop over lexemes.
-ghost use Rattle.std.specs.Prelude.{◌≡◌, ◌+◌, ◌≤◌, length, IfOk, IfErr, false, true};
+ghost use Rattle.std.specs.Prelude.{◌≡◌, ◌≤◌, length, IfOk, IfErr, true};
 ghost use Rattle.wkt_machine.specs.Machine.{is_over};
-ghost use Rattle.wkt_machine.specs.Goes.{Goes, GoesFrom, Refuses, RefusesFrom};
-ghost use Rattle.wkt_machine.specs.Machines.{state_of, IsSound};
-ghost use Rattle.wkt_machine.specs.Room.{owed, HasRoom, RoomAt};
+ghost use Rattle.wkt_machine.specs.Goes.{GoesFrom, RefusesFrom};
+ghost use Rattle.wkt_machine.specs.Machines.{state_of};
+ghost use Rattle.wkt_machine.specs.Room.{HasRoom, RoomAt};
+ghost use Rattle.wkt_machine.specs.Steps.{MayStep, Steps};
 
 use crate::builder::Builder;
 use crate::machine::{Machine, State};
@@ -18,13 +19,8 @@ fn further<T: WktNum, S: Walk<T>, B: Builder<T>>(
     source: S,
     builder: B,
 ) -> Walked<S, B>
-    requires sound { IsSound machine }
-    requires open { is_over (state_of machine) ≡ false }
-    requires depth { machine.depth + length (S.view.remaining source) ≤ usize.MAX }
-    requires room { HasRoom S.view B.maker (owed (state_of machine)) source builder }
-    ensures on { IfOk result (Goes (B.maker.reads builder) S.view B.maker machine source builder) }
-    ensures room { IfOk result (RoomAt S.view B.maker) }
-    ensures refused { IfErr result (Refuses (B.maker.reads builder) S.view B.maker machine source builder) }
+    requires { MayStep S.view B.maker machine source builder }
+    ensures { Steps S.view B.maker machine source builder result }
 {
     match machine.state {
         State::Kind => source.header(machine, builder),

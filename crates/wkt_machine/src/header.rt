@@ -1,14 +1,15 @@
 //! Headers: the word of a kind, a dimension, and the parenthesis or EMPTY, in letters of either case.
 ghost use Rattle.std.specs.Bool.{OnTrue};
 ghost use Rattle.std.specs.Int.{w64, to_le_bytes};
-ghost use Rattle.std.specs.Prelude.{◌≡◌, ◌≢◌, ◌≤◌, ◌<◌, ◌+◌, ℕ, List, Some, true, length, take, drop, codes, IfOk, IfErr, IfSome};
+ghost use Rattle.std.specs.Prelude.{◌≡◌, ◌≢◌, ◌≤◌, ◌<◌, ◌+◌, ℕ, List, Some, true, length, take, drop, codes, IfSome};
 ghost use Rattle.wkt_num.specs.Bytes.{Run, Word, class_of};
 ghost use Rattle.wkt_read.specs.Grammar.{dim_word, is_empty_word};
-ghost use Rattle.wkt_events.specs.Remaining.{Legible, TakesOne, remaining_spanned};
+ghost use Rattle.wkt_events.specs.Remaining.{Legible, TakesOne};
 ghost use Rattle.wkt_machine.specs.View.{bytes_view, IsBetween};
-ghost use Rattle.wkt_machine.specs.Goes.{Goes, Refuses};
+ghost use Rattle.wkt_machine.specs.Goes.{Goes};
 ghost use Rattle.wkt_machine.specs.LexemesAhead.{IsKindName, StandsHead, StandsHeader, EndsKind, EndsDimension};
-ghost use Rattle.wkt_machine.specs.Room.{HasRoom, RoomAt};
+ghost use Rattle.wkt_machine.specs.Room.{RoomAt};
+ghost use Rattle.wkt_machine.specs.Steps.{MayStep, Steps};
 ghost use Rattle.wkt_machine.specs.declared.header.Then.TheVariants as then;
 ghost use Rattle.wkt_machine.specs.declared.machine.State.TheVariants as next;
 
@@ -28,6 +29,8 @@ use wkt_read::words::{dimension_front, is_empty_in, kind_front};
 const POIN: u32 = 0x4e49_4f50;
 
 const POLY: u32 = 0x594c_4f50;
+
+const MULTIPOI: u64 = 0x494f_5049_544c_554d;
 
 const GEOMETRY: u64 = 0x5952_5445_4d4f_4547;
 
@@ -59,19 +62,15 @@ pub(crate) struct Found {
 ///
 /// There is one for the first geometry and one for those inside, so each has one caller and is inlined there.
 #[inline(always)]
-#[tactic(auto, using(crate::proofs::TokenSteps::kind_open, crate::proofs::TokenSteps::kind_sound, crate::proofs::RoomForRest::kind_room))]
 pub(crate) fn header<'a, T: WktNum, B: Builder<T>, const FEED_ENDS: bool, const INNER: bool>(
     machine: Machine,
     source: Bytes<'a, FEED_ENDS>,
     builder: B,
 ) -> Walked<Bytes<'a, FEED_ENDS>, B>
     requires state { machine.state ≡ next.Kind }
-    requires depth { machine.depth + length (remaining_spanned FEED_ENDS source.text.now source.at) ≤ usize.MAX }
     requires inside { source.at ≤ length source.text.now }
-    requires room { HasRoom (bytes_view FEED_ENDS) B.maker 0 source builder }
-    ensures on { IfOk result (Goes (B.maker.reads builder) (bytes_view FEED_ENDS) B.maker machine source.entry builder) }
-    ensures room { IfOk result (RoomAt (bytes_view FEED_ENDS) B.maker) }
-    ensures refused { IfErr result (Refuses (B.maker.reads builder) (bytes_view FEED_ENDS) B.maker machine source.entry builder) }
+    requires may { MayStep (bytes_view FEED_ENDS) B.maker machine source builder }
+    ensures { Steps (bytes_view FEED_ENDS) B.maker machine source.entry builder result }
 {
     let text = source.text;
     let at = skip_white::<FEED_ENDS>(text, source.at);
@@ -100,6 +99,16 @@ pub(crate) fn header<'a, T: WktNum, B: Builder<T>, const FEED_ENDS: bool, const 
         Part::Polygon,
         b"POLYGON",
         is_polygon(&text[at..]),
+        text,
+        at,
+    ) {
+        return Ok(behind::<T, B, FEED_ENDS>(head, at, machine, source, builder));
+    }
+    // For the multipoints of capi/bench/calls.sh.
+    if let Some(head) = plain::<10, FEED_ENDS>(
+        Part::MultiPoint,
+        b"MULTIPOINT",
+        is_multipoint(&text[at..]),
         text,
         at,
     ) {
@@ -209,6 +218,26 @@ fn is_polygon(bytes: &[u8]) -> bool
     true
 }
 
+/// Whether the bytes begin with `MULTIPOINT` in capitals, by three comparisons.
+#[inline(always)]
+fn is_multipoint(bytes: &[u8]) -> bool
+    ensures { OnTrue result (take 10 bytes.now ≡ codes "MULTIPOINT") }
+{
+    if bytes.len() < 10 {
+        return false;
+    }
+    if eight_bytes(bytes) != MULTIPOI {
+        return false;
+    }
+    if bytes[8] != b'N' {
+        return false;
+    }
+    if bytes[9] != b'T' {
+        return false;
+    }
+    true
+}
+
 /// Whether the bytes begin with `GEOMETRYCOLLECTION` in capitals, by four comparisons.
 #[inline(always)]
 fn is_collection(bytes: &[u8]) -> bool
@@ -253,11 +282,10 @@ pub(crate) fn behind<'a, T: WktNum, B: Builder<T>, const FEED_ENDS: bool>(
     builder: B,
 ) -> At<Bytes<'a, FEED_ENDS>, B>
     requires state { machine.state ≡ next.Kind }
-    requires depth { machine.depth + length (remaining_spanned FEED_ENDS source.text.now source.at) ≤ usize.MAX }
+    requires may { MayStep (bytes_view FEED_ENDS) B.maker machine source builder }
     requires between { IsBetween FEED_ENDS source.text.now source.at at }
     requires line { Legible FEED_ENDS source.text.now source.at → Legible FEED_ENDS source.text.now at }
     requires head { StandsHeader FEED_ENDS source.text.now at head.part head.dim head.then head.end }
-    requires room { HasRoom (bytes_view FEED_ENDS) B.maker 0 source builder }
     ensures on { Goes (B.maker.reads builder) (bytes_view FEED_ENDS) B.maker machine source.entry builder result }
     ensures stands { RoomAt (bytes_view FEED_ENDS) B.maker result }
     ensures text { result.source.text ≡ source.entry.text }

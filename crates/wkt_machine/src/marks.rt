@@ -1,39 +1,31 @@
-//! Marks in a row.
+//! Marks in a row, and points without parentheses.
 ghost use Rattle.std.specs.Bool.{OnTrue};
-ghost use Rattle.std.specs.Prelude.{◌≡◌, ◌+◌, ◌≤◌, length, IfOk, IfErr, true, false};
+ghost use Rattle.std.specs.Prelude.{◌≡◌, false};
 ghost use Rattle.wkt_machine.specs.Machine.{is_over};
-ghost use Rattle.wkt_machine.specs.Goes.{Goes, Refuses};
-ghost use Rattle.wkt_machine.specs.Machines.{state_of, IsSound};
-ghost use Rattle.wkt_machine.specs.LexemesAhead.{is_mark};
-ghost use Rattle.wkt_machine.specs.Room.{owed, HasRoom, RoomAt};
-ghost use Rattle.wkt_machine.specs.View.{sight};
+ghost use Rattle.wkt_machine.specs.Machines.{state_of};
+ghost use Rattle.wkt_machine.specs.Steps.{MayStep, MayTake, Steps};
 
 use crate::builder::Builder;
 use crate::machine::{Machine, Seen, State};
+use crate::part::Axis;
 use crate::source::{At, Source, Walked};
 use wkt_num::WktNum;
 
-/// After one lexeme or more: as far as no parenthesis or comma comes next that a part, or a collection, has there.
-#[inline(always)]
+/// After one lexeme or more: as far as no parenthesis or comma comes next that a part, or a collection, has there, and no
+/// second number of a point without parentheses.
+#[inline]
+#[tactic(auto, using(crate::proofs::StepsJoin::looked_may, crate::proofs::StepsJoin::looked_at))]
 pub(crate) fn marks<T: WktNum, S: Source<T>, B: Builder<T>>(
     machine: Machine,
     source: S,
     builder: B,
 ) -> Walked<S, B>
-    requires sound { IsSound machine }
-    requires open { is_over (state_of machine) ≡ false }
-    requires depth { machine.depth + length (S.view.remaining source) ≤ usize.MAX }
-    requires room { HasRoom S.view B.maker (owed (state_of machine)) source builder }
-    ensures on { IfOk result (Goes (B.maker.reads builder) S.view B.maker machine source builder) }
-    ensures room { IfOk result (RoomAt S.view B.maker) }
-    ensures refused { IfErr result (Refuses (B.maker.reads builder) S.view B.maker machine source builder) }
+    requires { MayStep S.view B.maker machine source builder }
+    ensures { Steps S.view B.maker machine source builder result }
 {
     let (mut source, mut machine, mut builder) = (source, machine, builder);
     'marks: loop {
         let (seen, looked) = source.look();
-        if !is_mark(machine.state, seen) {
-            return machine.step(looked, builder);
-        }
         let At {
             source: behind,
             machine: next,
@@ -51,31 +43,19 @@ pub(crate) fn marks<T: WktNum, S: Source<T>, B: Builder<T>>(
     }
 }
 
-/// Whether a mark may come next.
+/// Whether a mark may come next, or the second number of a point without parentheses.
 #[inline(always)]
 fn has_mark(machine: Machine) -> bool
     ensures { OnTrue result (is_over (state_of machine) ≡ false) }
 {
     match machine.state {
-        State::Opening | State::Item => true,
+        State::Opening | State::Y | State::Item => true,
         State::Geometry => machine.depth > 0,
         _ => false,
     }
 }
 
-/// Whether such a lexeme is a mark, or is refused in place of one.
-#[inline(always)]
-fn is_mark(state: State, seen: Seen) -> bool
-    ensures { result ≡ is_mark state seen }
-{
-    match state {
-        State::Item | State::Geometry => true,
-        State::Opening => matches!(seen, Seen::Open | Seen::Empty),
-        _ => false,
-    }
-}
-
-/// After a mark.
+/// After a mark, or one of the first two numbers of a point without parentheses.
 #[inline(always)]
 fn mark<T: WktNum, S: Source<T>, B: Builder<T>>(
     machine: Machine,
@@ -83,24 +63,14 @@ fn mark<T: WktNum, S: Source<T>, B: Builder<T>>(
     source: S,
     builder: B,
 ) -> Walked<S, B>
-    requires mark { is_mark machine.state seen ≡ true }
-    requires sound { IsSound machine }
-    requires open { is_over (state_of machine) ≡ false }
-    requires looked { S.view.looked source }
-    requires seen { seen ≡ sight (S.view.remaining source) }
-    requires depth { machine.depth + length (S.view.remaining source) ≤ usize.MAX }
-    requires room { HasRoom S.view B.maker (owed (state_of machine)) source builder }
-    ensures on { IfOk result (Goes (B.maker.reads builder) S.view B.maker machine source builder) }
-    ensures room { IfOk result (RoomAt S.view B.maker) }
-    ensures refused { IfErr result (Refuses (B.maker.reads builder) S.view B.maker machine source builder) }
+    requires { MayTake S.view B.maker machine seen source builder }
+    ensures { Steps S.view B.maker machine source builder result }
 {
     match machine.state {
         State::Item => machine.at_item(seen, source, builder),
         State::Geometry => machine.at_geometry(seen, source, builder),
-        State::Opening => match seen {
-            Seen::Empty => machine.at_empty(source, builder),
-            _ => machine.at_open(source, builder),
-        },
+        State::Opening => machine.at_opening(seen, source, builder),
+        State::Y => machine.at_number(Axis::Y, seen, source, builder),
         _ => machine.step(source, builder),
     }
 }

@@ -1,8 +1,8 @@
 //! Where lexemes come from.
-ghost use Rattle.std.specs.Prelude.{◌≡◌, ◌≢◌, ◌+◌, ◌≤◌, ℕ, [], length, IfOk, IfErr, false};
-ghost use Rattle.wkt_machine.specs.Goes.{Stays, Skips, MakesBare, MakesOneNumber, IsUnread, Goes, Refuses};
-ghost use Rattle.wkt_machine.specs.Machines.{state_of, IsSound};
-ghost use Rattle.wkt_machine.specs.Room.{HasRoom, RoomAt, HasNumberRoom, LeavesNumber};
+ghost use Rattle.std.specs.Prelude.{◌≡◌, ◌≢◌, [], IfOk, IfErr};
+ghost use Rattle.wkt_machine.specs.Goes.{Stays, Skips, MakesBare, MakesOneNumber, IsUnread};
+ghost use Rattle.wkt_machine.specs.Room.{HasRoom, HasNumberRoom, LeavesNumber};
+ghost use Rattle.wkt_machine.specs.Steps.{MayStep, Steps};
 ghost use Rattle.wkt_machine.specs.View.{sight, View};
 ghost use Rattle.wkt_machine.specs.declared.machine.Seen.TheVariants as seen;
 ghost use Rattle.wkt_machine.specs.declared.machine.State.TheVariants as next;
@@ -72,27 +72,18 @@ pub trait Walk<T: WktNum>: Source<T> {
     /// After one lexeme or more: a geometry begins here.
     fn header<B: Builder<T>>(self, machine: Machine, builder: B) -> Walked<Self, B>
         requires state { machine.state ≡ next.Kind }
-        requires depth { machine.depth + length (Self.view.remaining self) ≤ usize.MAX }
-        requires room { HasRoom Self.view B.maker 0 self builder }
-        ensures on { IfOk result (Goes (B.maker.reads builder) Self.view B.maker machine self builder) }
-        ensures room { IfOk result (RoomAt Self.view B.maker) }
-        ensures refused { IfErr result (Refuses (B.maker.reads builder) Self.view B.maker machine self builder) };
+        requires may { MayStep Self.view B.maker machine self builder }
+        ensures { Steps Self.view B.maker machine self builder result };
 
     /// Before the first lexeme: the geometry begins here. Each of the two has one caller, and is built into it.
     fn first<B: Builder<T>>(self, machine: Machine, builder: B) -> Walked<Self, B>
         requires state { machine.state ≡ next.Kind }
-        requires depth { machine.depth + length (Self.view.remaining self) ≤ usize.MAX }
-        requires room { HasRoom Self.view B.maker 0 self builder }
-        ensures on { IfOk result (Goes (B.maker.reads builder) Self.view B.maker machine self builder) }
-        ensures room { IfOk result (RoomAt Self.view B.maker) }
-        ensures refused { IfErr result (Refuses (B.maker.reads builder) Self.view B.maker machine self builder) };
+        requires may { MayStep Self.view B.maker machine self builder }
+        ensures { Steps Self.view B.maker machine self builder result };
 
     /// After one lexeme or more: a coordinate begins here.
     fn coordinates<B: Builder<T>>(self, machine: Machine, builder: B) -> Walked<Self, B>
         requires state { machine.state ≡ next.X }
-        requires depth { machine.depth + length (Self.view.remaining self) ≤ usize.MAX }
-        requires room { HasRoom Self.view B.maker 0 self builder }
-        ensures on { IfOk result (Goes (B.maker.reads builder) Self.view B.maker machine self builder) }
-        ensures room { IfOk result (RoomAt Self.view B.maker) }
-        ensures refused { IfErr result (Refuses (B.maker.reads builder) Self.view B.maker machine self builder) };
+        requires may { MayStep Self.view B.maker machine self builder }
+        ensures { Steps Self.view B.maker machine self builder result };
 }

@@ -1,13 +1,11 @@
 //! The step of the machine.
-ghost use Rattle.std.specs.Prelude.{◌≡◌, ◌+◌, ◌<◌, ◌≤◌, length, IfOk, IfErr, Ok, Err, false};
-ghost use Rattle.wkt_machine.specs.Machine.{is_over};
-ghost use Rattle.wkt_machine.specs.Goes.{Goes, Refuses, EndsPoint};
-ghost use Rattle.wkt_machine.specs.Machines.{state_of, state_for, IsSound};
-ghost use Rattle.wkt_machine.specs.Room.{header_cost, owed, HasRoom, RoomAt};
-ghost use Rattle.wkt_machine.specs.View.{sight};
+ghost use Rattle.std.specs.Prelude.{◌≡◌, ◌<◌, IfOk, Ok, Err};
+ghost use Rattle.wkt_machine.specs.Goes.{EndsPoint};
+ghost use Rattle.wkt_machine.specs.Machines.{state_for};
+ghost use Rattle.wkt_machine.specs.Room.{HasRoom, RoomAt};
+ghost use Rattle.wkt_machine.specs.Steps.{MayStep, MayTake, Steps};
 ghost use Rattle.wkt_machine.specs.declared.machine.Seen.TheVariants as sees;
 ghost use Rattle.wkt_machine.specs.declared.machine.State.TheVariants as next;
-ghost use Rattle.wkt_machine.specs.declared.part.Part.TheVariants as member;
 
 use crate::builder::Builder;
 use crate::machine::{Machine, Seen, State, after, is_close, is_comma, is_single, part_of};
@@ -15,7 +13,6 @@ use crate::part::{Axis, Part};
 use crate::source::{At, Source, Walked};
 use wkt_access::Dimension;
 use wkt_num::WktNum;
-use wkt_types::GeometryType;
 
 impl Machine {
     /// After one lexeme.
@@ -23,30 +20,21 @@ impl Machine {
     /// What it returns comes through memory, whose place is cleared here, away from the ways beside it.
     #[inline(always)]
     pub fn step<T: WktNum, S: Source<T>, B: Builder<T>>(self, source: S, builder: B) -> Walked<S, B>
-        requires sound { IsSound self }
-        requires open { is_over (state_of self) ≡ false }
-        requires depth { self.depth + length (S.view.remaining source) ≤ usize.MAX }
-        requires room { HasRoom S.view B.maker (owed (state_of self)) source builder }
-        ensures on { IfOk result (Goes (B.maker.reads builder) S.view B.maker self source builder) }
-        ensures room { IfOk result (RoomAt S.view B.maker) }
-        ensures refused { IfErr result (Refuses (B.maker.reads builder) S.view B.maker self source builder) }
+        requires { MayStep S.view B.maker self source builder }
+        ensures { Steps S.view B.maker self source builder result }
     {
         self.step_outlined(source, builder)
     }
 
     #[inline(never)]
+    #[tactic(auto, using(crate::proofs::StepsJoin::looked_at, crate::proofs::StepsJoin::looked_steps))]
     fn step_outlined<T: WktNum, S: Source<T>, B: Builder<T>>(
         self,
         source: S,
         builder: B,
     ) -> Walked<S, B>
-        requires sound { IsSound self }
-        requires open { is_over (state_of self) ≡ false }
-        requires depth { self.depth + length (S.view.remaining source) ≤ usize.MAX }
-        requires room { HasRoom S.view B.maker (owed (state_of self)) source builder }
-        ensures on { IfOk result (Goes (B.maker.reads builder) S.view B.maker self source builder) }
-        ensures room { IfOk result (RoomAt S.view B.maker) }
-        ensures refused { IfErr result (Refuses (B.maker.reads builder) S.view B.maker self source builder) }
+        requires { MayStep S.view B.maker self source builder }
+        ensures { Steps S.view B.maker self source builder result }
     {
         let (seen, source) = source.look();
         match self.state {
@@ -71,48 +59,26 @@ impl Machine {
         builder: B,
     ) -> Walked<S, B>
         requires state { self.state ≡ next.Kind }
-        requires looked { S.view.looked source }
-        requires seen { seen ≡ sight (S.view.remaining source) }
-        requires room { HasRoom S.view B.maker 0 source builder }
-        ensures on { IfOk result (Goes (B.maker.reads builder) S.view B.maker self source builder) }
-        ensures room { IfOk result (RoomAt S.view B.maker) }
-        ensures refused { IfErr result (Refuses (B.maker.reads builder) S.view B.maker self source builder) }
+        requires may { MayTake S.view B.maker self seen source builder }
+        ensures { Steps S.view B.maker self source builder result }
     {
         match seen {
-            Seen::Kind(kind, joined) => self.after_kind(kind, joined, source, builder),
+            Seen::Kind(kind, joined) => {
+                let part = part_of(kind);
+                match joined {
+                    None => on(
+                        source.skip(),
+                        self.begun(State::Dimension, part, Dimension::XY),
+                        builder,
+                    ),
+                    Some(dim) => on(
+                        source.skip(),
+                        self.begun(State::Opening, part, dim),
+                        builder.begin(part, dim),
+                    ),
+                }
+            }
             _ => refused(source, self, builder),
-        }
-    }
-
-    /// After a kind word, with the dimension that is joined to it.
-    #[inline(always)]
-    fn after_kind<T: WktNum, S: Source<T>, B: Builder<T>>(
-        self,
-        kind: GeometryType,
-        joined: Option<Dimension>,
-        source: S,
-        builder: B,
-    ) -> Walked<S, B>
-        requires state { self.state ≡ next.Kind }
-        requires looked { S.view.looked source }
-        requires seen { sees.Kind kind joined ≡ sight (S.view.remaining source) }
-        requires room { HasRoom S.view B.maker 0 source builder }
-        ensures on { IfOk result (Goes (B.maker.reads builder) S.view B.maker self source builder) }
-        ensures room { IfOk result (RoomAt S.view B.maker) }
-        ensures refused { IfErr result (Refuses (B.maker.reads builder) S.view B.maker self source builder) }
-    {
-        let part = part_of(kind);
-        match joined {
-            None => on(
-                source.skip(),
-                self.begun(State::Dimension, part, Dimension::XY),
-                builder,
-            ),
-            Some(dim) => on(
-                source.skip(),
-                self.begun(State::Opening, part, dim),
-                builder.begin(part, dim),
-            ),
         }
     }
 
@@ -125,13 +91,8 @@ impl Machine {
         builder: B,
     ) -> Walked<S, B>
         requires state { self.state ≡ next.Dimension }
-        requires looked { S.view.looked source }
-        requires seen { seen ≡ sight (S.view.remaining source) }
-        requires depth { self.depth + length (S.view.remaining source) ≤ usize.MAX }
-        requires room { HasRoom S.view B.maker (header_cost self.part) source builder }
-        ensures on { IfOk result (Goes (B.maker.reads builder) S.view B.maker self source builder) }
-        ensures room { IfOk result (RoomAt S.view B.maker) }
-        ensures refused { IfErr result (Refuses (B.maker.reads builder) S.view B.maker self source builder) }
+        requires may { MayTake S.view B.maker self seen source builder }
+        ensures { Steps S.view B.maker self source builder result }
     {
         let part = self.part;
         match seen {
@@ -156,67 +117,25 @@ impl Machine {
 
     /// A part begins here.
     #[inline(always)]
-    fn at_opening<T: WktNum, S: Source<T>, B: Builder<T>>(
+    pub(crate) fn at_opening<T: WktNum, S: Source<T>, B: Builder<T>>(
         self,
         seen: Seen,
         source: S,
         builder: B,
     ) -> Walked<S, B>
         requires state { self.state ≡ next.Opening }
-        requires looked { S.view.looked source }
-        requires seen { seen ≡ sight (S.view.remaining source) }
-        requires depth { self.depth + length (S.view.remaining source) ≤ usize.MAX }
-        requires room { HasRoom S.view B.maker 0 source builder }
-        ensures on { IfOk result (Goes (B.maker.reads builder) S.view B.maker self source builder) }
-        ensures room { IfOk result (RoomAt S.view B.maker) }
-        ensures refused { IfErr result (Refuses (B.maker.reads builder) S.view B.maker self source builder) }
+        requires may { MayTake S.view B.maker self seen source builder }
+        ensures { Steps S.view B.maker self source builder result }
     {
         match seen {
-            Seen::Open => self.at_open(source, builder),
-            Seen::Empty => self.at_empty(source, builder),
+            Seen::Open => on(source.skip(), self.inside(), builder.open(self.part)),
+            Seen::Empty => on(source.skip(), self.outside(), builder.empty(self.part)),
             Seen::Number => self.at_member(source, builder),
             _ => refused(source, self, builder),
         }
     }
 
-    /// A parenthesis stands where a part begins.
-    #[inline(always)]
-    pub(crate) fn at_open<T: WktNum, S: Source<T>, B: Builder<T>>(
-        self,
-        source: S,
-        builder: B,
-    ) -> Walked<S, B>
-        requires state { self.state ≡ next.Opening }
-        requires looked { S.view.looked source }
-        requires seen { sees.Open ≡ sight (S.view.remaining source) }
-        requires depth { self.depth + length (S.view.remaining source) ≤ usize.MAX }
-        requires room { HasRoom S.view B.maker 0 source builder }
-        ensures on { IfOk result (Goes (B.maker.reads builder) S.view B.maker self source builder) }
-        ensures room { IfOk result (RoomAt S.view B.maker) }
-        ensures refused { IfErr result (Refuses (B.maker.reads builder) S.view B.maker self source builder) }
-    {
-        on(source.skip(), self.inside(), builder.open(self.part))
-    }
-
-    /// EMPTY stands where a part begins.
-    #[inline(always)]
-    pub(crate) fn at_empty<T: WktNum, S: Source<T>, B: Builder<T>>(
-        self,
-        source: S,
-        builder: B,
-    ) -> Walked<S, B>
-        requires state { self.state ≡ next.Opening }
-        requires looked { S.view.looked source }
-        requires seen { sees.Empty ≡ sight (S.view.remaining source) }
-        requires room { HasRoom S.view B.maker 0 source builder }
-        ensures on { IfOk result (Goes (B.maker.reads builder) S.view B.maker self source builder) }
-        ensures room { IfOk result (RoomAt S.view B.maker) }
-        ensures refused { IfErr result (Refuses (B.maker.reads builder) S.view B.maker self source builder) }
-    {
-        on(source.skip(), self.outside(), builder.empty(self.part))
-    }
-
-    /// A number stands where a part begins.
+    /// A number stands where a part begins: a point without parentheses begins with it.
     #[inline(always)]
     fn at_member<T: WktNum, S: Source<T>, B: Builder<T>>(
         self,
@@ -224,43 +143,19 @@ impl Machine {
         builder: B,
     ) -> Walked<S, B>
         requires state { self.state ≡ next.Opening }
-        requires looked { S.view.looked source }
-        requires seen { sees.Number ≡ sight (S.view.remaining source) }
-        requires room { HasRoom S.view B.maker 0 source builder }
-        ensures on { IfOk result (Goes (B.maker.reads builder) S.view B.maker self source builder) }
-        ensures room { IfOk result (RoomAt S.view B.maker) }
-        ensures refused { IfErr result (Refuses (B.maker.reads builder) S.view B.maker self source builder) }
+        requires may { MayTake S.view B.maker self sees.Number source builder }
+        ensures { Steps S.view B.maker self source builder result }
     {
         match self.part {
-            Part::Member => self.bare(source, builder),
+            Part::Member => match source.bare(builder) {
+                Ok((behind, made)) => on(behind, self.begun(State::Y, Part::Bare, self.dim), made),
+                Err((before, made)) => refused(before, self, made),
+            },
             _ => refused(source, self, builder),
         }
     }
 
-    /// After the first number of a point without parentheses.
-    #[inline(always)]
-    pub(crate) fn bare<T: WktNum, S: Source<T>, B: Builder<T>>(
-        self,
-        source: S,
-        builder: B,
-    ) -> Walked<S, B>
-        requires state { self.state ≡ next.Opening }
-        requires part { self.part ≡ member.Member }
-        requires looked { S.view.looked source }
-        requires seen { sees.Number ≡ sight (S.view.remaining source) }
-        requires room { HasRoom S.view B.maker 0 source builder }
-        ensures on { IfOk result (Goes (B.maker.reads builder) S.view B.maker self source builder) }
-        ensures machine { IfOk result (λ to. to.machine ≡ record { state = next.Y; part = member.Bare; dim = self.dim; depth = self.depth }) }
-        ensures room { IfOk result (RoomAt S.view B.maker) }
-        ensures refused { IfErr result (Refuses (B.maker.reads builder) S.view B.maker self source builder) }
-    {
-        match source.bare(builder) {
-            Ok((behind, made)) => on(behind, self.begun(State::Y, Part::Bare, self.dim), made),
-            Err((before, made)) => refused(before, self, made),
-        }
-    }
-
-    /// A number of a coordinate comes next.
+    /// A number of a coordinate comes next. A point without parentheses ends with its last.
     #[inline(always)]
     pub(crate) fn at_number<T: WktNum, S: Source<T>, B: Builder<T>>(
         self,
@@ -269,45 +164,22 @@ impl Machine {
         source: S,
         builder: B,
     ) -> Walked<S, B>
-        requires sound { IsSound self }
         requires axis { self.state ≡ state_for axis }
-        requires looked { S.view.looked source }
-        requires seen { seen ≡ sight (S.view.remaining source) }
-        requires room { HasRoom S.view B.maker 0 source builder }
-        ensures on { IfOk result (Goes (B.maker.reads builder) S.view B.maker self source builder) }
-        ensures room { IfOk result (RoomAt S.view B.maker) }
-        ensures refused { IfErr result (Refuses (B.maker.reads builder) S.view B.maker self source builder) }
+        requires may { MayTake S.view B.maker self seen source builder }
+        ensures { Steps S.view B.maker self source builder result }
     {
         match seen {
-            Seen::Number => self.number(axis, source, builder),
+            Seen::Number => {
+                let state = after(axis, self.dim);
+                match source.number(builder, axis) {
+                    Ok((behind, made)) => match state {
+                        State::Item => self.behind_coordinate(behind, made),
+                        _ => on(behind, self.to(state), made),
+                    },
+                    Err((before, made)) => refused(before, self, made),
+                }
+            }
             _ => refused(source, self, builder),
-        }
-    }
-
-    /// After a number. A point without parentheses ends with its last.
-    #[inline(always)]
-    fn number<T: WktNum, S: Source<T>, B: Builder<T>>(
-        self,
-        axis: Axis,
-        source: S,
-        builder: B,
-    ) -> Walked<S, B>
-        requires sound { IsSound self }
-        requires axis { self.state ≡ state_for axis }
-        requires looked { S.view.looked source }
-        requires seen { sees.Number ≡ sight (S.view.remaining source) }
-        requires room { HasRoom S.view B.maker 0 source builder }
-        ensures on { IfOk result (Goes (B.maker.reads builder) S.view B.maker self source builder) }
-        ensures room { IfOk result (RoomAt S.view B.maker) }
-        ensures refused { IfErr result (Refuses (B.maker.reads builder) S.view B.maker self source builder) }
-    {
-        let state = after(axis, self.dim);
-        match source.number(builder, axis) {
-            Ok((behind, made)) => match state {
-                State::Item => self.behind_coordinate(behind, made),
-                _ => on(behind, self.to(state), made),
-            },
-            Err((before, made)) => refused(before, self, made),
         }
     }
 
@@ -337,39 +209,19 @@ impl Machine {
         builder: B,
     ) -> Walked<S, B>
         requires state { self.state ≡ next.Item }
-        requires looked { S.view.looked source }
-        requires seen { seen ≡ sight (S.view.remaining source) }
-        requires depth { self.depth + length (S.view.remaining source) ≤ usize.MAX }
-        requires room { HasRoom S.view B.maker 0 source builder }
-        ensures on { IfOk result (Goes (B.maker.reads builder) S.view B.maker self source builder) }
-        ensures room { IfOk result (RoomAt S.view B.maker) }
-        ensures refused { IfErr result (Refuses (B.maker.reads builder) S.view B.maker self source builder) }
+        requires may { MayTake S.view B.maker self seen source builder }
+        ensures { Steps S.view B.maker self source builder result }
     {
         if is_close(seen) {
             on(source.skip(), self.outside(), builder.close(self.part))
         } else if is_comma(seen) {
-            self.at_comma(source, builder)
+            if is_single(self.part) {
+                refused(source, self, builder)
+            } else {
+                on(source.skip(), self.inside(), builder.comma(self.part))
+            }
         } else {
             refused(source, self, builder)
-        }
-    }
-
-    /// A comma stands behind an item of a part.
-    #[inline(always)]
-    fn at_comma<T: WktNum, S: Source<T>, B: Builder<T>>(self, source: S, builder: B) -> Walked<S, B>
-        requires state { self.state ≡ next.Item }
-        requires looked { S.view.looked source }
-        requires seen { sees.Comma ≡ sight (S.view.remaining source) }
-        requires depth { self.depth + length (S.view.remaining source) ≤ usize.MAX }
-        requires room { HasRoom S.view B.maker 0 source builder }
-        ensures on { IfOk result (Goes (B.maker.reads builder) S.view B.maker self source builder) }
-        ensures room { IfOk result (RoomAt S.view B.maker) }
-        ensures refused { IfErr result (Refuses (B.maker.reads builder) S.view B.maker self source builder) }
-    {
-        if is_single(self.part) {
-            refused(source, self, builder)
-        } else {
-            on(source.skip(), self.inside(), builder.comma(self.part))
         }
     }
 
@@ -382,13 +234,9 @@ impl Machine {
         builder: B,
     ) -> Walked<S, B>
         requires state { self.state ≡ next.Geometry }
-        requires looked { S.view.looked source }
-        requires seen { seen ≡ sight (S.view.remaining source) }
         requires inner { 0 < self.depth }
-        requires room { HasRoom S.view B.maker 0 source builder }
-        ensures on { IfOk result (Goes (B.maker.reads builder) S.view B.maker self source builder) }
-        ensures room { IfOk result (RoomAt S.view B.maker) }
-        ensures refused { IfErr result (Refuses (B.maker.reads builder) S.view B.maker self source builder) }
+        requires may { MayTake S.view B.maker self seen source builder }
+        ensures { Steps S.view B.maker self source builder result }
     {
         if is_close(seen) {
             on(

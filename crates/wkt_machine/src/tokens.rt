@@ -94,7 +94,7 @@ impl<'t, 'a, T: WktNum> Source<T> for OneByOne<'t, 'a, T> {
 ///
 /// A kind word and what stands behind it, and two numbers, are taken by the steps for these lexemes, which are built into
 /// the loop: `from_str` takes 36 instructions a byte of mixed lines, and 15 more where each goes by a call.
-#[tactic(auto, using(crate::proofs::TokenSteps::kind_open, crate::proofs::TokenSteps::kind_sound, crate::proofs::RoomForRest::kind_room, crate::proofs::TokenSteps::x_open, crate::proofs::TokenSteps::x_sound, crate::proofs::RoomForRest::x_room))]
+#[tactic(auto, using(crate::proofs::StepsJoin::looked_at))]
 impl<'t, 'a, T: WktNum> Walk<T> for OneByOne<'t, 'a, T> {
     #[inline(always)]
     fn header<B: Builder<T>>(self, machine: Machine, builder: B) -> Walked<Self, B> {

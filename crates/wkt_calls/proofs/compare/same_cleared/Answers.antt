@@ -13,5 +13,11 @@ write_short-requires-clause-zeros g c = zeros-at g.row.NEAR
 pub write_short-requires-clause-room : goal.write_short-requires-clause-room
 write_short-requires-clause-room g c = cleared-long g.row.ROOM _ c.requires.room
 
+pub refused_first-requires-clause-near : goal.refused_first-requires-clause-near
+refused_first-requires-clause-near g c = cleared-long g.row.NEAR _ c.requires.other_near
+
+pub refused_first-requires-clause-zeros : goal.refused_first-requires-clause-zeros
+refused_first-requires-clause-zeros g c = zeros-at g.row.NEAR
+
 pub returns-in-Err : goal.returns-in-Err
 returns-in-Err g c = refused-first (read_at (places_in c.args.asked)) c.args.one.now c.args.other.now c.in-Err.status c.refused_first.result c.in-Err.ensures.canonical c.refused_first.ensures

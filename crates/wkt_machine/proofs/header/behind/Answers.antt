@@ -27,6 +27,7 @@ use Rattle.wkt_read.proofs.HeaderPlaces.{upper-length}
 use Rattle.wkt_machine.specs.Room.{header_cost, need, owed, Leaves, HasRoom}
 use Rattle.wkt_machine.proofs.RoomForRest.{kind_cost, inside_owes, outside_owes, leaves_both}
 use Rattle.wkt_machine.proofs.Stepping.{goes_one}
+use Rattle.wkt_machine.proofs.StepsJoin.{rest_room}
 use Rattle.wkt_machine.proofs.WaysJoin.{goes_on_to}
 use Rattle.wkt_machine.proofs.TokenSteps.{alone, opening}
 use Rattle.wkt_machine.proofs.header.behind.Goals as goal
@@ -227,19 +228,19 @@ module _ {N B : Type 0} (maker : Maker N B) {n : ℕ} (feed : Bool) (s : Bytes n
   room_ended x to o c order text at one two = room_behind 0 (x + header_cost p) to c (omega (arith, order)) text at (leaves_both (bytes_view {n = n} feed) maker (header_cost p) x b o c one two)
 
 pub begin-requires : goal.begin-requires
-begin-requires g c = record { room = fits_words g.B.Builder.maker _ c.args.source c.args.builder c.args.at c.args.head.part c.args.head.dim then.Opening c.args.head.end c.requires.between.same (subst (λ t. StandsHeader _ c.args.source.text.now c.args.at c.args.head.part c.args.head.dim t c.args.head.end) c.in-Opening.is c.requires.head) c.requires.room (header_cost c.args.head.part) (omega arith) }
+begin-requires g c = record { room = fits_words g.B.Builder.maker _ c.args.source c.args.builder c.args.at c.args.head.part c.args.head.dim then.Opening c.args.head.end c.requires.between.same (subst (λ t. StandsHeader _ c.args.source.text.now c.args.at c.args.head.part c.args.head.dim t c.args.head.end) c.in-Opening.is c.requires.head) (rest_room c.requires.may) (header_cost c.args.head.part) (omega arith) }
 
 pub begin-requires-in-Inside : goal.begin-requires-in-Inside
-begin-requires-in-Inside g c = record { room = fits_words g.B.Builder.maker _ c.args.source c.args.builder c.args.at c.args.head.part c.args.head.dim then.Inside c.args.head.end c.requires.between.same (subst (λ t. StandsHeader _ c.args.source.text.now c.args.at c.args.head.part c.args.head.dim t c.args.head.end) c.in-Inside.is c.requires.head) c.requires.room (header_cost c.args.head.part) (omega arith) }
+begin-requires-in-Inside g c = record { room = fits_words g.B.Builder.maker _ c.args.source c.args.builder c.args.at c.args.head.part c.args.head.dim then.Inside c.args.head.end c.requires.between.same (subst (λ t. StandsHeader _ c.args.source.text.now c.args.at c.args.head.part c.args.head.dim t c.args.head.end) c.in-Inside.is c.requires.head) (rest_room c.requires.may) (header_cost c.args.head.part) (omega arith) }
 
 pub open-requires : goal.open-requires
-open-requires g c = record { room = c.begin-in-Inside.ensures.leaves 1 (fits_words g.B.Builder.maker _ c.args.source c.args.builder c.args.at c.args.head.part c.args.head.dim then.Inside c.args.head.end c.requires.between.same (subst (λ t. StandsHeader _ c.args.source.text.now c.args.at c.args.head.part c.args.head.dim t c.args.head.end) c.in-Inside.is c.requires.head) c.requires.room (1 + header_cost c.args.head.part) (omega arith)) }
+open-requires g c = record { room = c.begin-in-Inside.ensures.leaves 1 (fits_words g.B.Builder.maker _ c.args.source c.args.builder c.args.at c.args.head.part c.args.head.dim then.Inside c.args.head.end c.requires.between.same (subst (λ t. StandsHeader _ c.args.source.text.now c.args.at c.args.head.part c.args.head.dim t c.args.head.end) c.in-Inside.is c.requires.head) (rest_room c.requires.may) (1 + header_cost c.args.head.part) (omega arith)) }
 
 pub begin-requires-in-Outside : goal.begin-requires-in-Outside
-begin-requires-in-Outside g c = record { room = fits_words g.B.Builder.maker _ c.args.source c.args.builder c.args.at c.args.head.part c.args.head.dim then.Outside c.args.head.end c.requires.between.same (subst (λ t. StandsHeader _ c.args.source.text.now c.args.at c.args.head.part c.args.head.dim t c.args.head.end) c.in-Outside.is c.requires.head) c.requires.room (header_cost c.args.head.part) (omega arith) }
+begin-requires-in-Outside g c = record { room = fits_words g.B.Builder.maker _ c.args.source c.args.builder c.args.at c.args.head.part c.args.head.dim then.Outside c.args.head.end c.requires.between.same (subst (λ t. StandsHeader _ c.args.source.text.now c.args.at c.args.head.part c.args.head.dim t c.args.head.end) c.in-Outside.is c.requires.head) (rest_room c.requires.may) (header_cost c.args.head.part) (omega arith) }
 
 pub empty-requires : goal.empty-requires
-empty-requires g c = record { room = c.begin-in-Outside.ensures.leaves 6 (fits_words g.B.Builder.maker _ c.args.source c.args.builder c.args.at c.args.head.part c.args.head.dim then.Outside c.args.head.end c.requires.between.same (subst (λ t. StandsHeader _ c.args.source.text.now c.args.at c.args.head.part c.args.head.dim t c.args.head.end) c.in-Outside.is c.requires.head) c.requires.room (6 + header_cost c.args.head.part) (omega arith)) }
+empty-requires g c = record { room = c.begin-in-Outside.ensures.leaves 6 (fits_words g.B.Builder.maker _ c.args.source c.args.builder c.args.at c.args.head.part c.args.head.dim then.Outside c.args.head.end c.requires.between.same (subst (λ t. StandsHeader _ c.args.source.text.now c.args.at c.args.head.part c.args.head.dim t c.args.head.end) c.in-Outside.is c.requires.head) (rest_room c.requires.may) (6 + header_cost c.args.head.part) (omega arith)) }
 
 pub returns-in-Dimension-clause-on : goal.returns-in-Dimension-clause-on
 returns-in-Dimension-clause-on g c =
@@ -249,7 +250,7 @@ returns-in-Dimension-clause-on g c =
 pub returns-in-Dimension-clause-stands : goal.returns-in-Dimension-clause-stands
 returns-in-Dimension-clause-stands g c =
     subst (λ m. HasRoom (bytes_view (not (g.row.FEED_ENDS == 0))) g.B.Builder.maker (owed (state_of m)) c.new-source.result c.args.builder) (sym c.begun.ensures)
-    (room_behind g.B.Builder.maker _ c.args.source c.args.builder c.args.at c.args.head.part c.args.head.dim then.Dimension c.args.head.end c.requires.between.same (subst (λ t. StandsHeader _ c.args.source.text.now c.args.at c.args.head.part c.args.head.dim t c.args.head.end) c.in-Dimension.is c.requires.head) c.requires.room (header_cost c.args.head.part) 0 c.new-source.result c.args.builder (omega arith) c.new-source.ensures.text c.new-source.ensures.at (λ m fits. g.B.Builder.maker.less c.args.builder m (m + 0) (omega arith) fits))
+    (room_behind g.B.Builder.maker _ c.args.source c.args.builder c.args.at c.args.head.part c.args.head.dim then.Dimension c.args.head.end c.requires.between.same (subst (λ t. StandsHeader _ c.args.source.text.now c.args.at c.args.head.part c.args.head.dim t c.args.head.end) c.in-Dimension.is c.requires.head) (rest_room c.requires.may) (header_cost c.args.head.part) 0 c.new-source.result c.args.builder (omega arith) c.new-source.ensures.text c.new-source.ensures.at (λ m fits. g.B.Builder.maker.less c.args.builder m (m + 0) (omega arith) fits))
 
 pub returns-in-Opening-clause-on : goal.returns-in-Opening-clause-on
 returns-in-Opening-clause-on g c =
@@ -259,7 +260,7 @@ returns-in-Opening-clause-on g c =
 pub returns-in-Opening-clause-stands : goal.returns-in-Opening-clause-stands
 returns-in-Opening-clause-stands g c =
     subst (λ m. HasRoom (bytes_view (not (g.row.FEED_ENDS == 0))) g.B.Builder.maker (owed (state_of m)) c.new-source.result c.begin.result) (sym c.begun-begun.ensures)
-    (room_behind g.B.Builder.maker _ c.args.source c.args.builder c.args.at c.args.head.part c.args.head.dim then.Opening c.args.head.end c.requires.between.same (subst (λ t. StandsHeader _ c.args.source.text.now c.args.at c.args.head.part c.args.head.dim t c.args.head.end) c.in-Opening.is c.requires.head) c.requires.room 0 (header_cost c.args.head.part) c.new-source.result c.begin.result (omega arith) c.new-source.ensures.text c.new-source.ensures.at c.begin.ensures.leaves)
+    (room_behind g.B.Builder.maker _ c.args.source c.args.builder c.args.at c.args.head.part c.args.head.dim then.Opening c.args.head.end c.requires.between.same (subst (λ t. StandsHeader _ c.args.source.text.now c.args.at c.args.head.part c.args.head.dim t c.args.head.end) c.in-Opening.is c.requires.head) (rest_room c.requires.may) 0 (header_cost c.args.head.part) c.new-source.result c.begin.result (omega arith) c.new-source.ensures.text c.new-source.ensures.at c.begin.ensures.leaves)
 
 pub returns-in-Inside-clause-on : goal.returns-in-Inside-clause-on
 returns-in-Inside-clause-on g c =
@@ -270,7 +271,7 @@ returns-in-Inside-clause-on g c =
 pub returns-in-Inside-clause-stands : goal.returns-in-Inside-clause-stands
 returns-in-Inside-clause-stands g c =
     subst (λ n. HasRoom (bytes_view (not (g.row.FEED_ENDS == 0))) g.B.Builder.maker n c.new-source.result c.open.result) (sym (ap owed c.inside.ensures.state ∙ inside_owes _ _ _))
-    (room_ended g.B.Builder.maker _ c.args.source c.args.builder c.args.at c.args.head.part c.args.head.dim then.Inside c.args.head.end c.requires.between.same (subst (λ t. StandsHeader _ c.args.source.text.now c.args.at c.args.head.part c.args.head.dim t c.args.head.end) c.in-Inside.is c.requires.head) c.requires.room 1 c.new-source.result c.begin-in-Inside.result c.open.result (omega arith) c.new-source.ensures.text c.new-source.ensures.at c.begin-in-Inside.ensures.leaves c.open.ensures.leaves)
+    (room_ended g.B.Builder.maker _ c.args.source c.args.builder c.args.at c.args.head.part c.args.head.dim then.Inside c.args.head.end c.requires.between.same (subst (λ t. StandsHeader _ c.args.source.text.now c.args.at c.args.head.part c.args.head.dim t c.args.head.end) c.in-Inside.is c.requires.head) (rest_room c.requires.may) 1 c.new-source.result c.begin-in-Inside.result c.open.result (omega arith) c.new-source.ensures.text c.new-source.ensures.at c.begin-in-Inside.ensures.leaves c.open.ensures.leaves)
 
 pub returns-in-Outside-clause-on : goal.returns-in-Outside-clause-on
 returns-in-Outside-clause-on g c =
@@ -281,4 +282,4 @@ returns-in-Outside-clause-on g c =
 pub returns-in-Outside-clause-stands : goal.returns-in-Outside-clause-stands
 returns-in-Outside-clause-stands g c =
     subst (λ n. HasRoom (bytes_view (not (g.row.FEED_ENDS == 0))) g.B.Builder.maker n c.new-source.result c.empty.result) (sym (ap owed c.outside.ensures.state ∙ outside_owes _ _ _))
-    (room_ended g.B.Builder.maker _ c.args.source c.args.builder c.args.at c.args.head.part c.args.head.dim then.Outside c.args.head.end c.requires.between.same (subst (λ t. StandsHeader _ c.args.source.text.now c.args.at c.args.head.part c.args.head.dim t c.args.head.end) c.in-Outside.is c.requires.head) c.requires.room 6 c.new-source.result c.begin-in-Outside.result c.empty.result (omega arith) c.new-source.ensures.text c.new-source.ensures.at c.begin-in-Outside.ensures.leaves c.empty.ensures.leaves)
+    (room_ended g.B.Builder.maker _ c.args.source c.args.builder c.args.at c.args.head.part c.args.head.dim then.Outside c.args.head.end c.requires.between.same (subst (λ t. StandsHeader _ c.args.source.text.now c.args.at c.args.head.part c.args.head.dim t c.args.head.end) c.in-Outside.is c.requires.head) (rest_room c.requires.may) 6 c.new-source.result c.begin-in-Outside.result c.empty.result (omega arith) c.new-source.ensures.text c.new-source.ensures.at c.begin-in-Outside.ensures.leaves c.empty.ensures.leaves)

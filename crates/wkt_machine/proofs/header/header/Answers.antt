@@ -2,18 +2,12 @@
 use Rattle.std.proofs.Common.{◌≡◌, arith, codes, subst, take}
 use Rattle.std.specs.Bool.{OnTrue}
 use Rattle.std.proofs.lemmas.List.{take_rest}
-use Rattle.wkt_machine.specs.View.{bytes_view}
-use Rattle.wkt_machine.proofs.ByteSteps.{collection_name, point_name, polygon_name}
-use Rattle.wkt_machine.proofs.WaysJoin.{goes_if, refuses_if}
+use Rattle.wkt_machine.proofs.ByteSteps.{collection_name, multipoint_name, point_name, polygon_name}
+use Rattle.wkt_machine.proofs.StepsJoin.{then_steps}
 use Rattle.wkt_machine.proofs.header.header.Goals as goal
 
-pub returns-in-X-clause-on : goal.returns-in-X-clause-on
-returns-in-X-clause-on g c =
-    goes_if (bytes_view _) g.B.Builder.maker c.args.machine c.args.source c.args.builder c.behind-made.result c.coordinates.result c.behind-made.ensures.on c.coordinates.ensures.on
-
-pub returns-in-X-clause-refused : goal.returns-in-X-clause-refused
-returns-in-X-clause-refused g c =
-    refuses_if (bytes_view _) g.B.Builder.maker c.args.machine c.args.source c.args.builder c.behind-made.result c.coordinates.result c.behind-made.ensures.on c.coordinates.ensures.refused
+pub returns-in-X : goal.returns-in-X
+returns-in-X g c = then_steps c.behind-made.result _ c.behind-made.ensures.on c.coordinates.ensures
 
 pub plain-requires : goal.plain-requires
 plain-requires g c = (
@@ -53,6 +47,24 @@ plain-requires-2 g c = (
 
 pub plain-requires-3 : goal.plain-requires-3
 plain-requires-3 g c = (
+  omega arith,
+  (
+    multipoint_name,
+    (
+      omega arith,
+      (
+        omega arith,
+        (
+          c.skip_white-at.ensures.inside,
+          subst (λ t. OnTrue c.is_multipoint.result (take 10 t ≡ codes "MULTIPOINT")) (take_rest c.args.source.text.now c.skip_white-at.result) c.is_multipoint.ensures,
+        ),
+      ),
+    ),
+  ),
+)
+
+pub plain-requires-4 : goal.plain-requires-4
+plain-requires-4 g c = (
   omega arith,
   (
     collection_name,

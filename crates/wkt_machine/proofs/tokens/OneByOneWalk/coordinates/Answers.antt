@@ -1,45 +1,26 @@
 -- The second number goes on from the first.
-use Rattle.std.proofs.Common.{◌≡◌, rules, sym, subst, IfOk, IfErr}
-use Rattle.std.specs.Prelude.{Ok}
-use Rattle.wkt_machine.specs.Goes.{Goes, Refuses}
-use Rattle.wkt_machine.specs.Room.{RoomAt}
+use Rattle.std.proofs.Common.{rules, ap}
+use Rattle.wkt_machine.specs.Machine.{is_over, at}
+use Rattle.wkt_machine.specs.Machines.{place_of}
+use Rattle.wkt_machine.specs.Steps.{Steps}
 use Rattle.wkt_machine.specs.View.{tokens_view}
-use Rattle.wkt_machine.specs.declared.machine.State.TheVariants as next
-use Rattle.wkt_machine.proofs.RoomForRest.{stays_room, state_room}
-use Rattle.wkt_machine.proofs.Stepping.{from_goes}
-use Rattle.wkt_machine.proofs.WaysJoin.{looked_goes, looked_refuses, stays_refused}
+use Rattle.wkt_machine.proofs.StepsJoin.{goes_may, looked_at, looked_may, looked_steps, on_to, then_steps}
 use Rattle.wkt_machine.proofs.tokens.OneByOneWalk.coordinates.Goals as goal
 
-pub at_number-requires-in-Y-clause-sound : goal.at_number-requires-in-Y-clause-sound
-at_number-requires-in-Y-clause-sound g c = c.in_ok-behind.ensures.on.sound
-
-pub at_number-requires-in-Y-clause-room : goal.at_number-requires-in-Y-clause-room
-at_number-requires-in-Y-clause-room g c =
+pub at_number-requires-in-Y-clause-may : goal.at_number-requires-in-Y-clause-may
+at_number-requires-in-Y-clause-may g c =
     let to = c.in_ok-behind.field-0 in
-    stays_room (tokens_view g.T.WktNum.read) g.B.Builder.maker 0 to.source c.look-seen-in-Y.result.1 to.builder c.look-seen-in-Y.ensures.stays
-    (state_room (tokens_view g.T.WktNum.read) g.B.Builder.maker to.machine next.Y to.source to.builder c.in-Y.is c.in_ok-behind.ensures.room)
+    looked_at _ _ c.look-seen-in-Y.ensures.stays c.look-seen-in-Y.ensures.looked c.look-seen-in-Y.ensures.seen
+    (goes_may to c.in_ok-behind.ensures.on c.in_ok-behind.ensures.room (ap (λ s. is_over (at to.machine.depth (place_of s to.machine.part to.machine.dim))) c.in-Y.is) (looked_may _ c.look-seen.ensures.stays c.requires.may))
 
-pub returns-in_err-behind-clause-refused : goal.returns-in_err-behind-clause-refused
-returns-in_err-behind-clause-refused g c =
-    let refused : IfErr c.from_residual.result (Refuses (g.B.Builder.maker.reads c.args.builder) (tokens_view g.T.WktNum.read) g.B.Builder.maker c.args.machine c.look-seen.result.1 c.args.builder) = search rules in
-    stays_refused (g.B.Builder.maker.reads c.args.builder) (tokens_view g.T.WktNum.read) g.B.Builder.maker c.args.machine c.args.self c.look-seen.result.1 c.args.builder c.from_residual.result c.look-seen.ensures.stays refused
+pub returns-in-Y : goal.returns-in-Y
+returns-in-Y g c =
+    looked_steps _ _ c.look-seen.ensures.stays (then_steps c.in_ok-behind.field-0 _ c.in_ok-behind.ensures.on (looked_steps _ _ c.look-seen-in-Y.ensures.stays c.at_number-in-Y.ensures))
 
-pub returns-in-Y-clause-on : goal.returns-in-Y-clause-on
-returns-in-Y-clause-on g c =
-    let way = from_goes (g.B.Builder.maker.reads c.args.builder) (tokens_view g.T.WktNum.read) g.B.Builder.maker c.args.machine c.args.self c.look-seen.result.1 c.args.builder c.in_ok-behind.field-0 c.look-seen.ensures.stays c.in_ok-behind.ensures.on in
-    looked_goes (tokens_view g.T.WktNum.read) g.B.Builder.maker c.args.machine c.args.self c.look-seen-in-Y.result.1 c.args.builder c.in_ok-behind.field-0 c.at_number-in-Y.result way c.look-seen-in-Y.ensures.stays c.at_number-in-Y.ensures.on
-
-pub returns-in-Y-clause-refused : goal.returns-in-Y-clause-refused
-returns-in-Y-clause-refused g c =
-    let way = from_goes (g.B.Builder.maker.reads c.args.builder) (tokens_view g.T.WktNum.read) g.B.Builder.maker c.args.machine c.args.self c.look-seen.result.1 c.args.builder c.in_ok-behind.field-0 c.look-seen.ensures.stays c.in_ok-behind.ensures.on in
-    looked_refuses (tokens_view g.T.WktNum.read) g.B.Builder.maker c.args.machine c.args.self c.look-seen-in-Y.result.1 c.args.builder c.in_ok-behind.field-0 c.at_number-in-Y.result way c.look-seen-in-Y.ensures.stays c.at_number-in-Y.ensures.refused
+pub returns-in_err-behind : goal.returns-in_err-behind
+returns-in_err-behind g c =
+    let refused : Steps (tokens_view g.T.WktNum.read) g.B.Builder.maker c.args.machine c.look-seen.result.1 c.args.builder c.from_residual.result = record { on = search rules; room = search rules; refused = search rules } in
+    looked_steps _ _ c.look-seen.ensures.stays refused
 
 pub returns-in_default : goal.returns-in_default
-returns-in_default g c =
-    let to = c.in_ok-behind.field-0 in
-    let is : c.on.result ≡ Ok to = c.on.ensures in
-    record {
-      on = subst (λ r. IfOk r (Goes (g.B.Builder.maker.reads c.args.builder) (tokens_view g.T.WktNum.read) g.B.Builder.maker c.args.machine c.args.self c.args.builder)) (sym is) (from_goes (g.B.Builder.maker.reads c.args.builder) (tokens_view g.T.WktNum.read) g.B.Builder.maker c.args.machine c.args.self c.look-seen.result.1 c.args.builder c.in_ok-behind.field-0 c.look-seen.ensures.stays c.in_ok-behind.ensures.on);
-      room = subst (λ r. IfOk r (RoomAt (tokens_view g.T.WktNum.read) g.B.Builder.maker)) (sym is) c.in_ok-behind.ensures.room;
-      refused = subst (λ r. IfErr r (Refuses (g.B.Builder.maker.reads c.args.builder) (tokens_view g.T.WktNum.read) g.B.Builder.maker c.args.machine c.args.self c.args.builder)) (sym is) tt;
-    }
+returns-in_default g c = looked_steps _ _ c.look-seen.ensures.stays (on_to c.in_ok-behind.field-0 c.on.ensures c.in_ok-behind.ensures.on c.in_ok-behind.ensures.room)

@@ -1,17 +1,22 @@
 -- One number after another.
+use Rattle.std.proofs.Common.{subst, ap}
+use Rattle.std.proofs.lemmas.Bool.{ne_eqb}
 use Rattle.std.specs.Prelude.{not, ◌==◌}
 use Rattle.std.proofs.lemmas.Bool.{OnTrue_at, OnFalse_at}
 use Rattle.wkt_machine.specs.View.{bytes_view}
 use Rattle.wkt_machine.specs.Machines.{next_after}
 use Rattle.wkt_machine.specs.declared.machine.State.TheVariants as next
 use Rattle.wkt_machine.specs.declared.part.Axis.TheVariants as axis
-use Rattle.wkt_machine.proofs.WaysJoin.{on_true, on_false, way_on, way_stops, way_from, stop_from}
-use Rattle.wkt_machine.proofs.coordinates.deep_coordinate.Goals as goal
+use Rattle.wkt_machine.proofs.WaysJoin.{Way, on_true, on_false, way_on, way_stops, way_from, stop_from}
+use Rattle.wkt_machine.proofs.coordinates.coordinate.Goals as goal
 
 pub returns-then-not-has_y-clause-refused : goal.returns-then-not-has_y-clause-refused
 returns-then-not-has_y-clause-refused g c =
     stop_from (bytes_view (not (g.row.FEED_ENDS == 0))) g.B.Builder.maker c.args.machine next.X c.args.source c.args.builder _ c.requires.state
     (way_stops (bytes_view (not (g.row.FEED_ENDS == 0))) g.B.Builder.maker c.args.machine next.X next.Y next.Y c.args.source c.number-has_x.result.1 c.number-has_y.result.1 c.args.builder c.number-has_x.result.2 c.number-has_y.result.2 (OnTrue_at c.if-not-has_x.false c.number-has_x.ensures.on) (OnFalse_at c.if-not-has_y.true c.number-has_y.ensures.refused))
+
+pub returns-then-this-ne0-clause-on : goal.returns-then-this-ne0-clause-on
+returns-then-this-ne0-clause-on g c = way_from (bytes_view (not (g.row.FEED_ENDS == 0))) g.B.Builder.maker c.args.machine next.X c.args.source c.args.builder _ c.requires.state (way_on (bytes_view (not (g.row.FEED_ENDS == 0))) g.B.Builder.maker c.args.machine next.X next.Y next.Item c.args.source c.number-has_x.result.1 c.number-has_y.result.1 c.args.builder c.number-has_x.result.2 c.number-has_y.result.2 (OnTrue_at c.if-not-has_x.false c.number-has_x.ensures.on) (subst (λ d. Way (bytes_view (not (g.row.FEED_ENDS == 0))) g.B.Builder.maker c.args.machine next.Y c.number-has_x.result.1 c.number-has_x.result.2 (next_after axis.Y d) c.number-has_y.result.1 c.number-has_y.result.2) (OnTrue_at (ap not (ne_eqb g.row.IS_FLAT 0 c.if-this-ne0.true)) c.requires.flat) (OnTrue_at c.if-not-has_y.false c.number-has_y.ensures.on)))
 
 pub returns-clause-on : goal.returns-clause-on
 returns-clause-on g c =

@@ -5,7 +5,7 @@ use Rattle.wkt_events.specs.Remaining.{remaining_spanned}
 use Rattle.wkt_machine.specs.View.{bytes_view}
 use Rattle.wkt_machine.specs.Goes.{Leads}
 use Rattle.wkt_machine.specs.Room.{HasRoom}
-use Rattle.wkt_machine.proofs.coordinates.deep_coordinates_outlined.Given as goal
+use Rattle.wkt_machine.proofs.coordinates.coordinates_of.Given as goal
 
 abbrev pub invariant-coordinates : goal.invariant-coordinates
 invariant-coordinates g l =
