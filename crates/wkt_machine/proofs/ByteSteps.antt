@@ -237,6 +237,10 @@ pub multipoint_name : IsKindName part.MultiPoint (codes "MULTIPOINT")
 unfolding kind_word kind_words class_of
 multipoint_name = record { row = _; names = refl; kind = refl; joined = refl; letters = (refl, (refl, (refl, (refl, (refl, (refl, (refl, (refl, (refl, (refl, tt)))))))))); begins = refl }
 
+pub linestring_name : IsKindName part.LineString (codes "LINESTRING")
+unfolding kind_word kind_words class_of
+linestring_name = record { row = _; names = refl; kind = refl; joined = refl; letters = (refl, (refl, (refl, (refl, (refl, (refl, (refl, (refl, (refl, (refl, tt)))))))))); begins = refl }
+
 pub collection_name : IsKindName part.Collection (codes "GEOMETRYCOLLECTION")
 unfolding kind_word kind_words class_of
 collection_name = record { row = _; names = refl; kind = refl; joined = refl; letters = (refl, (refl, (refl, (refl, (refl, (refl, (refl, (refl, (refl, (refl, (refl, (refl, (refl, (refl, (refl, (refl, (refl, (refl, tt)))))))))))))))))); begins = refl }

@@ -30,6 +30,8 @@ const POIN: u32 = 0x4e49_4f50;
 
 const POLY: u32 = 0x594c_4f50;
 
+const LINESTRI: u64 = 0x49525453454e494c;
+
 const MULTIPOI: u64 = 0x494f_5049_544c_554d;
 
 const GEOMETRY: u64 = 0x5952_5445_4d4f_4547;
@@ -74,57 +76,42 @@ pub(crate) fn header<'a, T: WktNum, B: Builder<T>, const FEED_ENDS: bool, const 
 {
     let text = source.text;
     let at = skip_white::<FEED_ENDS>(text, source.at);
-    // For points-6 of bench/.
-    if let Some(head) = plain::<5, FEED_ENDS>(
-        Part::Point,
-        b"POINT",
-        is_point(&text[at..]),
-        text,
-        at,
-    ) {
-        let At {
-            source: behind,
-            machine: begun,
-            builder: made,
-        } = behind::<T, B, FEED_ENDS>(head, at, machine, source, builder);
-        return match begun.state {
-            State::X if has_coordinates(begun.part) => {
-                coordinates::<T, B, FEED_ENDS>(begun, behind, made)
+    let rest = &text[at..];
+    // Points are for points-6 of bench/, collections for nested-6, and the others for their rows of capi/bench/calls.sh:
+    // LINESTRING saves some 100 instructions of that of a collection.
+    let plain_head = if is_point(rest) {
+        match plain::<5, FEED_ENDS>(Part::Point, b"POINT", text, at) {
+            Some(head) => {
+                let At {
+                    source: behind,
+                    machine: begun,
+                    builder: made,
+                } = behind::<T, B, FEED_ENDS>(head, at, machine, source, builder);
+                return match begun.state {
+                    State::X if has_coordinates(begun.part) => {
+                        coordinates::<T, B, FEED_ENDS>(begun, behind, made)
+                    }
+                    _ => on(behind, begun, made),
+                };
             }
-            _ => on(behind, begun, made),
-        };
-    }
-    // For the polygons of capi/bench/calls.sh.
-    if let Some(head) = plain::<7, FEED_ENDS>(
-        Part::Polygon,
-        b"POLYGON",
-        is_polygon(&text[at..]),
-        text,
-        at,
-    ) {
-        return Ok(behind::<T, B, FEED_ENDS>(head, at, machine, source, builder));
-    }
-    // For the multipoints of capi/bench/calls.sh.
-    if let Some(head) = plain::<10, FEED_ENDS>(
-        Part::MultiPoint,
-        b"MULTIPOINT",
-        is_multipoint(&text[at..]),
-        text,
-        at,
-    ) {
-        return Ok(behind::<T, B, FEED_ENDS>(head, at, machine, source, builder));
-    }
-    // For nested-6 of bench/.
-    if let Some(head) = plain::<18, FEED_ENDS>(
-        Part::Collection,
-        b"GEOMETRYCOLLECTION",
-        is_collection(&text[at..]),
-        text,
-        at,
-    ) {
-        return Ok(behind::<T, B, FEED_ENDS>(head, at, machine, source, builder));
-    }
-    match any_form::<FEED_ENDS>(text, at) {
+            None => None,
+        }
+    } else if is_polygon(rest) {
+        plain::<7, FEED_ENDS>(Part::Polygon, b"POLYGON", text, at)
+    } else if is_multipoint(rest) {
+        plain::<10, FEED_ENDS>(Part::MultiPoint, b"MULTIPOINT", text, at)
+    } else if is_linestring(rest) {
+        plain::<10, FEED_ENDS>(Part::LineString, b"LINESTRING", text, at)
+    } else if is_collection(rest) {
+        plain::<18, FEED_ENDS>(Part::Collection, b"GEOMETRYCOLLECTION", text, at)
+    } else {
+        None
+    };
+    let head = match plain_head {
+        Some(head) => Some(head),
+        None => any_form::<FEED_ENDS>(text, at),
+    };
+    match head {
         Some(head) => Ok(behind::<T, B, FEED_ENDS>(head, at, machine, source, builder)),
         // Made anew, so that of the machine its depth alone is kept until here.
         None => machine
@@ -139,7 +126,6 @@ pub(crate) fn header<'a, T: WktNum, B: Builder<T>, const FEED_ENDS: bool, const 
 pub(crate) fn plain<const N: usize, const FEED_ENDS: bool>(
     part: Part,
     word: &[u8; N],
-    stands: bool,
     text: &[u8],
     at: usize,
 ) -> Option<Found>
@@ -147,15 +133,12 @@ pub(crate) fn plain<const N: usize, const FEED_ENDS: bool>(
     requires some { 0 < N }
     requires few { N ≤ 18 }
     requires inside { at ≤ length text.now }
-    requires stands { OnTrue stands (take N (drop at text.now) ≡ word.now) }
+    requires stands { take N (drop at text.now) ≡ word.now }
     ensures word { IfSome result (λ h. h.then ≡ then.Inside → StandsHead FEED_ENDS text.now at part h.end) }
     ensures header { IfSome result (λ h. StandsHeader FEED_ENDS text.now at h.part h.dim h.then h.end) }
     ensures inside { IfSome result (λ h. h.end ≤ length text.now) }
 {
     let _ = word;
-    if !stands {
-        return None;
-    }
     if text.len() - at < N + 2 {
         return None;
     }
@@ -213,6 +196,26 @@ fn is_polygon(bytes: &[u8]) -> bool
         return false;
     }
     if bytes[6] != b'N' {
+        return false;
+    }
+    true
+}
+
+/// Whether the bytes begin with `LINESTRING` in capitals, by three comparisons.
+#[inline(always)]
+fn is_linestring(bytes: &[u8]) -> bool
+    ensures { OnTrue result (take 10 bytes.now ≡ codes "LINESTRING") }
+{
+    if bytes.len() < 10 {
+        return false;
+    }
+    if eight_bytes(bytes) != LINESTRI {
+        return false;
+    }
+    if bytes[8] != b'N' {
+        return false;
+    }
+    if bytes[9] != b'G' {
         return false;
     }
     true

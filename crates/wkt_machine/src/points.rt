@@ -26,7 +26,10 @@ pub struct FastPoint {
 pub fn fast_point(places: u32, text: &[u8]) -> Option<FastPoint>
     ensures { IfSome result (λ p. IsPointFront places text.now p.x p.y p.end) }
 {
-    let head = plain::<5, false>(Part::Point, b"POINT", is_point(text), text, 0)?;
+    if !is_point(text) {
+        return None;
+    }
+    let head = plain::<5, false>(Part::Point, b"POINT", text, 0)?;
     let Then::Inside = head.then else {
         return None;
     };

@@ -1,6 +1,5 @@
 -- The word stands there, and the parenthesis or EMPTY behind it.
 use Rattle.std.proofs.Common.{◌+◌, ◌<◌, ◌≡◌, ◌≤◌, Bool, List, arith, drop, get_or, inl, length, refl, subst, sym, take, true, ℕ}
-use Rattle.std.specs.Bool.{OnTrue}
 use Rattle.wkt_access.specs.declared.dimensions.Dimension.TheVariants.{XY}
 use Rattle.wkt_num.specs.Bytes.{Word}
 use Rattle.wkt_read.specs.Grammar.{is_empty_word}
@@ -43,7 +42,7 @@ returns-then-text-behind-eq40-clause-word g c inside_ =
     let long = c.if-text-at.false in
     let inside = c.requires.inside in
     head_stands _ c.args.text.now c.args.at c.args.part c.args.word.now g.row.N (c.args.at + g.row.N + 1) c.requires.name (omega (arith, long, inside))
-    (subst (λ b. OnTrue b (take g.row.N (drop c.args.at c.args.text.now) ≡ c.args.word.now)) c.if-not-stands.false c.requires.stands) c.requires.some (ends_open _ c.args.text.now (c.args.at + g.row.N) c.if-text-behind-eq40.true)
+    c.requires.stands c.requires.some (ends_open _ c.args.text.now (c.args.at + g.row.N) c.if-text-behind-eq40.true)
 
 pub returns-then-text-behind-eq40-clause-header : goal.returns-then-text-behind-eq40-clause-header
 returns-then-text-behind-eq40-clause-header g c = flat_header _ c.args.text.now c.args.at c.args.part (c.args.at + g.row.N + 1) (returns-then-text-behind-eq40-clause-word g c refl)
@@ -53,7 +52,7 @@ returns-then-text-behind-eq40-2-clause-word g c inside_ =
     let long = c.if-text-at.false in
     let inside = c.requires.inside in
     head_stands _ c.args.text.now c.args.at c.args.part c.args.word.now g.row.N (c.args.at + g.row.N + 2) c.requires.name (omega (arith, long, inside))
-    (subst (λ b. OnTrue b (take g.row.N (drop c.args.at c.args.text.now) ≡ c.args.word.now)) c.if-not-stands.false c.requires.stands) c.requires.some (ends_spaced _ c.args.text.now (c.args.at + g.row.N) c.if-text-behind-ne32.false c.if-text-behind-eq40-2.true)
+    c.requires.stands c.requires.some (ends_spaced _ c.args.text.now (c.args.at + g.row.N) c.if-text-behind-ne32.false c.if-text-behind-eq40-2.true)
 
 pub returns-then-text-behind-eq40-2-clause-header : goal.returns-then-text-behind-eq40-2-clause-header
 returns-then-text-behind-eq40-2-clause-header g c = flat_header _ c.args.text.now c.args.at c.args.part (c.args.at + g.row.N + 2) (returns-then-text-behind-eq40-2-clause-word g c refl)
@@ -63,7 +62,7 @@ returns-in_ok-empty_at-clause-header g c =
     let long = c.if-text-at.false in
     let inside = c.requires.inside in
     empty_header _ c.args.text.now c.args.at g.row.N c.in_ok-empty_at.field-0 c.args.part c.args.word.now c.requires.name (omega (arith, long, inside))
-    (subst (λ b. OnTrue b (take g.row.N (drop c.args.at c.args.text.now) ≡ c.args.word.now)) c.if-not-stands.false c.requires.stands) c.requires.some c.if-text-behind-ne32.false c.in_ok-empty_at.ensures
+    c.requires.stands c.requires.some c.if-text-behind-ne32.false c.in_ok-empty_at.ensures
 
 pub returns-in_ok-empty_at-clause-word : goal.returns-in_ok-empty_at-clause-word
 returns-in_ok-empty_at-clause-word g c e = cc

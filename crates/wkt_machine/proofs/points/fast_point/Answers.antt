@@ -1,5 +1,6 @@
 -- The head, two numbers and a parenthesis stand there.
 use Rattle.std.proofs.Common.{arith}
+use Rattle.std.proofs.lemmas.Bool.{OnTrue_at}
 use Rattle.wkt_machine.proofs.ByteSteps.{point_name, point-held, shuts}
 use Rattle.wkt_machine.proofs.points.fast_point.Goals as goal
 
@@ -11,4 +12,4 @@ returns c =
     (shuts c.args.text.now c.in_ok-y.behind c.skip_white-close.result c.byte_at.result c.skip_white-close.ensures.order c.skip_white-close.ensures.same c.byte_at.ensures.value c.if-byte_at-ne41.false) fx fy
 
 pub plain-requires : goal.plain-requires
-plain-requires c = (omega arith, (point_name, (omega arith, (omega arith, (omega arith, c.is_point.ensures)))))
+plain-requires c = (omega arith, (point_name, (omega arith, (omega arith, (omega arith, OnTrue_at c.if-not-is_point.false c.is_point.ensures)))))
