@@ -126,7 +126,7 @@ fn place<'a>(refusal: TextRefusal<'a>) -> (&'a [u8], usize) {
     }
 }
 
-/// A text as JSON has it; null where it is empty. What isn't printable is escaped there too.
+/// A text as JSON has it, where what isn't printable is escaped too; null where it is empty.
 #[derive(Clone, Copy)]
 struct Quoted<'a>(&'a str);
 
