@@ -10,7 +10,7 @@
 # out of memory, which no wrong value does, or to pass.
 #
 # The gate runs it on what it has built; alone, build all of them first (rt run in crates/wktline, crates/wktstream,
-# crates/wkt_command, crates/wkt_tables and crates/wkt_operations, rt test in crates/wkt, crates/wkt_machine and crates/wkt_callers).
+# crates/wkt_command, crates/wkt_tables and crates/wkt_operations, rt test in crates/wkt, crates/wkt_machine and crates/wkt_examples).
 set -u
 cd "$(dirname "$0")/../.." || exit 1
 dir=$(mktemp -d)
@@ -108,7 +108,7 @@ each wkt_command "$dir/lines" 1 2 1 check --max 0
 each wkt_command /dev/null 0 2 1 same 'LINESTRING(1 2,3 4)' 'linestring ( 1.0 2, 3 +4)'
 each_test wkt
 each_test wkt_machine value_tests::
-each_test wkt_callers rows::
+each_test wkt_examples rows::
 
 # nested N: a point in so many collections
 nested() { printf 'GEOMETRYCOLLECTION(%.0s' $(seq "$1"); printf 'POINT(1 2)'; printf ')%.0s' $(seq "$1"); }

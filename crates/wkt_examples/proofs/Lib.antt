@@ -1,1 +1,3 @@
 pub mod Ordering
+pub mod Keys
+pub mod Groups

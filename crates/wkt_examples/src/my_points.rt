@@ -1,5 +1,5 @@
 //! A custom representation over whole numbers, by the access traits: coordinates and points.
-//! `wkt_callers/src/my_map.rt` has the other kinds.
+//! `my_map` has the other kinds.
 ghost use Rattle.std.specs.Prelude.{◌≤◌, map, vec_len};
 ghost use Rattle.wkt.specs.Dimensions.TheVariants.{Unknown};
 

@@ -3,7 +3,7 @@
 //!
 //! Below stand `wkt`, the crates that it is made of, and `wkt_lines`; above, `wkt_tables`, which uses `support`. Nothing
 //! that users build depends on this crate. Tests that need no reading are those of `wkt_type_tests`, and tests of proved
-//! callers those of `wkt_callers`.
+//! callers those of `wkt_examples`.
 #![tactic(auto)]
 
 #[cfg(test)]
