@@ -35,7 +35,8 @@ typedef struct {
     Py_ssize_t length;
 } Cell;
 
-/* A column, block by block: as many rows as have about a megabyte. It is a list or a tuple, or Arrow's buffers. */
+/* A column, block by block: as many rows as have about a megabyte, of a list or a tuple up to the first long one; or of
+ * Arrow's buffers. */
 typedef struct {
     State *state;
     PyObject *rows;   /* of nobody else, so that they stay as they are */
@@ -45,6 +46,7 @@ typedef struct {
     PyObject *null;   /* the last null row that Python knew */
     Py_buffer data, offsets, bits;
     Py_ssize_t count, first, last; /* all rows; the block */
+    Py_ssize_t unsaid;             /* bytes since `report` was called */
     Cell *cells, *others;          /* of rows; buffers need none */
     uint32_t *statuses;
 } Walk;
@@ -75,9 +77,9 @@ PyObject *lent_room(State *state, Room *room, int writable);
 wkt_status answer(State *state, const Cell *cell, uint32_t places, Room *out, size_t *end);
 wkt_status status_of(State *state, const Cell *cell, uint32_t places);
 wkt_status compared(State *state, const Cell *one, const Cell *other, uint32_t places, uint32_t *same);
-/* From where on other threads run during a call for one text. */
+/* From where on other threads run during a call for one text, and a row of a list is answered by itself. */
 enum { LONG_TEXT = 4096, LONG_ROW = 512, MOST_PLACES = 36 };
-/* What a block has, between which signals are handled. */
+/* What a block has at most, but for its last row. Signals are handled between blocks. */
 enum { MOST_ROWS = 1 << 15, MOST_BYTES = 1 << 20 };
 
 PyObject *fast_canonical(PyObject *self, PyObject *const *args, Py_ssize_t count);

@@ -1,5 +1,5 @@
-/* Columns by blocks of about a megabyte. The texts of a block are where Python or Arrow has them: nothing is copied but
- * what is neither str nor bytes. */
+/* Columns by blocks of about a megabyte, and each long row of a list by itself. The texts of a block are where Python or
+ * Arrow has them: nothing is copied but what is neither str nor bytes. */
 #include "fast.h"
 
 int has_count(Py_ssize_t count, Py_ssize_t wanted) {
@@ -212,25 +212,32 @@ Cell walk_cell(const Walk *walk, Py_ssize_t i) {
     return (Cell){end == start ? "" : (const char *)walk->data.buf + start, end - start};
 }
 
-static int reported(const Walk *walk) {
+/* Says how many rows are done, about once a megabyte and at the end. */
+static int reported(Walk *walk) {
     PyObject *made;
-    if (walk->report == Py_None || walk->last == 0) return 0;
+    if (walk->report == Py_None || walk->last == 0 || (walk->unsaid < MOST_BYTES && walk->last < walk->count)) return 0;
+    walk->unsaid = 0;
     made = PyObject_CallFunction(walk->report, "n", walk->last);
     Py_XDECREF(made);
     return made == NULL ? -1 : 0;
 }
 
-/* The end of the block that begins at walk->last. */
+/* The end of the block that begins at walk->last. A long row ends it, so that its answer is copied while it is in the
+ * processor's cache. */
 static int block_of_rows(Walk *walk) {
-    Py_ssize_t bytes = 0;
-    while (walk->last < walk->count && walk->last - walk->first < MOST_ROWS && bytes < MOST_BYTES) {
+    Py_ssize_t bytes = 0, length = 0;
+    while (walk->last < walk->count && walk->last - walk->first < MOST_ROWS && bytes < MOST_BYTES &&
+           length < LONG_TEXT) {
         Py_ssize_t at = walk->last++, i = at - walk->first;
         if (row_in(walk, row_at(walk->rows, at), at, &walk->cells[i]) < 0) return -1;
-        bytes += walk->cells[i].length;
-        if (walk->other == NULL) continue;
-        if (row_in(walk, row_at(walk->other, at), at, &walk->others[i]) < 0) return -1;
-        bytes += walk->others[i].length;
+        length = walk->cells[i].length;
+        if (walk->other != NULL) {
+            if (row_in(walk, row_at(walk->other, at), at, &walk->others[i]) < 0) return -1;
+            length += walk->others[i].length;
+        }
+        bytes += length;
     }
+    walk->unsaid += walk->last - walk->first < MOST_ROWS ? bytes : MOST_BYTES;
     return 0;
 }
 
@@ -246,6 +253,7 @@ static void block_of_buffers(Walk *walk) {
             high = middle;
     }
     walk->last = low;
+    walk->unsaid = MOST_BYTES;
 }
 
 int walk_next(Walk *walk) {

@@ -6,7 +6,7 @@ import unittest
 import unittest.mock
 
 import wkt
-from modules import installed
+from modules import installed, patched
 from wkt._native import _fast as compiled
 
 numpy, pandas, tqdm = installed("numpy"), installed("pandas"), installed("tqdm")
@@ -238,6 +238,21 @@ class Kinds(unittest.TestCase):
         self.assertEqual(wkt.canonical(arrow([])).to_pylist(), [])
         many = ["MULTIPOINT(" + ",".join(["EMPTY"] * 50) + ")", "MULTIPOINT(" + ",".join(["1 2"] * 50) + ")"]
         self.assertEqual(wkt.canonical(arrow(many)).to_pylist(), wkt.canonical(many))
+
+    def test_long_rows(self):
+        """A long row is answered where the one before was: its answer is copied while the processor has it at hand."""
+        if compiled is None:
+            return
+        rows = ["LINESTRING(%d 1.0%s)" % (i, ",1.0 2" * 1000) for i in range(300)]
+        for call in (wkt.canonical, wkt.lines):
+            given = []
+            with patched("wkt_canonical", lambda status, *its: given.append(its)):
+                call(rows)
+            self.assertEqual((len(given), len({it[3] for it in given})), (300, 1))
+        # Who waits is told of about a megabyte, and not of each row.
+        seen = []
+        wkt.canonical(rows, progress=seen.append)
+        self.assertEqual(seen, [175, 300])
 
     def test_long_columns(self):
         """More rows than a block has."""
