@@ -17,10 +17,10 @@ static const struct {
     const char *name;
     size_t offset;
     int is_function;
-} parts[] = {FUNCTION(canonical), FUNCTION(same),        FUNCTION(infer),       FUNCTION(explain), FUNCTION(hint),
-             FUNCTION(arrays),    FUNCTION(from_arrays), FUNCTION(lines),       OBJECT(places_of), OBJECT(text_of),
-             OBJECT(refuse),      OBJECT(refuse_two),    OBJECT(refuse_header), OBJECT(one_text),  OBJECT(Arrays),
-             OBJECT(KINDS),       OBJECT(DIMENSIONS)};
+} parts[] = {FUNCTION(canonical), FUNCTION(same),        FUNCTION(infer),       FUNCTION(explain),   FUNCTION(hint),
+             FUNCTION(arrays),    FUNCTION(from_arrays), FUNCTION(lines),       OBJECT(places_of),   OBJECT(text_of),
+             OBJECT(refuse),      OBJECT(refuse_two),    OBJECT(refuse_header), OBJECT(explanation), OBJECT(one_text),
+             OBJECT(Arrays),      OBJECT(KINDS),         OBJECT(DIMENSIONS)};
 enum { PARTS = sizeof parts / sizeof *parts };
 
 /* The 28 answers of infer. */
@@ -108,6 +108,7 @@ static PyMethodDef methods[] = {
     FAST(lines, "lines(text, places) -> bytes"),
     FAST(canonical_rows, "canonical_rows(rows, places, invalid, report, statuses or None) -> list"),
     FAST(statuses, "statuses(rows, places, report) -> uint32s"),
+    FAST(explain_rows, "explain_rows(rows, places, report) -> list"),
     FAST(same_rows, "same_rows(rows, rows or canonical text, places, invalid, report) -> list"),
     FAST(infer_rows, "infer_rows(rows, invalid) -> list"),
     FAST(lines_rows, "lines_rows(rows, places) -> list"),

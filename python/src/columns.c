@@ -105,6 +105,42 @@ done:
     return texts;
 }
 
+/* What the package makes of why a row is refused; None of one that is read or null. */
+static PyObject *explanation(const Walk *walk, Py_ssize_t i, uint32_t places, const Why *why) {
+    PyObject *row = row_at(walk->rows, walk->first + i);
+    if (why->status == WKT_ACCEPTED || why->status == WKT_NULL) return Py_NewRef(Py_None);
+    return PyObject_CallFunction(walk->state->explanation, "OIIInnI", row, places, why->status, why->message,
+                                 (Py_ssize_t)why->start, (Py_ssize_t)why->stop, why->expected);
+}
+
+/* (rows, places, report) -> list of explanations and None */
+PyObject *fast_explain_rows(PyObject *self, PyObject *const *args, Py_ssize_t count) {
+    Room whys = {NULL, sizeof(Why), 0, 0};
+    PyObject *made = NULL;
+    unsigned long places;
+    Walk walk;
+    int more = -1;
+    if (!has_count(count, 3) || (places = PyLong_AsUnsignedLong(args[1])) > UINT32_MAX) return NULL;
+    if (walk_rows(&walk, state_of(self), args[0], NULL, args[2]) == 0 && (made = PyList_New(0)) != NULL)
+        while ((more = walk_next(&walk)) > 0) {
+            Py_ssize_t rows = walk.last - walk.first;
+            if (room_holds(&whys, (size_t)rows) < 0) more = (PyErr_NoMemory(), -1);
+            Py_BEGIN_ALLOW_THREADS
+            for (Py_ssize_t i = 0; more >= 0 && i < rows; i++)
+                ((Why *)whys.items)[i] = walk.cells[i].text == NULL
+                                             ? (Why){.status = WKT_NULL}
+                                             : why_of(walk.state, &walk.cells[i], (uint32_t)places);
+            Py_END_ALLOW_THREADS
+            for (Py_ssize_t i = 0; more >= 0 && i < rows; i++)
+                more = append(made, explanation(&walk, i, (uint32_t)places, (Why *)whys.items + i));
+            if (more < 0) break;
+        }
+    walk_end(&walk);
+    free(whys.items);
+    if (more < 0) Py_CLEAR(made);
+    return made;
+}
+
 /* The rows of a block of two columns, each beside the other. A refused row has its status in `ones` or `others`. */
 typedef struct {
     uint32_t same, one, other;

@@ -21,6 +21,7 @@ typedef struct {
     PyObject *refuse;        /* (status, text, places, number): raises */
     PyObject *refuse_two;    /* (status, one, other, places, number): raises */
     PyObject *refuse_header; /* (status, number): raises */
+    PyObject *explanation;   /* (row, places, status, message, start, stop, expected) -> Explanation or None */
     PyObject *one_text;      /* (arrays, places, number) -> the text of what isn't as mostly */
     PyObject *Arrays, *KINDS, *DIMENSIONS;
     PyObject *headers[7][4]; /* (kind, dimension) */
@@ -77,6 +78,13 @@ PyObject *lent_room(State *state, Room *room, int writable);
 wkt_status answer(State *state, const Cell *cell, uint32_t places, Room *out, size_t *end);
 wkt_status status_of(State *state, const Cell *cell, uint32_t places);
 wkt_status compared(State *state, const Cell *one, const Cell *other, uint32_t places, uint32_t *same);
+/* Where and why a text is refused. */
+typedef struct {
+    wkt_status status;
+    uint32_t message, expected;
+    size_t start, stop;
+} Why;
+Why why_of(State *state, const Cell *cell, uint32_t places);
 /* From where on other threads run during a call for one text, and a row of a list is answered by itself. */
 enum { LONG_TEXT = 4096, LONG_ROW = 512, MOST_PLACES = 36 };
 /* What a block has at most, but for its last row. Signals are handled between blocks. */
@@ -92,6 +100,7 @@ PyObject *fast_lines(PyObject *self, PyObject *const *args, Py_ssize_t count);
 PyObject *fast_hint(PyObject *self, PyObject *const *args, Py_ssize_t count);
 PyObject *fast_canonical_rows(PyObject *self, PyObject *const *args, Py_ssize_t count);
 PyObject *fast_statuses(PyObject *self, PyObject *const *args, Py_ssize_t count);
+PyObject *fast_explain_rows(PyObject *self, PyObject *const *args, Py_ssize_t count);
 PyObject *fast_same_rows(PyObject *self, PyObject *const *args, Py_ssize_t count);
 PyObject *fast_infer_rows(PyObject *self, PyObject *const *args, Py_ssize_t count);
 PyObject *fast_lines_rows(PyObject *self, PyObject *const *args, Py_ssize_t count);

@@ -126,22 +126,27 @@ PyObject *fast_infer(PyObject *self, PyObject *text) {
     return Py_NewRef(state->headers[kind % 7][dimension % 4]);
 }
 
+Why why_of(State *state, const Cell *cell, uint32_t places) {
+    Why why = {0};
+    why.status = state->explain((const uint8_t *)cell->text, (size_t)cell->length, places, &why.message, &why.start,
+                                &why.stop, &why.expected);
+    return why;
+}
+
 /* (bytes, places) -> (status, message, start, stop, expected) */
 PyObject *fast_explain(PyObject *self, PyObject *const *args, Py_ssize_t count) {
     State *state = state_of(self);
-    uint32_t message = 0, expected = 0;
-    size_t start = 0, stop = 0;
     char *text;
-    Py_ssize_t length;
+    Cell cell;
     unsigned long places;
-    wkt_status status;
-    if (!has_count(count, 2) || PyBytes_AsStringAndSize(args[0], &text, &length) < 0) return NULL;
+    Why why;
+    if (!has_count(count, 2) || PyBytes_AsStringAndSize(args[0], &text, &cell.length) < 0) return NULL;
     if ((places = PyLong_AsUnsignedLong(args[1])) == (unsigned long)-1 && PyErr_Occurred()) return NULL;
+    cell.text = text;
     Py_BEGIN_ALLOW_THREADS
-    status =
-        state->explain((const uint8_t *)text, (size_t)length, (uint32_t)places, &message, &start, &stop, &expected);
+    why = why_of(state, &cell, (uint32_t)places);
     Py_END_ALLOW_THREADS
-    return Py_BuildValue("IInnI", status, message, (Py_ssize_t)start, (Py_ssize_t)stop, expected);
+    return Py_BuildValue("IInnI", why.status, why.message, (Py_ssize_t)why.start, (Py_ssize_t)why.stop, why.expected);
 }
 
 /* (bytes, places) -> (status, hint) */

@@ -266,6 +266,7 @@ class Memory(Arrow):
             (lambda: len(_fast.arrays(long, 6, True)), 5),
             (lambda: _fast.canonical_rows(rows, 18, 1, None, None), wanted[0]),
             (lambda: list(memoryview(_fast.statuses(rows, 18, None)).cast("B").cast("I")), wanted[1]),
+            (lambda: [why and why.start for why in _fast.explain_rows(["POINT(1", *texts], 18, None)], [7, None, None]),
             (lambda: _fast.same_rows(texts, texts, 18, 0, None), [True, True]),
             (lambda: _fast.same_rows(texts, "POINT(1 2)", 18, 0, None), [False, True]),
             (lambda: _fast.infer_rows(texts, 0), [("MultiPoint", "XY"), ("Point", "XY")]),

@@ -254,6 +254,16 @@ class Kinds(unittest.TestCase):
         wkt.canonical(rows, progress=seen.append)
         self.assertEqual(seen, [175, 300])
 
+    def test_explained_rows_are_read_once(self):
+        """The call that reads a row says why it is refused."""
+        if compiled is None:
+            return
+        given = []
+        with patched("wkt_canonical", lambda status, *its: given.append(its)):
+            with patched("wkt_explain", lambda status, *its: given.append(its)):
+                self.assertEqual([why and why.start for why in wkt.explain(TEXTS)], [None, None, None, 0, None])
+        self.assertEqual(len(given), 4)
+
     def test_long_columns(self):
         """More rows than a block has."""
         rows = 150_001

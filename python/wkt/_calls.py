@@ -3,11 +3,11 @@ from typing import Any, List, NamedTuple, Optional, Tuple
 
 from . import _arrow
 from ._columns import (
-    INVALID, canonical_like, canonical_rows, check_invalid, column_of, is_column, is_series, like, or_null, refused_of,
-    series_like, statuses_of,
+    INVALID, canonical_like, canonical_rows, check_invalid, column_of, is_column, is_series, like, or_null, series_like,
+    statuses_of,
 )  # fmt: skip
 from ._errors import check
-from ._explain import Explanation, explained
+from ._explain import explained
 from ._names import HEADER_MESSAGES, MESSAGES
 from ._native import bind, calls
 from ._progress import Progress, shown
@@ -179,10 +179,8 @@ def explain(text: Any, places: int = 18, progress: Progress = None, whole: bool 
     if not is_column(text):
         return explained(text, places)
     rows = column_of(text)
-    answers: List[Optional[Explanation]] = [None] * len(rows)
-    for i in refused_of(statuses_of(rows, places, progress)):
-        answers[i] = or_null("null", None, lambda: explained(rows[i], places))
-    return series_like(text, answers)
+    with shown(progress, len(rows)) as report:
+        return series_like(text, calls.explain_rows(rows, places, report))
 
 
 def lines(data: Any, places: int = 18) -> Any:

@@ -109,7 +109,12 @@ def _hint(data: bytes, word: bytes, places: int) -> Tuple[str, str]:
 def explained(text: Text, places: int) -> Optional[Explanation]:
     """Where and why a text is refused; None where it is read."""
     data = encoded(text)
-    status, message, first, last, expected = calls.explain(data, places)
+    return _explanation(text, data, places, *calls.explain(data, places))
+
+
+def _explanation(
+    text: Text, data: bytes, places: int, status: int, message: int, first: int, last: int, expected: int
+) -> Optional[Explanation]:
     if status == ACCEPTED:
         return None
     if status != NOT_WHOLE:
@@ -168,6 +173,13 @@ def refusal(status: int, text: Text, places: int, row: Optional[int] = None) -> 
     return WktError(status, words_of(status), row, explanation)
 
 
+def _explained_row(row: Text, places: int, *why: int) -> Optional[Explanation]:
+    try:
+        return _explanation(row, encoded(row), places, *why)
+    except WktError:  # no place can be named
+        return None
+
+
 def _refuse(status: int, text: Text, places: int, row: Optional[int]) -> NoReturn:
     raise refusal(status, text, places, row)
 
@@ -179,5 +191,6 @@ def _refuse_two(status: int, one: Text, other: Text, places: int, row: Optional[
     raise refusal(status, one if explained(one, places) is not None else other, places, row)
 
 
+bind("explanation", _explained_row)
 bind("refuse", _refuse)
 bind("refuse_two", _refuse_two)

@@ -206,6 +206,15 @@ def statuses(rows: Sequence[Any], places: int, report: _Report) -> Any:
     return made
 
 
+def explain_rows(rows: Sequence[Any], places: int, report: _Report) -> List[Any]:
+    answers: List[Any] = [None] * len(rows)
+    for i, status in enumerate(statuses(rows, places, report)):
+        if status not in (OK, NULL):
+            data = _bound["text_of"](rows[i], i)
+            answers[i] = _bound["explanation"](rows[i], places, *explain(data, places))
+    return answers
+
+
 def same_rows(ones: Sequence[Any], others: Any, places: int, invalid: int, report: _Report) -> List[Optional[bool]]:
     if isinstance(others, str):
         return [it and it == others for it in canonical_rows(ones, places, invalid, report, None)]
