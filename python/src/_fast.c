@@ -19,8 +19,8 @@ static const struct {
     int is_function;
 } parts[] = {FUNCTION(canonical), FUNCTION(same),        FUNCTION(infer),       FUNCTION(explain),   FUNCTION(hint),
              FUNCTION(arrays),    FUNCTION(from_arrays), FUNCTION(lines),       OBJECT(places_of),   OBJECT(text_of),
-             OBJECT(refuse),      OBJECT(refuse_two),    OBJECT(refuse_header), OBJECT(explanation), OBJECT(one_text),
-             OBJECT(Arrays),      OBJECT(KINDS),         OBJECT(DIMENSIONS)};
+             OBJECT(refuse),      OBJECT(refuse_two),    OBJECT(refuse_header), OBJECT(explanation), OBJECT(array_of),
+             OBJECT(one_text),    OBJECT(Arrays),        OBJECT(KINDS),         OBJECT(DIMENSIONS)};
 enum { PARTS = sizeof parts / sizeof *parts };
 
 /* The 28 answers of infer. */
@@ -117,7 +117,7 @@ static PyMethodDef methods[] = {
     FAST(distinct, "distinct((data, offsets, bits, rows), 16 random bytes) -> (data, offsets, int32 of each row)"),
     FAST(arrays, "arrays(text, places, whole) -> Arrays"),
     FAST(arrays_rows, "arrays_rows(rows or buffers, places, report, are buffers) -> nine buffers"),
-    FAST(cut, "cut(ColumnArrays, whether rings and polygons are shared) -> list of Arrays"),
+    FAST(arrays_list, "arrays_list(rows, places, invalid, report, whether rings and polygons are shared) -> list"),
     FAST(from_arrays_rows, "from_arrays_rows(rows, places or None, numbered) -> list"),
     {"unpack", unpack, METH_VARARGS, "unpack(bytes, int64 offsets, uint32 statuses) -> list of str and None"},
     {"arrow_array", arrow_array, METH_VARARGS,

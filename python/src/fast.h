@@ -22,6 +22,7 @@ typedef struct {
     PyObject *refuse_two;    /* (status, one, other, places, number): raises */
     PyObject *refuse_header; /* (status, number): raises */
     PyObject *explanation;   /* (row, places, status, message, start, stop, expected) -> Explanation or None */
+    PyObject *array_of;      /* (code, buffer) -> an array over its items */
     PyObject *one_text;      /* (arrays, places, number) -> the text of what isn't as mostly */
     PyObject *Arrays, *KINDS, *DIMENSIONS;
     PyObject *headers[7][4]; /* (kind, dimension) */
@@ -108,6 +109,6 @@ PyObject *fast_canonical_buffers(PyObject *self, PyObject *const *args, Py_ssize
 PyObject *fast_distinct(PyObject *self, PyObject *const *args, Py_ssize_t count);
 PyObject *fast_arrays(PyObject *self, PyObject *const *args, Py_ssize_t count);
 PyObject *fast_arrays_rows(PyObject *self, PyObject *const *args, Py_ssize_t count);
-PyObject *fast_cut(PyObject *self, PyObject *const *args, Py_ssize_t count);
+PyObject *fast_arrays_list(PyObject *self, PyObject *const *args, Py_ssize_t count);
 PyObject *fast_from_arrays_rows(PyObject *self, PyObject *const *args, Py_ssize_t count);
 #endif

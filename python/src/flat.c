@@ -117,32 +117,6 @@ PyObject *fast_arrays_rows(PyObject *self, PyObject *const *args, Py_ssize_t cou
     return made;
 }
 
-/* (text, places, whole) -> (kind, dimension, numbers, rings, polygons), the last three as buffers */
-PyObject *fast_arrays(PyObject *self, PyObject *const *args, Py_ssize_t count) {
-    State *state = state_of(self);
-    PyObject *held, *made = NULL;
-    Cell cell;
-    Flat flat;
-    uint32_t places;
-    WktSizes sizes;
-    wkt_status status;
-    if (!has_count(count, 3) || places_in(state, args[1], args[2], &places) < 0) return NULL;
-    if (text_in(state, args[0], &cell, &held) < 0) return NULL;
-    if (flat_start(&flat) == 0) {
-        Py_BEGIN_ALLOW_THREADS
-        status = flatten(state, &cell, places, &flat, &sizes);
-        Py_END_ALLOW_THREADS
-        if (status == WKT_OK)
-            made = Py_BuildValue("IINNN", sizes.kind, sizes.dimension, lent_room(state, &flat.three[NUMBERS], 1),
-                                 lent_room(state, &flat.three[RINGS], 1), lent_room(state, &flat.three[POLYGONS], 1));
-        else
-            refused(state, status, args[0], places, -1);
-    }
-    flat_end(&flat);
-    Py_XDECREF(held);
-    return made;
-}
-
 /* A tuple of the class Arrays, without a call of Python for each. */
 static PyObject *made_arrays(State *state, PyObject *six) {
     newfunc make = (newfunc)PyType_GetSlot(&PyTuple_Type, Py_tp_new);
@@ -152,86 +126,138 @@ static PyObject *made_arrays(State *state, PyObject *six) {
     return made;
 }
 
-/* ColumnArrays, and of rings and polygons the part that the row before has: many rows have the same. */
+/* The arrays of a block's rows, and of rings and polygons the part that the row before has: many rows have the same, and
+ * share it where nobody can write it. */
 typedef struct {
     State *state;
-    PyObject *column;
-    int shares; /* whether parts can be shared, which nobody can write */
-    Py_buffer views[10];
-    PyObject *before[10];
-    int64_t start[10], end[10];
+    const Flat *flat;
+    int shares;
+    PyObject *arrays[THREE], *before[THREE], *places;
+    Py_buffer views[THREE];
+    int64_t start[THREE], end[THREE]; /* of what is before */
 } Cut;
 
-/* Numbers, rings or polygons of a row. */
+static int cut_start(Cut *cut, Flat *flat, uint32_t places) {
+    for (int i = 0; i < THREE; i++) {
+        PyObject *items = lent_room(cut->state, &flat->three[i], i == NUMBERS || !cut->shares);
+        if (items == NULL) return -1;
+        if (PyObject_GetBuffer(items, &cut->views[i], PyBUF_SIMPLE) == 0)
+            cut->arrays[i] = PyObject_CallFunction(cut->state->array_of, "sO", i == NUMBERS ? "q" : "Q", items);
+        Py_DECREF(items);
+        if (cut->arrays[i] == NULL) return -1;
+    }
+    cut->flat = flat;
+    cut->places = PyLong_FromUnsignedLong(places & ~(uint32_t)WKT_WHOLE);
+    return cut->places == NULL ? -1 : 0;
+}
+
+static void cut_end(Cut *cut) {
+    for (int i = 0; i < THREE; i++) {
+        if (cut->views[i].obj != NULL) PyBuffer_Release(&cut->views[i]);
+        Py_XDECREF(cut->arrays[i]);
+        Py_XDECREF(cut->before[i]);
+    }
+    Py_XDECREF(cut->places);
+}
+
+/* Numbers, rings or polygons of a row: all of them, if no other row is in the block. */
 static PyObject *part_of(Cut *cut, int at, Py_ssize_t row) {
-    const int64_t *ends = cut->views[at + 1].buf, *items = cut->views[at].buf, start = ends[row], end = ends[row + 1];
+    const int64_t *ends = cut->flat->ends[at].items, *items = cut->views[at].buf, start = ends[row],
+                  end = ends[row + 1];
     PyObject *made;
-    if (start < 0 || end < start || end > cut->views[at].len / 8)
-        return PyErr_Format(PyExc_ValueError, "an offset is past the numbers");
-    if (cut->shares && at > 2 && cut->before[at] != NULL && end - start == cut->end[at] - cut->start[at] &&
+    if (cut->flat->statuses.used == 1) return Py_NewRef(cut->arrays[at]);
+    if (cut->shares && at != NUMBERS && cut->before[at] != NULL && end - start == cut->end[at] - cut->start[at] &&
         memcmp(items + start, items + cut->start[at], (size_t)(end - start) * sizeof *items) == 0)
         return Py_NewRef(cut->before[at]);
-    if ((made = PySequence_GetSlice(PyTuple_GetItem(cut->column, at), (Py_ssize_t)start, (Py_ssize_t)end)) == NULL)
-        return NULL;
+    if ((made = PySequence_GetSlice(cut->arrays[at], (Py_ssize_t)start, (Py_ssize_t)end)) == NULL) return NULL;
     Py_XDECREF(cut->before[at]);
     cut->before[at] = Py_NewRef(made), cut->start[at] = start, cut->end[at] = end;
     return made;
 }
 
-/* The Arrays of a row; None where it has a status. */
+/* The Arrays of a row that has them. */
 static PyObject *row_of(Cut *cut, Py_ssize_t i) {
-    uint32_t kind = ((uint32_t *)cut->views[0].buf)[i], dimension = ((uint32_t *)cut->views[1].buf)[i];
-    PyObject *six, *made;
-    if (((uint32_t *)cut->views[8].buf)[i] != 0) return Py_NewRef(Py_None);
-    if (kind > 6 || dimension > 3) return PyErr_Format(PyExc_ValueError, "no kind or dimension");
-    if ((six = PyTuple_New(6)) == NULL) return NULL;
-    for (Py_ssize_t part = 0; part < 6; part++) {
-        PyObject *item = part == 0   ? Py_XNewRef(PyTuple_GetItem(cut->state->KINDS, (Py_ssize_t)kind))
-                         : part == 1 ? Py_XNewRef(PyTuple_GetItem(cut->state->DIMENSIONS, (Py_ssize_t)dimension))
-                         : part < 5  ? part_of(cut, 2 * (int)part - 2, i)
-                                     : Py_XNewRef(PyTuple_GetItem(cut->column, 9));
-        if (item == NULL || PyTuple_SetItem(six, part, item) < 0) {
-            Py_DECREF(six);
-            return NULL;
-        }
+    Py_ssize_t kind = ((uint32_t *)cut->flat->kinds.items)[i], dimension = ((uint32_t *)cut->flat->dimensions.items)[i];
+    PyObject *six = PyTuple_New(6), *made;
+    for (Py_ssize_t part = 0; six != NULL && part < 6; part++) {
+        PyObject *item = part == 0   ? Py_XNewRef(PyTuple_GetItem(cut->state->KINDS, kind))
+                         : part == 1 ? Py_XNewRef(PyTuple_GetItem(cut->state->DIMENSIONS, dimension))
+                         : part < 5  ? part_of(cut, (int)part - 2, i)
+                                     : Py_NewRef(cut->places);
+        if (item == NULL || PyTuple_SetItem(six, part, item) < 0) Py_CLEAR(six);
     }
-    made = made_arrays(cut->state, six);
-    Py_DECREF(six);
+    made = six == NULL ? NULL : made_arrays(cut->state, six);
+    Py_XDECREF(six);
     return made;
 }
 
-static int views_of(Cut *cut) {
-    static const char wide[] = {0, 0, 1, 2, 1, 2, 1, 2, 0}; /* 0: 32 bits a row; 2: one more than rows; 1: any number */
-    Py_ssize_t rows = 0;
-    for (int i = 0; i < 9; i++) {
-        if (PyObject_GetBuffer(PyTuple_GetItem(cut->column, i), &cut->views[i], PyBUF_SIMPLE) < 0) return -1;
-        if (i == 0) rows = cut->views[i].len / 4;
-        if (wide[i] != 1 && cut->views[i].len != (wide[i] ? 8 * (rows + 1) : 4 * rows))
-            return PyErr_SetString(PyExc_ValueError, "an array of another size"), -1;
-    }
-    return 0;
-}
-
-/* (ColumnArrays that this module made, whether its rings and polygons can't be written) -> list of Arrays and None */
-PyObject *fast_cut(PyObject *self, PyObject *const *args, Py_ssize_t count) {
-    Cut cut = {.state = state_of(self)};
-    PyObject *made = NULL;
-    int failed, collects;
-    if (!has_count(count, 2)) return NULL;
-    if (!PyTuple_Check(args[0]) || PyTuple_Size(args[0]) != 10) return PyErr_Format(PyExc_TypeError, "ten arrays");
-    cut.column = args[0], cut.shares = args[1] == Py_True;
-    failed = views_of(&cut) < 0 || (made = PyList_New(0)) == NULL;
-    collects = PyGC_Disable(); /* it would take as long as all of this, and none of it is garbage */
-    for (Py_ssize_t i = 0; !failed && i < cut.views[0].len / 4; i++) {
-        PyObject *row = row_of(&cut, i);
-        failed = row == NULL || PyList_Append(made, row) < 0 || (i % 4096 == 0 && PyErr_CheckSignals() < 0);
+static int arrays_of(const Walk *walk, Flat *flat, uint32_t places, long invalid, int shares, PyObject *made) {
+    Cut cut = {.state = walk->state, .shares = shares};
+    int failed = cut_start(&cut, flat, places);
+    int collects = PyGC_Disable(); /* it would take as long as all of this, and none of it is garbage */
+    for (Py_ssize_t i = 0; failed == 0 && i < walk->last - walk->first; i++) {
+        uint32_t status = ((uint32_t *)flat->statuses.items)[i];
+        Py_ssize_t at = walk->first + i;
+        PyObject *row;
+        if (status == WKT_OK)
+            row = row_of(&cut, i);
+        else if (status == WKT_NULL || invalid != 0)
+            row = Py_NewRef(Py_None);
+        else
+            row = refused(walk->state, status, at < 0 ? walk->rows : row_at(walk->rows, at), places, at);
+        failed = row == NULL ? -1 : PyList_Append(made, row);
         Py_XDECREF(row);
     }
     if (collects) PyGC_Enable();
-    for (int i = 0; i < 10; i++) {
-        if (cut.views[i].obj != NULL) PyBuffer_Release(&cut.views[i]);
-        Py_XDECREF(cut.before[i]);
+    cut_end(&cut);
+    return failed;
+}
+
+/* The Arrays of a block's rows, behind those in a list; or of one text, which is the rows then, and the first is -1.
+ * invalid: 0 "raise" or 1 "null". */
+static int block_arrays(const Walk *walk, uint32_t places, long invalid, int shares, PyObject *made) {
+    wkt_status status = WKT_OK;
+    Flat flat;
+    int failed = flat_start(&flat);
+    if (failed == 0) {
+        Py_BEGIN_ALLOW_THREADS
+        status = flatten_block(walk, places, &flat);
+        Py_END_ALLOW_THREADS
+        failed = status == WKT_OK ? arrays_of(walk, &flat, places, invalid, shares, made) : (PyErr_NoMemory(), -1);
     }
-    if (failed) Py_CLEAR(made);
+    flat_end(&flat);
+    return failed;
+}
+
+/* (rows, places, 0 "raise" or 1 "null", report, whether rows may share rings and polygons) -> list of Arrays and None */
+PyObject *fast_arrays_list(PyObject *self, PyObject *const *args, Py_ssize_t count) {
+    PyObject *made = NULL;
+    unsigned long places;
+    Walk walk;
+    long invalid;
+    int more = -1;
+    if (!has_count(count, 5) || (places = PyLong_AsUnsignedLong(args[1])) > UINT32_MAX) return NULL;
+    if ((invalid = PyLong_AsLong(args[2])) < 0 && PyErr_Occurred()) return NULL;
+    if (walk_rows(&walk, state_of(self), args[0], NULL, args[3]) == 0 && (made = PyList_New(0)) != NULL)
+        while ((more = walk_next(&walk)) > 0)
+            if ((more = block_arrays(&walk, (uint32_t)places, invalid, args[4] == Py_True, made)) < 0) break;
+    walk_end(&walk);
+    if (more < 0) Py_CLEAR(made);
+    return made;
+}
+
+/* (text, places, whole) -> Arrays */
+PyObject *fast_arrays(PyObject *self, PyObject *const *args, Py_ssize_t count) {
+    PyObject *held, *list, *made = NULL;
+    Cell cell;
+    Walk one = {.state = state_of(self), .cells = &cell, .first = -1};
+    uint32_t places;
+    if (!has_count(count, 3) || places_in(one.state, args[1], args[2], &places) < 0) return NULL;
+    if (text_in(one.state, args[0], &cell, &held) < 0) return NULL;
+    one.rows = args[0];
+    if ((list = PyList_New(0)) != NULL && block_arrays(&one, places, 0, 0, list) == 0)
+        made = Py_NewRef(PyList_GetItem(list, 0));
+    Py_XDECREF(list);
+    Py_XDECREF(held);
     return made;
 }

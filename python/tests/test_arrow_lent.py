@@ -252,7 +252,6 @@ class Memory(Arrow):
         long, given = "MULTIPOINT(%s)" % ",".join(["EMPTY"] * 300), [text for text in TEXTS if text != "PINT(5 6)"]
         rows = [*[text for text in given if text != ""], b"point(3 4)", bytearray(b"point(3 4)"), long, "\xe4"]
         wanted, texts = wkt.canonical_column(rows), [long, "POINT(1 2)"]
-        column = wkt.to_arrays_column(texts)
         packed = tuple(wkt._slow.pack([long, "POINT(1 2)"]))
         for call, answer in (
             (lambda: _fast.canonical(long, 18, True), long),
@@ -263,7 +262,7 @@ class Memory(Arrow):
             (lambda: _fast.infer(long), ("MultiPoint", "XY")),
             (lambda: _fast.explain(b"POINT(1", 18)[0], 0),
             (lambda: _fast.lines(b"point(1 2.0)\nx", 18), b"POINT(1 2)\nrefused\n"),
-            (lambda: len(_fast.arrays(long, 6, True)), 5),
+            (lambda: len(_fast.arrays(long, 6, True)), 6),
             (lambda: _fast.canonical_rows(rows, 18, 1, None, None), wanted[0]),
             (lambda: list(memoryview(_fast.statuses(rows, 18, None)).cast("B").cast("I")), wanted[1]),
             (lambda: [why and why.start for why in _fast.explain_rows(["POINT(1", *texts], 18, None)], [7, None, None]),
@@ -274,7 +273,8 @@ class Memory(Arrow):
             (lambda: len(_fast.arrays_rows(rows, 6, None, False)), 9),
             (lambda: bytes(_fast.canonical_buffers(packed, 18, None)[0]), "".join(texts).encode()),
             (lambda: bytes(_fast.distinct(packed, bytes(16))[0]), "".join(texts).encode()),
-            (lambda: [it.kind for it in _fast.cut(column, False)], ["MultiPoint", "Point"]),
+            (lambda: [it.kind for it in _fast.arrays_list(texts, 6, 0, None, False)], ["MultiPoint", "Point"]),
+            (lambda: [it.kind for it in _fast.arrays_list(texts[1:] * 2, 6, 0, None, True)], ["Point", "Point"]),
         ):
             self.right_or_none(call, answer)
         arrays = wkt.to_arrays(texts)

@@ -254,6 +254,18 @@ class Kinds(unittest.TestCase):
         wkt.canonical(rows, progress=seen.append)
         self.assertEqual(seen, [175, 300])
 
+    @unittest.skipIf(numpy is None, "no NumPy")
+    def test_arrays_of_long_rows(self):
+        """They have memory of their own, as those of a single call: one row keeps no column, and no block."""
+        text = "LINESTRING(%s)" % ",".join(["1 2"] * 2000)
+        rows = wkt.to_arrays([text, "POINT(1 2)", text] * 20)
+        numbers = [1_000_000, 2_000_000]
+        self.assertEqual([row.numbers.tolist() for row in rows[:2]], [numbers * 2000, numbers])
+        if compiled is not None:
+            self.assertEqual(memoryview(rows[0].numbers.base).nbytes, rows[0].numbers.nbytes)
+        for row in rows[:2]:
+            self.assertEqual([it.flags.writeable for it in row[2:5]], [True, False, False])
+
     def test_explained_rows_are_read_once(self):
         """The call that reads a row says why it is refused."""
         if compiled is None:

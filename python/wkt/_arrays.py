@@ -4,9 +4,8 @@ import operator
 from typing import Any, List, NamedTuple, Optional, Tuple
 
 from . import _arrow, _buffers, _library
-from ._columns import check_invalid, column_of, is_column, or_null, refused_of, rows_of
+from ._columns import INVALID, check_invalid, column_of, is_column, or_null, rows_of
 from ._errors import WktError, check, words_of
-from ._explain import refusal
 from ._names import DIMENSIONS, KINDS, NOT_COLUMN, NULL, TOO_SMALL
 from ._native import bind, calls
 from ._progress import Progress, shown
@@ -114,12 +113,6 @@ def _parts(*held: Any) -> Any:
     return itertools.chain.from_iterable((pointer(values), len(values)) for values in held)
 
 
-def _text_arrays(text: Any, places: int, whole: bool) -> Arrays:
-    kind, dimension, numbers, rings, polygons = calls.arrays(text, places, whole)
-    three = array_of("q", numbers), array_of("Q", rings), array_of("Q", polygons)
-    return Arrays(KINDS[kind], DIMENSIONS[dimension], *three, places)
-
-
 bind("Arrays", Arrays)
 
 
@@ -136,18 +129,10 @@ def to_arrays(text: Any, places: int = 6, invalid: str = "raise", progress: Prog
     checked = places_of(places, whole)
     check_invalid(invalid, ("raise", "null"))
     if not is_column(text):
-        return or_null(invalid, None, lambda: _text_arrays(text, checked % WHOLE, whole))
-    rows: Any = text if _arrow.is_texts(text) and invalid == "null" else column_of(text)
-    held = _column_arrays(rows, checked, progress)
-    if invalid == "raise":
-        for row in refused_of(held.statuses)[:1]:
-            raise refusal(int(held.statuses[row]), rows[row], checked, row)
-    if numpy is None:
-        return calls.cut(held, False)
-    # Rows share those that are equal, as most are: so nobody may write them.
-    for shared in (held.rings, held.polygons):
-        shared.flags.writeable = False
-    return calls.cut(held, True)
+        return or_null(invalid, None, lambda: calls.arrays(text, places, whole))
+    rows = column_of(text)
+    with shown(progress, len(rows)) as report:
+        return calls.arrays_list(rows, checked, INVALID.index(invalid), report, numpy is not None)
 
 
 def to_arrays_column(texts: Any, places: int = 6, progress: Progress = None, whole: bool = True) -> ColumnArrays:

@@ -29,5 +29,6 @@ def bind(name: str, value: Any) -> Any:
 
 bind("places_of", _values.places_of)
 bind("text_of", _values.text_of)
+bind("array_of", _values.array_of)
 bind("KINDS", KINDS)
 bind("DIMENSIONS", DIMENSIONS)

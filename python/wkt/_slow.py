@@ -2,7 +2,7 @@
 import array
 import ctypes
 import itertools
-from typing import Any, Callable, Dict, Iterator, List, NamedTuple, Optional, Sequence, Tuple
+from typing import Any, Callable, Dict, Iterable, Iterator, List, NamedTuple, Optional, Sequence, Tuple
 
 from . import _library
 from ._library import size, u32
@@ -282,13 +282,16 @@ def _arrays(data: bytes, places: int) -> Tuple[int, Any, Any]:
     return status, sizes, three
 
 
-def arrays(text: Any, places: Any, whole: Any) -> Tuple[int, int, Any, Any, Any]:
+def arrays(text: Any, places: Any, whole: Any) -> Any:
     places = _bound["places_of"](places, whole)
     status, sizes, three = _arrays(_encoded(text), places)
     if status:
         _refuse(status, text, places)
-    numbers, rings, polygons = three
-    return sizes.kind, sizes.dimension, numbers, rings, polygons
+    return _made(sizes.kind, sizes.dimension, map(_bound["array_of"], "qQQ", three), places)
+
+
+def _made(kind: int, dimension: int, three: Iterable[Any], places: int) -> Any:
+    return _bound["Arrays"](KINDS[kind], DIMENSIONS[dimension], *three, places & 255)
 
 
 def arrays_rows(column: Any, places: int, report: _Report, are_buffers: bool) -> Tuple[Any, ...]:
@@ -317,18 +320,18 @@ def arrays_rows(column: Any, places: int, report: _Report, are_buffers: bool) ->
     return (words[0], words[1], *joined, words[2])
 
 
-def cut(column: Any, shares: bool) -> List[Any]:
-    """The Arrays of each row."""
-
-    def parts_of(values: Any, offsets: Any) -> Iterator[Any]:
-        bounds = offsets.tolist()
-        return (values[start:end] for start, end in zip(bounds, bounds[1:]))
-
-    words = zip(column[8].tolist(), column[0].tolist(), column[1].tolist())
-    lists = zip(*(parts_of(values, offsets) for values, offsets in zip(column[2:8:2], column[3:8:2])))
+def arrays_list(rows: Sequence[Any], places: int, invalid: int, report: _Report, shares: bool) -> List[Any]:
+    column = arrays_rows(rows, places, report, False)
+    for i, status in enumerate(column[8]):
+        if status not in (OK, NULL) and not invalid:
+            _refuse(status, rows[i], places, i)
+    # What rows can share in the module in C nobody can write here either.
+    lent = (memoryview(it).toreadonly() if shares and code == "Q" else it for it, code in zip(column[2:8:2], "qQQ"))
+    three = map(_bound["array_of"], "qQQ", lent)
+    parts = [[values[start:end] for start, end in zip(ends, ends[1:])] for values, ends in zip(three, column[3:8:2])]
     return [
-        None if status else _bound["Arrays"](KINDS[kind], DIMENSIONS[dimension], *three, column[9])
-        for (status, kind, dimension), three in zip(words, lists)
+        None if status else _made(kind, dimension, its, places)
+        for status, kind, dimension, *its in zip(column[8], column[0], column[1], *parts)
     ]
 
 
