@@ -14,6 +14,8 @@ static int ssup_datum_unsigned_cmp(Datum one, Datum other, SortSupport support) 
 /* A header takes 6 bits and at most 27 bytes, and each byte of what isn't a letter 4 bits. So no more bytes count. */
 #define FRONT 320
 
+StaticAssertDecl(SIZEOF_DATUM == 8, "wkt needs a server of 64 bits");
+
 typedef struct Packed {
     uint64 bits;
     int room; /* how many of the 64 aren't taken */

@@ -21,6 +21,11 @@ is "build: names of wkt.so" "Pg_magic_func _PG_init" "$(nm -D --defined-only "$d
 make -s -C "$dir/built" PG_CONFIG="$config" WKT_LIB_DIR="$dir/library" DESTDIR="$dir/installed" install > "$dir/make.log" 2>&1 || { wrong "build: make install fails"; cat "$dir/make.log"; }
 is "build: what is installed" "$(cd "$here" && printf '%s\n' wkt*.control wkt*.sql wkt.so | sort)" "$(cd "$dir/installed" && find . -type f -printf '%f\n' | sort)"
 
+# A server of 32 bits.
+printf '#include "postgres.h"\n#undef SIZEOF_DATUM\n#define SIZEOF_DATUM 4\n#include "sort.c"\n' > "$dir/built/narrow.c"
+make -s -C "$dir/built" PG_CONFIG="$config" WKT_LIB_DIR="$dir/library" narrow.o > "$dir/make.log" 2>&1 && wrong "build: compiled for a server of 32 bits"
+grep -q 'wkt needs a server of 64 bits' "$dir/make.log" || wrong "build: a server of 32 bits: $(cat "$dir/make.log")"
+
 # On a processor that the library isn't built for.
 printf 'int wkt_supported(void);\nint wkt_supported(void) { return 0; }\n' > "$dir/unsupported.c"
 gcc -fPIC -c "$dir/unsupported.c" -o "$dir/unsupported.o"
