@@ -1,6 +1,8 @@
 """Processor time and peak of memory for a column of points of six decimals, beside Shapely: columns.py [ROWS [FEW]]
 
-columns.py sizes: the same for lists of rows of 33 bytes to 90 KB, 8 to 16 MB in all, beside a loop of single calls.
+columns.py sizes [TURNS]: each form of list, of rows of 33 bytes to 90 KB, 8 to 16 MB in all, and a loop of single
+calls, in turn in one process: milliseconds of a processor, the least; how many times that of the loop it is; and of two
+that come in turn, the median of that. The last stands the noise of a loaded machine.
 
 columns.py threads [ROWS]: threads over parts of one column of Arrow: the least time by the clock, and what a thread
 spends on a processor, waiting for one, and waiting for something else, such as the lock of the interpreter.
@@ -72,11 +74,7 @@ def tasks():
 
         return numpy.array(texts, object)
 
-    def one_by_one(call):
-        return lambda texts: [call(text) for text in texts]
-
     return {
-        "canonical, a loop": (list, one_by_one(wkt.canonical)),
         "reads, list": (list, wkt.reads),
         "infer, list": (list, wkt.infer),
         "explain, list": (list, wkt.explain),
@@ -150,16 +148,62 @@ def lines_of(size, rows):
         yield "LineString (%d 1,%s)" % (i, ",".join(some))
 
 
-def sizes():
-    print("| lists, by the size of a row | canonical | peak of memory, texts | a loop |\n|---|---|---|---|")
-    for name, (_, rows) in SIZES.items():
+def one_by_one(call):
+    return lambda rows: [call(row) for row in rows]
+
+
+def forms():
+    """Of each form of list what it takes, the form, and a loop of single calls."""
+    import wkt
+
+    def canonical(texts):
+        return [wkt.canonical(text) for text in texts]
+
+    def refused(texts):
+        return [text[:-1] + "x" for text in texts]
+
+    def two(one, other):
+        return [wkt.same(*both) for both in zip(one, other)]
+
+    made = {call.__name__: (list, call, one_by_one(call)) for call in (wkt.canonical, wkt.reads, wkt.infer, wkt.lines)}
+    return {
+        **made,
+        "canonical, of keys": (canonical, *made["canonical"][1:]),
+        "explain": (list, wkt.explain, one_by_one(wkt.explain)),
+        "explain, all refused": (refused, wkt.explain, one_by_one(wkt.explain)),
+        "same": (lambda texts: (texts, canonical(texts)), lambda both: wkt.same(*both), lambda both: two(*both)),
+        "to_arrays": (list, wkt.to_arrays, one_by_one(wkt.to_arrays)),
+        "from_arrays": (wkt.to_arrays, wkt.from_arrays, one_by_one(wkt.from_arrays)),
+    }
+
+
+def in_turn(calls, given, turns):
+    """Of each call the seconds of a processor of so many turns. Whichever came last begins the next turn."""
+    import time
+
+    spent = [[] for _ in calls]
+    for turn in range(-1, turns):  # the first isn't counted
+        for i in range(len(calls))[:: -1 if turn % 2 else 1]:
+            start = time.process_time()
+            answer = calls[i](given)
+            end = time.process_time()
+            del answer
+            if turn >= 0:
+                spent[i].append(end - start)
+    return spent
+
+
+def sizes(turns=40):
+    from statistics import median
+
+    print("| a list beside a loop | %s |\n|%s" % (" | ".join(SIZES), "---|" * (len(SIZES) + 1)))
+    for name, (prepare, form, loop) in forms().items():
         cells = []
-        for task in ("canonical, list", "canonical, a loop"):
-            words = [sys.executable, __file__, task, name]
-            cells.append(list(map(float, subprocess.run(words, stdout=subprocess.PIPE, check=True).stdout.split())))
-        (seconds, peak, held), (loop, _, _) = cells
-        shown = name, rows, seconds, peak / 1e6, held / 1e6, loop
-        print("| %s, %d rows | %.3f | %.0f, %.0f MB | %.3f |" % shown, flush=True)
+        for size in SIZES.values():
+            form_spent, loop_spent = in_turn((form, loop), prepare(list(lines_of(*size))), turns)
+            ratios = min(form_spent) / min(loop_spent), median(a / b for a, b in zip(form_spent, loop_spent))
+            cells.append("%.1f, %.2f, %.2f" % (1000 * min(form_spent), *ratios))
+        print("| %s | %s |" % (name, " | ".join(cells)), flush=True)
 
 
 def threads(rows=1_000_000):
@@ -231,8 +275,8 @@ def main(rows=1_000_000, few=None):
 
 
 if __name__ == "__main__":
-    if sys.argv[1:] == ["sizes"]:
-        sizes()
+    if sys.argv[1:2] == ["sizes"]:
+        sizes(*map(int, sys.argv[2:]))
     elif sys.argv[1:2] == ["threads"]:
         threads(*map(int, sys.argv[2:]))
     elif len(sys.argv) == 3 and not sys.argv[1].isdigit():

@@ -215,7 +215,7 @@ def from_arrays(arrays: Any, places: Optional[int] = None) -> Any:
     rows = rows_of(arrays)
     if rows is None:
         raise TypeError("arrays are wkt.Arrays or a list of them, and not %s" % type(arrays).__name__)
-    return calls.from_arrays_rows(list(rows), checked, True)
+    return calls.from_arrays_rows(rows, checked, True)
 
 
 def _one_text(arrays: Any, places: Optional[int], row: Optional[int]) -> Optional[str]:

@@ -5,11 +5,12 @@ from typing import Any, List, Optional, Sequence
 from . import _arrow
 from ._errors import WktError
 from ._names import NULL
-from ._native import calls
+from ._native import _fast, calls
 from ._progress import Progress, shown
 from ._values import TEXTS, array_of, numpy
 
 INVALID = ("raise", "null", "keep")
+_AS_THEY_ARE = (tuple,) if _fast is None else (tuple, list)  # the module in C copies lists
 
 
 def _pandas(name: str) -> Any:
@@ -48,13 +49,13 @@ def is_column(values: Any) -> bool:
 def rows_of(values: Any) -> Optional[Sequence[Any]]:
     """The rows of a column as a list or a tuple; None of a single value.
 
-    They are a copy, since a callback or another thread may change a list during a call. It is of no subclass, which may
-    say another length, and other parts, than it has.
+    The calls have a copy, since a callback or another thread may change a list during a call. It is of no subclass,
+    which may say another length, and other parts, than it has.
     """
     if isinstance(values, TEXTS):
         return None
     if isinstance(values, (list, tuple)):
-        return values if type(values) is tuple else list(values)
+        return values if type(values) in _AS_THEY_ARE else list(values)
     if numpy is not None and isinstance(values, numpy.ndarray):
         return None if values.ndim == 0 else list(values.reshape(-1).tolist())
     if _arrow.is_texts(values):
