@@ -6,7 +6,7 @@ import { chosenRow, state } from './state.js';
 /** More characters than this aren't shown; they are copied. */
 const SHOWN = 20000;
 
-const format = () => document.querySelector('input[name=format]:checked').value;
+const format = () => $('format').querySelector(':checked').value;
 
 /** The chosen row's answer in the chosen format: `text`, or `error` where GeoJSON has no form for it. */
 export function answerText() {

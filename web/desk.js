@@ -1,5 +1,6 @@
 // The texts of the field, in a worker: each is answered once. What the picture needs of the answers stays here.
-import { causeOf, isRefusal } from './block.js';
+import { answerTo } from './answer.js';
+import { isRefusal } from './block.js';
 import { Range, boundsOf } from './range.js';
 import { Summary } from './summary.js';
 
@@ -18,10 +19,6 @@ channel.port1.onmessage = () => {
 export const pause = () => new Promise((go) => {
   if (waiting.push(go) === 1) channel.port2.postMessage(0);
 });
-
-/** What the page shows of a canonical text. */
-const factsOf = ({ leaves, x, y, z, m, ...counts }) =>
-  ({ ...counts, lines: leaves.some((leaf) => !leaf.area && !leaf.dots), bounds: boundsOf([x, y, z, m]) });
 
 export class Desk {
   /** The texts in their order: id, text, accepted, canonical, summary. One that isn't answered yet is not accepted. */
@@ -64,7 +61,7 @@ export class Desk {
       }
       const left = this.#left.length - next;
       if (left === 0) this.#left = [];
-      this.#post({ answers: said, left, ...(left === 0 ? { totals: this.#totals() } : {}) });
+      this.#post({ answers: said, ...(left === 0 ? { totals: this.#totals() } : {}) });
       if (left > 0) await pause();
     } while (next < this.#left.length);
     this.#working = false;
@@ -72,17 +69,10 @@ export class Desk {
   }
 
   #answer(row) {
-    try {
-      row.canonical = this.#wkt.canonical(row.text, { places: this.#places, whole: true });
-      row.summary = new Summary(row.canonical);
-      row.accepted = true;
-      return { accepted: true, canonical: row.canonical, facts: factsOf(row.summary) };
-    } catch (error) {
-      if (!isRefusal(error)) throw error;
-      row.place = error.place;
-      const { words, status, place } = error;
-      return { accepted: false, words, status, place, cause: causeOf(error) };
-    }
+    const { summary, answer } = answerTo(this.#wkt, row.text, this.#places);
+    const { accepted, canonical, place } = answer;
+    Object.assign(row, { accepted, canonical, place, summary });
+    return answer;
   }
 
   /** What all accepted texts hold together. */

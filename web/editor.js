@@ -2,6 +2,7 @@
 import { $, element, fillByKeys } from './elements.js';
 import { lineOf } from './answers.js';
 import { field } from './field.js';
+import { lastOf } from './split.js';
 import { choose, chosenRow, state } from './state.js';
 
 /** A wrapped text that is longer than this has no marks; nor has a line that is longer than that. */
@@ -20,20 +21,9 @@ let scrolled = { top: 0, left: 0, height: 0 };
 
 const lineText = (i) => field.value.slice(field.starts[i], i + 1 < field.starts.length ? field.starts[i + 1] - 1 : field.value.length);
 
-/** The number of the last row that begins at a line, from 1 on, or before it; -1: none does. */
-function rowBefore(line) {
-  let [low, high] = [0, state.rows.length];
-  while (low < high) {
-    const middle = (low + high) >> 1;
-    if (state.rows[middle].line <= line) low = middle + 1;
-    else high = middle;
-  }
-  return low - 1;
-}
-
 /** What is marked in a line: where its row is refused, if that is there; and what it is, by a class. */
 function marksOf(i) {
-  const row = state.rows[rowBefore(i + 1)];
+  const row = state.rows[lastOf(state.rows, ({ line }) => line <= i + 1)];
   if (!row || !row.answered) return { name: '', place: null };
   const at = row.place ? lineOf(row) : 0;
   if (at === i + 1) return { name: 'bad', place: [row.offset + row.place.start - field.starts[i], row.offset + row.place.stop - field.starts[i]] };
@@ -54,7 +44,9 @@ function lineNode(i) {
   const line = place || !field.isMany ? lineText(i) : '';
   const make = () => {
     const inside = contents(line, place);
-    return element('div', { class: name || null, 'data-n': i + 1 }, ...(field.isMany ? [element('span', {}, ...inside)] : inside));
+    const node = element('div', { class: name || null, 'data-n': i + 1 }, ...(field.isMany ? [element('span', {}, ...inside)] : inside));
+    if (field.isMany) node.style.setProperty('top', `${ABOVE + i * HEIGHT}px`);
+    return node;
   };
   return [`${field.isMany} ${i} ${name} ${place} ${line}`, make];
 }
@@ -65,7 +57,7 @@ function showSeen() {
   const first = Math.max(0, Math.floor((top - ABOVE) / HEIGHT) - MORE);
   const last = Math.min(field.starts.length, Math.ceil((top + height) / HEIGHT) + MORE);
   fillByKeys(mirror, Array.from({ length: last - first }, (_, k) => lineNode(first + k)));
-  [...mirror.children].forEach((node, k) => node.style.setProperty('top', `${ABOVE + (first + k) * HEIGHT - top}px`));
+  mirror.style.setProperty('--top', `${-top}px`);
   mirror.style.setProperty('--left', `${-left}px`);
 }
 
@@ -122,14 +114,8 @@ export function goToNextRefusal() {
 /** The row of the line in which the cursor stands, or -1. */
 export function rowAtCursor() {
   const at = field.caret;
-  let [low, high] = [0, state.rows.length];
-  while (low < high) {
-    const middle = (low + high) >> 1;
-    if (state.rows[middle].offset <= at) low = middle + 1;
-    else high = middle;
-  }
-  const row = state.rows[low - 1];
-  return row && at <= row.offset + row.text.length ? low - 1 : -1;
+  const i = lastOf(state.rows, ({ offset }) => offset <= at);
+  return i >= 0 && at <= state.rows[i].offset + state.rows[i].text.length ? i : -1;
 }
 
 function followCursor() {

@@ -15,6 +15,19 @@ export function element(tag, attributes = {}, ...children) {
   return node;
 }
 
+const sameAttributes = (old, made) =>
+  old.attributes.length === made.attributes.length && [...made.attributes].every(({ name, value }) => old.getAttribute(name) === value);
+
+/** Gives a node what another has, if only words differ: an element in its place would have more laid out. Whether it could. */
+function takes(old, made) {
+  if (old.isEqualNode(made)) return true;
+  if (old.nodeName !== made.nodeName) return false;
+  if (old.data !== undefined) old.data = made.data;
+  else if (sameAttributes(old, made)) fill(old, ...made.childNodes);
+  else return false;
+  return true;
+}
+
 /** Makes some nodes and words all that a node has. What is there already stays, so that the page isn't laid out anew. */
 export function fill(node, ...children) {
   const made = document.createDocumentFragment();
@@ -23,7 +36,7 @@ export function fill(node, ...children) {
   for (const it of [...made.childNodes]) {
     const next = old?.nextSibling;
     if (!old) node.append(it);
-    else if (!old.isEqualNode(it)) old.replaceWith(it);
+    else if (!takes(old, it)) old.replaceWith(it);
     old = next;
   }
   for (let next = old; next; next = old) {
@@ -37,16 +50,22 @@ const kept = new WeakMap();
 /** Gives a node the children that are made for some keys. One that was made for the same key before stays. */
 export function fillByKeys(node, made) {
   const before = kept.get(node) ?? new Map();
-  const now = new Map([...made].map(([key, make]) => [key, before.get(key) ?? make()]));
-  kept.set(node, now);
-  for (const [key, child] of before) {
-    if (!now.has(key)) child.remove();
-  }
+  const now = new Map(made);
+  const gone = new Set([...before].filter(([key]) => !now.has(key)).map(([, child]) => child));
   let next = node.firstChild;
-  for (const child of now.values()) {
+  for (const [key, make] of now) {
+    let child = before.get(key) ?? make();
+    if (gone.has(next) && !before.has(key) && takes(next, child)) {
+      gone.delete(next);
+      child = next;
+    }
+    while (gone.has(next)) next = next.nextSibling;
     if (child === next) next = next.nextSibling;
     else node.insertBefore(child, next);
+    now.set(key, child);
   }
+  for (const child of gone) child.remove();
+  kept.set(node, now);
 }
 
 /** A button with words on it. */

@@ -3,6 +3,7 @@
 import { $ } from './elements.js';
 import { History, difference } from './history.js';
 import { COMPOSED, ManyLines } from './many.js';
+import { lastOf } from './split.js';
 
 /** A text of more lines, or of more characters in some lines, stands in the field of many lines, where none is wrapped. */
 const WRAPPED = 200, WRAPPED_LENGTH = 40000;
@@ -15,9 +16,10 @@ let starts = [0];
 let isMany = false;
 let changed = () => {};
 
-function startsOf(words) {
-  const found = [0];
-  for (let at = words.indexOf('\n'); at >= 0; at = words.indexOf('\n', at + 1)) found.push(at + 1);
+/** Where the lines begin that follow line feeds of words at a place. */
+function startsOf(words, place) {
+  const found = [];
+  for (let at = words.indexOf('\n'); at >= 0; at = words.indexOf('\n', at + 1)) found.push(place + at + 1);
   return found;
 }
 
@@ -37,10 +39,14 @@ function isForMany(lines, length) {
   return lines > WRAPPED / part || (length > WRAPPED_LENGTH / part && lines > 1);
 }
 
-/** Takes a text. Whether it got the other field, which it doesn't where it `stays`. */
-function take(words, stays = false) {
-  value = words;
-  starts = startsOf(words);
+/** Takes words in the place of others. Whether the text got the other field, which it doesn't where it `stays`. */
+function take(from, to, words, stays = false) {
+  value = value.slice(0, from) + words + value.slice(to);
+  const [first, last] = [from, to].map((place) => lastOf(starts, (start) => start <= place) + 1);
+  const moved = words.length - (to - from);
+  const rest = starts.length - last;
+  starts = starts.slice(0, first).concat(startsOf(words, from), starts.slice(last));
+  for (let i = starts.length - rest; i < starts.length; i++) starts[i] += moved;
   if (stays || isForMany(starts.length, value.length) === isMany) return false;
   const focused = document.activeElement === shown();
   isMany = !isMany;
@@ -54,7 +60,7 @@ function take(words, stays = false) {
 /** Puts words in the place of others, and selects from `start` to `stop`. */
 function put(from, to, words, [start, stop]) {
   const was = isMany;
-  if (!take(value.slice(0, from) + words + value.slice(to))) {
+  if (!take(from, to, words)) {
     if (was) many.replace(from, to, words);
     else text.value = value;
   }
@@ -70,7 +76,7 @@ function edit(from, to, words, type) {
   history.add({ at: from, removed: value.slice(from, to), added: words, selected: composed ? [from, to] : selected(), kind: kindOf(type), when: performance.now() });
   // While an input method composes a word, the field, the caret and what it has put there stay as they are.
   if (composed) {
-    take(value.slice(0, from) + words + value.slice(to), true);
+    take(from, to, words, true);
     many.replace(from, to, words);
   } else {
     put(from, to, words, [from + words.length, from + words.length]);
@@ -84,7 +90,7 @@ function typed({ inputType = '', isComposing = false }) {
   const change = difference(value, now);
   const end = change.at + change.added.length;
   history.add({ ...change, selected: [change.at, change.at + change.removed.length], kind: kindOf(inputType), when: performance.now() });
-  if (take(now, isComposing)) select(end, end);
+  if (take(change.at, change.at + change.removed.length, change.added, isComposing)) select(end, end);
   else if (isMany) many.build(value);
   changed(inputType);
 }
@@ -148,7 +154,7 @@ export const field = {
   },
   /** What stands there at first is no change that could be undone. */
   begin(words) {
-    if (!take(words.replace(/\r\n?/g, '\n')) && !isMany) text.value = value;
+    if (!take(0, value.length, words.replace(/\r\n?/g, '\n')) && !isMany) text.value = value;
   },
   invalid(is) {
     for (const node of [text, $('many')]) node.setAttribute('aria-invalid', String(is));

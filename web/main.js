@@ -9,7 +9,7 @@ import { field, startField } from './field.js';
 import { begin, closeFile, readFile, rereadFile, startFiles } from './file.js';
 import { showGive, startGiving } from './give.js';
 import { showOffer } from './offer.js';
-import { canvasToDraw, draw, forgetSingle, startPicture, takeDrawn, takePicked, takeReadout } from './picture.js';
+import { canvasToDraw, draw, forgetSingle, startPicture, takeDrawn, takePicked, takeReadout, toldOf } from './picture.js';
 import { showRows, startRows } from './rows.js';
 import { chosenRow, onShow, show, state } from './state.js';
 import { say, showVerdict } from './verdict.js';
@@ -36,7 +36,7 @@ function analyse(here = false) {
   $('verdict').setAttribute('aria-busy', 'true');
   clearTimeout(slow);
   slow = setTimeout(() => state.settled || say('idle', 'Checking', count(state.rows.length, 'text')), SLOW);
-  answer(field.value);
+  answer(field.value, () => (here ? toldOf(rowAtCursor()) : {}));
   if (!state.settled) marksSoon();
   showOffer(field.value, put);
 }
@@ -49,9 +49,10 @@ function marksSoon() {
 /** All is answered: shows it. */
 function settled() {
   clearTimeout(slow);
-  const refused = state.rows.findIndex((row) => !row.accepted);
+  const refused = state.counted.refused > 0 ? state.rows.findIndex((row) => !row.accepted) : -1;
   state.chosen = refused >= 0 ? refused : Math.min(Math.max(state.chosen, 0), state.rows.length - 1);
-  if (atCursor && rowAtCursor() >= 0) state.chosen = rowAtCursor();
+  const here = atCursor ? rowAtCursor() : -1;
+  if (here >= 0) state.chosen = here;
   show();
   $('verdict').setAttribute('aria-busy', 'false');
 }
@@ -115,7 +116,7 @@ function startCopying() {
     history.replaceState(null, '', link());
     copy(location.href, $('copy-link'));
   });
-  document.querySelectorAll('input[name=format]').forEach((input) => input.addEventListener('change', showCanonical));
+  $('format').addEventListener('change', showCanonical);
 }
 
 function showLinkButton() {
@@ -197,9 +198,7 @@ function startExamples() {
 
 function startControls() {
   startField((type) => changed(/^(insert(?!From)|delete)/.test(type)));
-  for (const control of [$('places'), ...document.querySelectorAll('input[name=split]')]) {
-    control.addEventListener('change', () => rereadFile() || changed());
-  }
+  for (const control of [$('places'), $('split')]) control.addEventListener('change', () => rereadFile() || changed());
   $('clear').addEventListener('click', () => {
     put('');
     field.focus();

@@ -9,14 +9,27 @@ let single = false;
 /** Whether the pointer's place is asked for, and where it is since. */
 let hovering = false, next;
 let told = {};
+let foretold = null; // the chosen row, where the worker knows it already
 let pointsOfFile = 0;
 
 const ask = (asked) => tellDesk({ picture: asked });
 
 export const fit = () => ask({ fit: true });
 
+const asChosen = (i) => ({ id: state.rows[i]?.id ?? -1, single });
+
+/** What the worker is told with a change: which row will be chosen. */
+export function toldOf(i) {
+  foretold = asChosen(i);
+  return { picture: { chosen: foretold } };
+}
+
 /** The chosen row lies on the others. */
-export const draw = () => ask({ chosen: { id: state.rows[state.chosen]?.id ?? -1, single } });
+export function draw() {
+  const chosen = asChosen(state.chosen);
+  if (foretold?.id !== chosen.id || foretold.single !== single) ask({ chosen });
+  foretold = null;
+}
 
 /** Shows some points of a file, x, y, x, y .., of so many; null: no file is open. */
 export function showPoints(xy, all) {

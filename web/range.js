@@ -35,7 +35,7 @@ export class Range {
 
   /** Takes what another has. */
   join({ low, high, lowText, highText }) {
-    if (low > high) return;
+    if (low > high || (this.within(low) && this.within(high))) return;
     this.add(low, lowText);
     this.add(high, highText);
   }

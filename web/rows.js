@@ -15,6 +15,7 @@ const FILTERS = {
 const scroller = $('rows-scroll');
 let filter = 'all'; // one of FILTERS, or a cause
 let shown = []; // the places of the rows that the filter takes
+const all = []; // the places of all
 /** Where the table is scrolled to, and how high it is: to ask for it would lay out the page at each key. */
 let scrolled = { top: 0, height: 420 };
 
@@ -49,8 +50,9 @@ function pickCause(cause) {
 
 /** The table of causes, where one has several lines: else the table of lines says all of it. */
 function showCauses({ refused, causes }) {
-  $('causes').hidden = causes.length === refused;
-  fill($('causes'), causeTable(causes, places(), filter));
+  const some = causes.length < refused;
+  $('causes').hidden = !some;
+  fill($('causes'), some ? causeTable(causes, places(), filter) : '');
 }
 
 function answerCell(row, i) {
@@ -102,8 +104,9 @@ export function showRows() {
   }
   fill($('filters'), ...filterButtons(state.counted));
   showCauses(state.counted);
-  shown = [...state.rows.keys()];
-  if (filter !== 'all') shown = shown.filter((i) => takes(state.rows[i]));
+  while (all.length < state.rows.length) all.push(all.length);
+  all.length = state.rows.length;
+  shown = filter === 'all' ? all : all.filter((i) => takes(state.rows[i]));
   $('table').setAttribute('aria-rowcount', shown.length + 1);
   showSeen();
 }

@@ -100,12 +100,12 @@ export function agreed(length, part) {
   return low;
 }
 
-/** The last of some pieces that ends before a place; -1: none does. */
-function lastBefore(pieces, place) {
-  let [low, high] = [0, pieces.length];
+/** The last of some for which a test holds, as it does for all before it; -1: for none. */
+export function lastOf(some, holds) {
+  let [low, high] = [0, some.length];
   while (low < high) {
     const middle = (low + high) >> 1;
-    if (pieces[middle].offset + pieces[middle].text.length < place) low = middle + 1;
+    if (holds(some[middle])) low = middle + 1;
     else high = middle;
   }
   return low - 1;
@@ -123,7 +123,7 @@ export function changedPieces(before, old, text, split) {
   const same = agreed(shorter - from, (a, b) => before.slice(before.length - b, before.length - a) === text.slice(text.length - b, text.length - a));
   const moved = text.length - before.length;
   // A piece that ends right before the change may go on in it now, so it is split anew.
-  const last = lastBefore(old, from);
+  const last = lastOf(old, (piece) => piece.offset + piece.text.length < from);
   const front = Math.max(0, last);
   const start = last < 0 ? { offset: 0, line: 1 } : old[last];
   const pieces = [];
@@ -136,7 +136,10 @@ export function changedPieces(before, old, text, split) {
     }
     pieces.push(piece);
   }
-  return front + pieces.length + back < 2 ? whole() : { front, back, pieces, moved, lines };
+  if (front + pieces.length + back < 2) return whole();
+  // It doesn't, and stays as it was.
+  const kept = pieces.length > 0 && pieces[0].text === old[front].text && last >= 0 ? 1 : 0;
+  return { front: front + kept, back, pieces: pieces.slice(kept), moved, lines };
 }
 
 /**

@@ -61,14 +61,17 @@ export function* records(text, delimiter) {
 
 /** The columns of texts that a CSV has. `cut`: its last record isn't whole. */
 function columnsOf(text, delimiter, cut) {
+  if (!text.includes(delimiter)) return [];
+  const isNone = (cells) => /^\s*srid=/i.test(cells[0]) || cells.some(isCut);
   const found = [];
-  for (const record of records(text, delimiter)) {
-    if (record.cells.some((cell) => cell.trim() !== '')) found.push(record.cells);
+  for (const { cells } of records(text, delimiter)) {
+    if (found.length > 0 && isNone(found.at(-1))) return []; // the record at the end may be cut
+    if (cells.some((cell) => cell.trim() !== '')) found.push(cells);
     if (found.length > RECORDS) break;
   }
   if (cut && found.length <= RECORDS) found.pop();
   const width = Math.max(0, ...found.map((cells) => cells.length));
-  if (width < 2 || found.some((cells) => /^\s*srid=/i.test(cells[0]) || cells.some(isCut))) return [];
+  if (width < 2 || found.some(isNone)) return [];
   const header = found.length > 1 && !found[0].some(isText) ? found[0] : null;
   const rows = header ? found.slice(1) : found;
   return Array.from({ length: width }, (_, i) => i)

@@ -22,8 +22,10 @@ function wordsOf(error) {
 async function desk({ module, canvas }) {
   const wkt = await load(module);
   let painter = null;
-  // It is drawn when the page has shown the answers, and says which is chosen.
-  const ready = new Desk(wkt, post, () => painter.fit());
+  const ready = new Desk(wkt, post, () => {
+    painter.fit();
+    painter.draw();
+  });
   painter = new Painter(ready, post, canvas);
   return (asked) => {
     if (asked.change) ready.change(asked.change);

@@ -27,9 +27,18 @@ TAKEN = [
 # The most milliseconds that a key takes in ten thousand lines: of the main thread, and by the clock until the answer.
 # On a machine on which a key takes longer than BARE in a bare field, it may take as many times more. The least of KEYS
 # counts, and all is measured again up to ROUNDS times, so that the bounds hold on a busy machine too.
-MAIN, ANSWERED, BARE, KEYS, ROUNDS = 16, 50, 30, 10, 3
+MAIN, ANSWERED, BARE, KEYS, ROUNDS = 16, 50, 44, 10, 3
+LINES_OF_TYPING = "\n".join(f"POLYGON(({n} 0,4.25 0,2.125 4,{n} 0))" for n in range(10000))
 # Whether there is nothing left to answer.
 IDLE = "return document.getElementById('verdict')?.getAttribute('aria-busy') !== 'true'"
+# Counts the elements that are made, and keeps what the page says when a character is typed.
+MADE = """
+[window.made, window.atOnce] = [0, ''];
+new MutationObserver((all) => all.forEach(({ addedNodes }) =>
+  { window.made += [...addedNodes].filter((node) => node.nodeType === 1).length; }))
+  .observe(document, { subtree: true, childList: true });
+addEventListener('beforeinput', () => { window.atOnce = document.getElementById('out').textContent; });
+"""
 # Keeps how long each answer took after its key.
 ANSWERS = """
 window.answered = [];
@@ -206,9 +215,24 @@ class Give(Page):
         self.script("document.getElementById('text').setSelectionRange(400, 400)")
         return self.least()
 
+    def test_what_a_key_changes(self):
+        """A character is answered at once, and no element is made anew."""
+        self.open()
+        self.paste(LINES_OF_TYPING)
+        self.script(SELECT, [10, 10], [10, 10])
+        self.press("5")
+        self.said()
+        self.script(MADE)
+        self.press("6")
+        wanted = "POLYGON((1560 0,4.25 0,2.125 4,10 0))"
+        self.assertEqual([0, wanted], self.script("return [window.made, window.atOnce]"))
+        self.still()
+        self.assertEqual([0, wanted], [self.script("return window.made"), self.said("out")])
+        self.assertIn(wanted, self.said("rows"))
+
     def test_typing(self):
         """What a key takes in ten thousand lines; few of the lines stand in the document beside the field."""
-        text = "\n".join(f"POLYGON(({n} 0,4.25 0,2.125 4,{n} 0))" for n in range(10000))
+        text = LINES_OF_TYPING
         least = [math.inf] * 3
         for _ in range(ROUNDS):
             ((main, scripts), answered), (bare, _) = self.least_in_the_page(text), self.least_in_a_field(text)

@@ -61,7 +61,7 @@ test('the pieces of a changed text are those of the text', () => {
   assert.ok(kept > 10000, `${kept} kept`);
   const many = Array.from({ length: 1000 }, (_, i) => `POINT(${i} 2)`).join('\n');
   const { front, back, pieces } = changedPieces(many, piecesOf(many, 'auto'), many.replace('500 2', '500.5 2'), 'auto');
-  assert.ok(pieces.length < 3 && front + back > 997);
+  assert.deepEqual([front, pieces.length, back], [500, 1, 499]);
 });
 
 test('how a file is split, by its front', () => {
