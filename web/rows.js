@@ -64,9 +64,13 @@ function answerCell(row, i) {
 }
 
 function tableRow(row, i, at, reached) {
-  return element('tr', { 'aria-selected': String(i === state.chosen), tabindex: i === reached ? 0 : -1, 'data-i': i, 'aria-rowindex': at + 2 },
-    element('td', { class: 'n' }, String(row.line)), element('td', {}, answerCell(row, i)),
-    element('td', { class: 'n' }, row.accepted ? number(row.facts.points) : ''), element('td', { class: 'text' }, printable(row.text.slice(0, 200).replace(/[\t\r\n]/g, ' '))));
+  // Firefox doesn't name a row by what it holds.
+  const [line, answer, text] = i === reached ? ['row-line', 'row-answer', 'row-text'] : [];
+  const name = line && `${line} ${answer} ${text}`;
+  return element('tr', { 'aria-selected': String(i === state.chosen), tabindex: i === reached ? 0 : -1, 'data-i': i, 'aria-rowindex': at + 2, 'aria-labelledby': name },
+    element('td', { class: 'n', id: line }, String(row.line)), element('td', { id: answer }, answerCell(row, i)),
+    element('td', { class: 'n' }, row.accepted ? number(row.facts.points) : ''),
+    element('td', { class: 'text', id: text }, printable(row.text.slice(0, 200).replace(/[\t\r\n]/g, ' '))));
 }
 
 /** What stands for rows that aren't seen. */
