@@ -120,9 +120,9 @@ function startCopying() {
 }
 
 function showLinkButton() {
-  const long = field.value.length > LINKED;
-  $('copy-link').disabled = long;
-  $('copy-link').title = long ? 'The text is too long for a link' : 'A link to this page with the text in it';
+  const { length } = field.value;
+  $('copy-link').disabled = length === 0 || length > LINKED;
+  $('copy-link').title = length > LINKED ? 'The text is too long for a link' : 'A link to this page with the text in it';
 }
 
 // ---- Files.

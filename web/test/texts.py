@@ -114,6 +114,16 @@ class Texts(Page):
                 self.assertEqual(("Copied", words), (self.heard()[0], self.heard()[-1]))
                 self.wait(lambda copied=copied: self.pasted() == copied, 30)
 
+    def test_link_of_a_refused_text(self):
+        self.open()
+        self.type("POINT(1)")
+        self.assertEqual("Refused at line 1, column 8", self.said("say"))
+        self.by_id("copy-link").click()
+        link = self.script("return location.href.split('#')[0]") + "#wkt=POINT%281%29"
+        self.wait(lambda: self.pasted() == link, 30)
+        self.by_id("clear").click()
+        self.assertFalse(self.by_id("copy-link").is_enabled())
+
     def test_notes(self):
         self.open()
         self.type("POLYGON((0 0,1 0,1 1))")
