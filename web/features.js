@@ -7,7 +7,7 @@ const DEPTH = { POLYGON: 2, MULTIPOLYGON: 3, LINESTRING: 1, MULTILINESTRING: 2 }
 const SURE = 1e-9;
 
 /** A decimal in units of ten to the minus 36: it has no more places. */
-function units(text) {
+export function units(text) {
   const [whole, fraction = ''] = text.split('.');
   return BigInt(whole + fraction.padEnd(36, '0'));
 }

@@ -1,12 +1,27 @@
 // What lies at a place of the picture: a vertex, an edge, or the inside of a polygon.
+import { units } from './features.js';
 
 /** More points than this aren't looked at. */
 const LOOKED = 200000;
 
-/** How long a ring or line is, in the units of its numbers. */
-export function lengthOf(xy) {
+/** Doubles that differ by less than this part of them don't tell six digits of the difference. */
+const COARSE = 1e-10;
+
+/** The difference of two numbers; `a` and `b` give their digits. */
+function difference(x, y, a, b) {
+  const far = y - x;
+  if (Math.abs(far) >= COARSE * Math.abs(x)) return far;
+  return a() === b() ? 0 : Number(units(b()) - units(a())) / 1e36;
+}
+
+/** How long a ring or line is, in the units of its numbers; `digits` gives those of a vertex, by its number. */
+export function lengthOf(xy, digits) {
+  const of = (i, axis) => () => digits(i).split(' ')[axis];
   let length = 0;
-  for (let i = 2; i < xy.length; i += 2) length += Math.hypot(xy[i] - xy[i - 2], xy[i + 1] - xy[i - 1]);
+  for (let i = 1; i < xy.length / 2; i++) {
+    const [dx, dy] = [0, 1].map((axis) => difference(xy[2 * i - 2 + axis], xy[2 * i + axis], of(i - 1, axis), of(i, axis)));
+    length += Math.hypot(dx, dy);
+  }
   return length;
 }
 
@@ -84,11 +99,12 @@ export function describe({ shape, leaf, ring, vertex }) {
   const said = { id: shape.row.id };
   if (leaf === null) return { ...said, points: shape.summary.points };
   const { dots, area, rings, places, ends } = shape.summary.leaves[leaf];
-  if (vertex !== null) said.digits = shape.canonical.slice(places[ring][vertex], places[ring][vertex] + 200).split(/[,)]/, 1)[0];
+  const digits = (i) => shape.canonical.slice(places[ring][i], places[ring][i] + 200).split(/[,)]/, 1)[0];
+  if (vertex !== null) said.digits = digits(vertex);
   if (dots) return said;
   const outer = [0, ...ends].includes(ring);
   return { ...said, what: area ? (outer ? 'ring' : 'hole') : 'line', ring: ring + 1, rings: rings.length, vertex: vertex === null ? null : vertex + 1,
-    vertices: rings[ring].length / 2, length: lengthOf(rings[ring]) };
+    vertices: rings[ring].length / 2, length: lengthOf(rings[ring], digits) };
 }
 
 /** The vertex that follows another, or comes before it (`by` is 1 or -1), in one geometry; from the first or last on. */

@@ -166,7 +166,26 @@ export class Painter {
     const shape = this.#shapes().find(({ row }) => row.id === this.#chosen);
     this.#at = shape ? stepped(shape, this.#at, by) : null;
     if (this.#at) this.#post({ readout: { ...describe(this.#at), spoken: true } });
-    this.#show();
+    if (this.#at && !this.#isSeen()) {
+      [this.#view.x, this.#view.y] = this.#marked;
+      this.draw();
+    } else {
+      this.#show();
+    }
+  }
+
+  /** The place of the vertex that is marked. */
+  get #marked() {
+    const { shape, leaf, ring, vertex } = this.#at;
+    return shape.summary.leaves[leaf].rings[ring].slice(2 * vertex, 2 * vertex + 2);
+  }
+
+  /** Whether that place is in the picture. */
+  #isSeen() {
+    const [x, y] = this.#marked;
+    const { X, Y } = scaleOf(this.#view, this.#middle);
+    const { w, h } = this.#size;
+    return X(x) >= 0 && X(x) <= w && Y(y) >= 0 && Y(y) <= h;
   }
 
   /** Says which geometry is there. */
@@ -220,13 +239,12 @@ export class Painter {
     front.drawImage(this.#back, 0, 0);
     if (!this.#view || !this.#at || this.#at.shape.row.gone) return;
     const { X, Y } = scaleOf(this.#view, this.#middle);
-    const { shape, leaf, ring, vertex } = this.#at;
-    const xy = shape.summary.leaves[leaf].rings[ring];
+    const [x, y] = this.#marked;
     front.setTransform(this.#size.ratio, 0, 0, this.#size.ratio, 0, 0);
     front.strokeStyle = this.#colors.ink;
     front.lineWidth = 1.5;
     front.beginPath();
-    front.arc(X(xy[2 * vertex]), Y(xy[2 * vertex + 1]), 7, 0, 2 * Math.PI);
+    front.arc(X(x), Y(y), 7, 0, 2 * Math.PI);
     front.stroke();
     front.setTransform(1, 0, 0, 1, 0, 0);
   }

@@ -147,6 +147,19 @@ class Give(Page):
         readout = "return document.getElementById('readout').textContent"
         self.wait(lambda: "4 vertices in the ring" in self.script(readout))
 
+    def test_vertex_out_of_view(self):
+        """A vertex to which a key goes is seen, also where the picture is magnified."""
+        self.open()
+        self.paste("LINESTRING(0 0,30 40,60 0)")
+        for _ in range(8):
+            self.by_id("in").click()
+        self.by_id("canvas").send_keys("")
+        for wanted in ("0 0", "30 40", "60 0"):
+            self.press(".")
+            self.wait(lambda wanted=wanted: self.said("vertex").startswith(wanted))
+            self.still()
+            self.wait(lambda: self.box("--ink"), 10)
+
     def test_spoken_once(self):
         """The live region speaks when one has stopped typing, and not at each key."""
         self.open()

@@ -3,6 +3,7 @@ import assert from 'node:assert/strict';
 import { readFileSync, readdirSync } from 'node:fs';
 import { test } from 'node:test';
 import { History, difference } from '../history.js';
+import { lengthOf } from '../hit.js';
 import { Range, compare } from '../range.js';
 import { Repeats } from '../repeats.js';
 import { changedPieces, piecesOf, splitOfFront } from '../split.js';
@@ -101,6 +102,15 @@ test('counts of one text', () => {
   for (const [text, ...wanted] of SUMMARIES) {
     const s = new Summary(text);
     assert.deepEqual([s.kind, s.dimension, s.points, s.rings, s.polygons, s.holes, s.members, s.levels, s.empty, s.open, s.short], wanted, text);
+  }
+});
+
+test('a length has the digits of its numbers, also where doubles don’t', () => {
+  for (const [points, wanted] of [['0 0,3 4,3 5', 6], ['12345678901234567890 1,12345678901234569999 1', 2109], ['-0.1 7,-0.100000000000000002 7', 2e-18],
+    ['12345678901234567890.5 -1,12345678901234567890.5 2', 3]]) {
+    const digits = points.split(',');
+    const length = lengthOf(digits.flatMap((it) => it.split(' ').map(Number)), (i) => digits[i]);
+    assert.ok(Math.abs(length - wanted) <= 1e-9 * wanted, `${points}: ${length}`);
   }
 });
 
