@@ -14,8 +14,6 @@ const WIDTH = 8.1;
 const MOVES = new Set(['ArrowUp', 'ArrowDown', 'ArrowLeft', 'ArrowRight', 'Home', 'End', 'PageUp', 'PageDown']);
 
 const mirror = $('mirror');
-/** What stood in the mirror: how many lines, in which field. */
-let before = { lines: 0, many: false };
 /** Where the field is scrolled to, and how high it is: to ask for it would lay out the page at each key. */
 let scrolled = { top: 0, left: 0, height: 0 };
 
@@ -68,14 +66,11 @@ function follow() {
   else mirror.scrollTop = scrollTop;
 }
 
-/** Shows the numbers of the lines and the marks. `soon`: the answers come soon, and the numbers are shown where they changed. */
-export function showMarks(soon = false) {
-  const { value, starts, isMany } = field;
-  const was = before;
-  before = { lines: starts.length, many: isMany };
-  if (isMany) {
-    if (!was.many) follow();
-    else if (!soon || was.lines !== starts.length) showSeen();
+/** Shows the numbers of the lines and the marks. */
+export function showMarks() {
+  const { value, starts } = field;
+  if (field.isMany) {
+    showSeen();
     return;
   }
   fillByKeys(mirror, value === '' || value.length > MARKED ? [] : starts.map((_, i) => lineNode(i)));

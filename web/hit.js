@@ -54,7 +54,7 @@ function inside({ area, rings, ends }, x, y) {
 const isNear = ({ x, y }, px, py, reach) =>
   !x.empty && px >= x.low - reach && px <= x.high + reach && py >= y.low - reach && py <= y.high + reach;
 
-/** Calls `see` with each vertex of a geometry's summary: its place and where it is. */
+/** Calls `see` with each ring or line of a geometry's summary, and where it is. */
 function eachRing(summary, see) {
   summary.leaves.forEach((leaf, l) => leaf.rings.forEach((xy, r) => see(leaf, xy, { leaf: l, ring: r })));
 }

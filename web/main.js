@@ -36,14 +36,10 @@ function analyse(here = false) {
   $('verdict').setAttribute('aria-busy', 'true');
   clearTimeout(slow);
   slow = setTimeout(() => state.settled || say('idle', 'Checking', count(state.rows.length, 'text')), SLOW);
-  answer(field.value, () => (here ? toldOf(rowAtCursor()) : {}));
-  if (!state.settled) marksSoon();
+  answer(field.value, () => toldOf(here ? rowAtCursor() : -1));
+  // The marks are shown before the next frame, where they aren't shown with the answers.
+  if (!state.settled) requestAnimationFrame(() => state.settled || showMarks());
   showOffer(field.value, put);
-}
-
-/** Shows the marks before the next frame, where they aren't shown with the answers. */
-function marksSoon() {
-  requestAnimationFrame(() => state.settled || showMarks(true));
 }
 
 /** All is answered: shows it. */

@@ -18,8 +18,9 @@ export const fit = () => ask({ fit: true });
 
 const asChosen = (i) => ({ id: state.rows[i]?.id ?? -1, single });
 
-/** What the worker is told with a change: which row will be chosen. */
+/** What the worker is told with a change: which row will be chosen; -1: that isn't known. */
 export function toldOf(i) {
+  if (i < 0) return {};
   foretold = asChosen(i);
   return { picture: { chosen: foretold } };
 }
