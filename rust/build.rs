@@ -1,4 +1,4 @@
-//! Links libwkt: that of the folder WKT_LIB_DIR; in a clone of the project the one that ../capi/build.sh makes, without the
+//! Links libwkt: that of the folder `WKT_LIB_DIR`; in a clone of the project the one that ../capi/build.sh makes, without the
 //! prover; elsewhere the one that pkg-config finds.
 use std::env;
 use std::path::Path;

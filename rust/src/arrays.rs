@@ -7,7 +7,7 @@ use crate::{ffi, names};
 /// A geometry that is no collection as flat arrays.
 ///
 /// A line string, a line and a point (of one coordinate, or none if it is empty) count as a ring, and the rings of each
-/// kind but MultiPolygon as one polygon: a Point has `rings` 0, 1 and `polygons` 0, 1.
+/// kind but `MultiPolygon` as one polygon: a Point has `rings` 0, 1 and `polygons` 0, 1.
 #[derive(Debug, Clone, PartialEq, Eq)]
 pub struct Arrays {
     /// Its kind; no collection.

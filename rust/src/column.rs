@@ -54,7 +54,7 @@ pub struct ColumnArrays {
     pub statuses: Vec<u32>,
 }
 
-/// The canonical texts of a column of whole texts, in the layout of Arrow's large_utf8: row i is the bytes of `texts` from offset
+/// The canonical texts of a column of whole texts, in the layout of Arrow's `large_utf8`: row i is the bytes of `texts` from offset
 /// i to offset i + 1, and bit `i % 8` of byte `i / 8` of `valid` is 0 where it is null. No byte of `valid`: no row is.
 ///
 /// ```

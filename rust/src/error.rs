@@ -37,6 +37,7 @@ pub enum Error {
 
 /// The words of a status of `include/wkt.h`, as in the lists of statuses of a column; empty where it is none. They are the
 /// library's own, so a later one has words for its statuses.
+#[must_use]
 pub fn message(status: u32) -> &'static str {
     // SAFETY: it takes any number.
     own_text(unsafe { ffi::wkt_message(status) })
@@ -60,6 +61,7 @@ impl Error {
     }
 
     /// The refusal, if a text is refused.
+    #[must_use]
     pub fn refusal(&self) -> Option<&Refusal> {
         match self {
             Error::Refused(refusal) => Some(refusal),
@@ -139,6 +141,7 @@ impl Refusal {
     /// assert_eq!(why.mark(text), "    POINT(1)\n           ^\n");
     /// # Ok::<(), wkt_proved::Error>(())
     /// ```
+    #[must_use]
     pub fn mark(&self, text: &str) -> String {
         let stop = match self.expected {
             Expected::End => self.start,
@@ -266,7 +269,7 @@ pub enum Hint {
     Minus,
     /// A box.
     Box,
-    /// GeoJSON, or another text in braces.
+    /// `GeoJSON`, or another text in braces.
     Braces,
     /// A number or a parenthesis in place of a kind word.
     NoKind,

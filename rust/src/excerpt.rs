@@ -58,15 +58,12 @@ impl<'a> Excerpt<'a> {
 /// The text as it is shown: what isn't printable by its number, as `\x1b` or `\u{202e}`, since it could move or hide the rest.
 /// A tab stays.
 fn shown(text: &str) -> String {
-    let mut shown = String::new();
-    for c in text.chars() {
-        match u32::from(c) {
-            _ if c == '\t' || is_printable(c) => shown.push(c),
-            number @ 0..=0x7f => shown += &format!("\\x{number:02x}"),
-            number => shown += &format!("\\u{{{number:x}}}"),
-        }
-    }
-    shown
+    let one = |c| match u32::from(c) {
+        _ if c == '\t' || is_printable(c) => c.to_string(),
+        number @ 0..=0x7f => format!("\\x{number:02x}"),
+        number => format!("\\u{{{number:x}}}"),
+    };
+    text.chars().map(one).collect()
 }
 
 /// Whether a character is printable, as Rust's `escape_debug` has it. It stands behind a letter there, or an accent would be
@@ -82,9 +79,10 @@ fn is_printable(c: char) -> bool {
 
 impl fmt::Display for Excerpt<'_> {
     fn fmt(&self, f: &mut fmt::Formatter<'_>) -> fmt::Result {
-        let (dots, blanks) = match self.begins_line {
-            true => ("", ""),
-            false => ("...", "   "),
+        let (dots, blanks) = if self.begins_line {
+            ("", "")
+        } else {
+            ("...", "   ")
         };
         let more = if self.ends_line { "" } else { "..." };
         let (before, marked, after) = (shown(self.before), shown(self.marked), shown(self.after));

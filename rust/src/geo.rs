@@ -121,7 +121,7 @@ fn write_geometry(text: &mut String, geometry: &Geometry<f64>, level: usize) -> 
 }
 
 /// The geometry that a text is. Each number becomes the nearest `f64`. As in the crate `wkt`, z and m are left out, and an
-/// empty point is an empty MultiPoint, since a point of geo-types has coordinates.
+/// empty point is an empty `MultiPoint`, since a point of geo-types has coordinates.
 ///
 /// ```
 /// use geo_types::{point, Geometry};
@@ -189,9 +189,10 @@ impl<'a> Reader<'a> {
         while self.takes("(") || self.takes(",") {
             members.push(one(self)?);
         }
-        match self.takes(")") {
-            true => Ok(members),
-            false => Err(NO_FORM),
+        if self.takes(")") {
+            Ok(members)
+        } else {
+            Err(NO_FORM)
         }
     }
 

@@ -34,6 +34,7 @@ impl GeometryType {
     ];
 
     /// The kind of this number, if it is one.
+    #[must_use]
     pub fn from_number(number: u32) -> Option<GeometryType> {
         GeometryType::ALL.get(number as usize).copied()
     }
@@ -69,11 +70,13 @@ impl Dimension {
     ];
 
     /// The dimension of this number, if it is one.
+    #[must_use]
     pub fn from_number(number: u32) -> Option<Dimension> {
         Dimension::ALL.get(number as usize).copied()
     }
 
     /// How many numbers a coordinate has.
+    #[must_use]
     pub fn size(self) -> usize {
         2 + DIMENSION_WORDS[self as usize].len()
     }

@@ -1,5 +1,5 @@
 //! The names that the crate shares with the other languages.
-#![allow(dead_code)]
+#![allow(dead_code, clippy::doc_markdown)]
 // names.py: rust (tests/gate/names.py --write makes this of docs/names.tsv)
 /// The words of a status, at its number.
 pub const MESSAGES: [&str; 34] = [

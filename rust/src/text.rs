@@ -205,12 +205,14 @@ pub fn infer(text: &str) -> Result<(GeometryType, Dimension), InferError> {
 }
 
 /// Whether the library runs on this processor. Where it doesn't, every call's error is `NotSupported`.
+#[must_use]
 pub fn is_supported() -> bool {
     // SAFETY: it takes nothing.
     unsafe { ffi::wkt_supported() == 1 }
 }
 
 /// The version of the library that is linked.
+#[must_use]
 pub fn version() -> &'static str {
     // SAFETY: it takes nothing.
     own_text(unsafe { ffi::wkt_version() })

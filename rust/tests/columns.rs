@@ -77,15 +77,20 @@ fn flat_arrays() {
     assert_eq!(texts_of_arrays(&wrong), Err(Error::NotColumn));
 }
 
+/// The offsets of a column of this text alone.
+fn one_row(text: &str) -> [i64; 2] {
+    [0, i64::try_from(text.len()).unwrap()]
+}
+
 /// The rooms are too small at first.
 #[test]
 fn much_in_a_row() {
     let many = format!("MULTIPOINT({}EMPTY)", "EMPTY,".repeat(100));
-    let held = arrays_of_column(many.as_bytes(), &[0, many.len() as i64], &[], 1).unwrap();
+    let held = arrays_of_column(many.as_bytes(), &one_row(&many), &[], 1).unwrap();
     assert_eq!(held.rings, arrays(&many, 1).unwrap().rings);
     let short = ".1 .1,".repeat(1000);
     let text = format!("LINESTRING({short}1 1)");
-    let column = canonical_column(text.as_bytes(), &[0, text.len() as i64], &[], 1).unwrap();
+    let column = canonical_column(text.as_bytes(), &one_row(&text), &[], 1).unwrap();
     let want = format!("LINESTRING({}1 1)", "0.1 0.1,".repeat(1000));
     assert_eq!(column.row(0), Some(Ok(want.as_str())));
 }

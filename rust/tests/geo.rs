@@ -75,9 +75,9 @@ fn other_kinds_are_written() {
 fn numbers() {
     // The nearest number, also of more digits than it has.
     let got = from_text("POINT(0.100000000000000005 123456789.012345678)", 18);
-    assert_eq!(got, Ok(point!(x: 0.1, y: 123456789.01234567).into()));
+    assert_eq!(got, Ok(point!(x: 0.1, y: 123_456_789.012_345_67).into()));
     for (x, hint) in [
-        (0.1234567, Hint::Places(6)),
+        (0.123_456_7, Hint::Places(6)),
         (f64::NAN, Hint::NoNumber),
         (f64::NEG_INFINITY, Hint::NoNumber),
         (1e300, Hint::Large),

@@ -90,17 +90,19 @@ impl Write for Full {
     }
 }
 
+struct Broken;
+
+impl Read for Broken {
+    fn read(&mut self, _: &mut [u8]) -> io::Result<usize> {
+        Err(io::ErrorKind::ConnectionReset.into())
+    }
+}
+
 #[test]
 fn failing_ends() {
     let (input, _) = long_input();
     let error = stream(&input[..], Full(100), 18).unwrap_err();
     assert_eq!(error.kind(), io::ErrorKind::BrokenPipe);
-    struct Broken;
-    impl Read for Broken {
-        fn read(&mut self, _: &mut [u8]) -> io::Result<usize> {
-            Err(io::ErrorKind::ConnectionReset.into())
-        }
-    }
     let error = stream(Broken, io::sink(), 18).unwrap_err();
     assert_eq!(error.kind(), io::ErrorKind::ConnectionReset);
     let mut lines = read_lines(io::BufReader::new(Broken), 18);
@@ -134,7 +136,7 @@ fn printed(name: &str, input: &str, places: u32) -> String {
         if let Some(why) = explain(line, places).unwrap() {
             let shown = why.to_string();
             let shown = shown.strip_prefix("1:").unwrap();
-            out += &format!("{name}:{}:{shown}\n{}", at + 1, why.mark(line));
+            out += &[name, &format!(":{}:{shown}\n", at + 1), &why.mark(line)].concat();
             refused += 1;
         }
     }
@@ -164,15 +166,12 @@ fn plain(text: &str) -> String {
     let mut rest = text;
     while let Some((before, escaped)) = rest.split_once('\\') {
         out.extend_from_slice(before.as_bytes());
-        rest = match escaped.strip_prefix('\\') {
-            Some(behind) => {
-                out.push(b'\\');
-                behind
-            }
-            None => {
-                out.push(u8::from_str_radix(&escaped[1..3], 16).unwrap());
-                &escaped[3..]
-            }
+        rest = if let Some(behind) = escaped.strip_prefix('\\') {
+            out.push(b'\\');
+            behind
+        } else {
+            out.push(u8::from_str_radix(&escaped[1..3], 16).unwrap());
+            &escaped[3..]
         };
     }
     out.extend_from_slice(rest.as_bytes());
