@@ -3,8 +3,8 @@ use crate::error::Error;
 use crate::text::{known, whole, written};
 use crate::{ffi, names};
 
-/// The canonical texts of a column.
-#[derive(Debug, Clone, PartialEq, Eq, Default)]
+/// The canonical texts of a column; by default of no rows.
+#[derive(Debug, Clone, PartialEq, Eq)]
 pub struct Column {
     /// The texts, one after the other.
     pub texts: String,
@@ -13,6 +13,16 @@ pub struct Column {
     /// 0 of each row that has a text; else the status of `include/wkt.h` that says why it has none, and its text is
     /// empty. [`message`](crate::message) has its words.
     pub statuses: Vec<u32>,
+}
+
+impl Default for Column {
+    fn default() -> Column {
+        Column {
+            texts: String::new(),
+            offsets: vec![0],
+            statuses: Vec::new(),
+        }
+    }
 }
 
 impl Column {
@@ -29,8 +39,8 @@ impl Column {
 }
 
 /// The arrays of a column. What [`Arrays`](crate::Arrays) calls the numbers of a geometry are, of row i, those from
-/// `number_offsets[i]` to `number_offsets[i + 1]` in `numbers`; so its rings and its polygons.
-#[derive(Debug, Clone, PartialEq, Eq, Default)]
+/// `number_offsets[i]` to `number_offsets[i + 1]` in `numbers`; so its rings and its polygons. By default it has no rows.
+#[derive(Debug, Clone, PartialEq, Eq)]
 pub struct ColumnArrays {
     /// How many digits after the point the units of the numbers stand for.
     pub places: u32,
@@ -52,6 +62,23 @@ pub struct ColumnArrays {
     pub polygon_offsets: Vec<i64>,
     /// 0 of each row that has arrays; else the status that says why it has none.
     pub statuses: Vec<u32>,
+}
+
+impl Default for ColumnArrays {
+    fn default() -> ColumnArrays {
+        ColumnArrays {
+            places: 0,
+            kinds: Vec::new(),
+            dimensions: Vec::new(),
+            numbers: Vec::new(),
+            number_offsets: vec![0],
+            rings: Vec::new(),
+            ring_offsets: vec![0],
+            polygons: Vec::new(),
+            polygon_offsets: vec![0],
+            statuses: Vec::new(),
+        }
+    }
 }
 
 /// The canonical texts of a column of whole texts, in the layout of Arrow's `large_utf8`: row i is the bytes of `texts` from offset

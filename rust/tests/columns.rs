@@ -32,6 +32,25 @@ fn texts() {
     assert_eq!(canonical_column(b"", &[0], &[], 37), Err(Error::NoPlaces));
 }
 
+/// A default column has no rows.
+#[test]
+fn no_rows() {
+    assert_eq!(
+        texts_of_arrays(&ColumnArrays::default()),
+        Ok(Column::default())
+    );
+    assert_eq!(canonical_column(b"", &[0], &[], 6), Ok(Column::default()));
+    assert_eq!(
+        arrays_of_column(b"", &[0], &[], 0),
+        Ok(ColumnArrays::default())
+    );
+    let texts = Column::default();
+    assert_eq!(
+        canonical_column(texts.texts.as_bytes(), &texts.offsets, &[], 6),
+        Ok(texts)
+    );
+}
+
 /// A row is one text as a whole, and bytes.
 #[test]
 fn rows() {
