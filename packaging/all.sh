@@ -14,8 +14,8 @@ skips debs || "$here/debs.sh" "$out"
 version=$(sed -n 's/^#define WKT_VERSION "\(.*\)"/\1/p' "$here/../include/wkt.h")
 cat << END
 The release is in $out, and was tried. Left for a person, who has the keys and the accounts:
-  before the first one, write the address into README.md ("Get it"), the contact into SECURITY.md, and the maintainer's
-    address in place of wkt@example.org (git grep -l wkt@example)
+  before the first one, write the address into README.md ("Get it") and rust/Cargo.toml, the contact into SECURITY.md, and
+    the maintainer's address in place of wkt@example.org (git grep -l wkt.example)
   git tag -s v$version && git push origin v$version
   gpg --armor --detach-sign $out/SHA256SUMS
   upload SHA256SUMS, its signature, and what it lists, to the page of the release

@@ -1,8 +1,8 @@
 #!/usr/bin/env bash
 # Tests the Rust crate over the library in capi/out: by the cargo that is found, and with the feature geo-types by Debian's
-# cargo and rustc, the oldest that the crate promises; over a library with numbers of later versions; its documentation without a library; the example of README.md; and
-# clippy and rustfmt, where the cargo that is found has them. The crates come from Debian's registry
-# (librust-geo-types-dev), so no network is needed.
+# cargo and rustc, the oldest that the crate promises; over a library with numbers of later versions; its package; its
+# documentation without a library; the example of README.md; and clippy and rustfmt, where the cargo that is found has them.
+# The crates come from Debian's registry (librust-geo-types-dev), so no network is needed.
 set -u
 cd "$(dirname "$0")" || exit 1
 fail() { echo "rust: $*"; exit 1; }
@@ -30,6 +30,11 @@ objcopy "${renamed[@]}" "$WKT_LIB_DIR/libwkt.a" "$dir/later/libwkt.a" &&
     "${CC:-cc}" -Wall -Wextra -Werror -fPIC -I"$WKT_LIB_DIR" -c tests/later.c -o "$dir/later.o" &&
     ar rc "$dir/later/libwkt.a" "$dir/later.o" || fail "later.c"
 run "a later library" env WKT_LIB_DIR="$dir/later" cargo test --offline --test later --target-dir "$dir/found" -- --ignored
+
+# The package that cargo would publish, made and built.
+cargo package --offline --allow-dirty --target-dir "$dir/found" > "$dir/said" 2>&1 || { cat "$dir/said"; fail "cargo package"; }
+! grep 'manifest has no' "$dir/said" || fail "its manifest"
+echo "rust: its package is built"
 
 # As docs.rs builds it: the crate alone, and no library.
 cp -r Cargo.toml README.md build.rs src examples "$dir"
