@@ -37,10 +37,10 @@ pub(crate) fn canonical(
     requires { places_in asked ≤ 36 }
     ensures { AnswersCanonical asked text.now result out.old out.new needed.old needed.new end.old end.new }
 {
-    if text.len() <= SHORT {
-        return canonical_short(text, asked, out, needed, end);
+    if text.len() > SHORT {
+        return canonical_long(alloc, text, asked, out, needed, end);
     }
-    canonical_long(alloc, text, asked, out, needed, end)
+    canonical_short(text, asked, out, needed, end)
 }
 
 /// Answers a text that isn't short with the canonical text of what it begins with.

@@ -7,7 +7,7 @@ ghost use Rattle.wkt_calls.specs.Calls.{AnswersCanonical, WritesAsked, WritesOrR
 ghost use Rattle.wkt_calls.specs.Answer.{read_at, print_at, places_in, asks_whole, EndsAsAsked, IsHandedOut, HasNoRoom};
 
 use crate::asked::{ends_as_asked, places_of};
-use crate::fill::copy_out;
+use crate::fill::{copy_out, copy_out_at_once};
 use crate::status::{DONE, NOT_TEXT, NOT_WHOLE, SMALL};
 use std::simd::prelude::*;
 use wkt_canonical::laws::texts_are_short;
@@ -17,8 +17,9 @@ use wkt_read::Message;
 
 /// How long a text may be that is answered with no memory.
 pub const SHORT: usize = 200;
-/// How long a text may be that is answered with the least room, since that is cleared for each call: most points are no longer.
-pub(crate) const SHORTEST: usize = 32;
+/// How long a text may be that is answered with the least room, since that is cleared for each call: most points are no longer,
+/// and the room for one byte more is a vector longer.
+pub(crate) const SHORTEST: usize = 31;
 /// How long a text may be that is answered with little room: the polygon of `capi/bench/calls.sh` is no longer.
 pub(crate) const SHORTER: usize = 63;
 /// How many zeros stand behind a short text: what the machine looks at together.
@@ -127,7 +128,7 @@ fn is_utf8(text: &[u8]) -> bool
 
 /// Whether a text is UTF-8 that also stands at the front of these bytes: where they are of ASCII it is.
 #[inline(always)]
-fn is_text(text: &[u8], near: &[u8]) -> bool
+pub(crate) fn is_text(text: &[u8], near: &[u8]) -> bool
     requires within { length text.now + 32 ≤ length near.now }
     requires front { take (length text.now) near.now ≡ text.now }
     ensures yes { result ≡ true → IsUtf8 text.now }
@@ -219,13 +220,14 @@ pub fn canonical_short(
     requires short { length text.now ≤ SHORT }
     ensures { AnswersCanonical asked text.now result out.old out.new needed.old needed.new end.old end.new }
 {
-    if text.len() <= SHORTEST {
-        return canonical_cleared::<64, 208>(text, asked, out, needed, end);
-    }
-    if text.len() <= SHORTER {
+    if text.len() > SHORTEST {
+        if text.len() > SHORTER {
+            return canonical_cleared::<256, 544>(text, asked, out, needed, end);
+        }
         return canonical_cleared::<96, 256>(text, asked, out, needed, end);
     }
-    canonical_cleared::<256, 544>(text, asked, out, needed, end)
+    // Last, so that it is jumped to and not called: most points go there.
+    canonical_cleared::<64, 192>(text, asked, out, needed, end)
 }
 
 /// The same, with so many cleared bytes for the text, and so many for its canonical text.
@@ -248,7 +250,10 @@ fn canonical_cleared<const NEAR: usize, const ROOM: usize>(
     match write_short(text, asked, &mut near, &mut room) {
         Ok((at, n)) => {
             *end = at;
-            copy_out_front(text, at, asked, &room[..n], out, needed)
+            if !ends_as_asked(text, at, asked) {
+                return NOT_WHOLE;
+            }
+            copy_out_at_once(&room[..n], out, needed)
         }
         Err(status) => status,
     }

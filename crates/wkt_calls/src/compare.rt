@@ -1,9 +1,9 @@
 //! Texts compared by the one text of what each begins with.
-ghost use Rattle.std.specs.Prelude.{◌≡◌, ◌+◌, ◌*◌, ◌≤◌, ◌↔◌, ◌⊎◌, ℕ, IsTrue, MatchResult, IsUtf8, length, slice_index};
+ghost use Rattle.std.specs.Prelude.{◌≡◌, ◌+◌, ◌*◌, ◌≤◌, ◌↔◌, ◌⊎◌, ℕ, IsTrue, MatchResult, IsUtf8, length};
 ghost use Rattle.wkt_calls.specs.Calls.{AreCompared};
 ghost use Rattle.wkt_calls.specs.Answer.{read_at, print_at, places_in, IsCanonicalOf, Compares, RefusesOne};
 
-use crate::canonical::{SHORT, SHORTER, SHORTEST, before_zeros, write_short, write_within};
+use crate::canonical::{SHORT, SHORTER, SHORTEST, is_text, write_short, write_within};
 use crate::status::NOT_TEXT;
 
 /// Whether these two canonical texts are one.
@@ -38,18 +38,16 @@ pub struct Compared {
     pub other_end: usize,
 }
 
-/// The status of two texts of which the first is refused with this one: that the other isn't UTF-8 comes first.
+/// The status of two texts of which the first is refused with this one: that the other isn't UTF-8 comes first. The room is
+/// one that is no longer needed, so that none is cleared for this.
 #[cold]
 #[inline(never)]
-fn refused_first(status: u32, other: &[u8], near: &mut [u8]) -> u32
-    requires near { length other.now + 32 ≤ length near.old }
-    requires zeros { (i : ℕ) → slice_index near.old i ≡ 0 }
+fn refused_first(status: u32, other: &[u8], room: &mut [u8]) -> u32
+    requires { length other.now + 32 ≤ length room.old }
     ensures { ((result ≡ status) × IsUtf8 other.now) ⊎ ((result ≡ NOT_TEXT) × (IsUtf8 other.now → ⊥)) }
 {
-    match before_zeros(other, near) {
-        Some(_) => status,
-        None => NOT_TEXT,
-    }
+    room[..other.len()].copy_from_slice(other);
+    if is_text(other, room) { status } else { NOT_TEXT }
 }
 
 /// Whether two texts of up to [`SHORT`] bytes begin with one geometry.
@@ -61,7 +59,7 @@ pub fn same_short(one: &[u8], other: &[u8], asked: u32) -> Result<Compared, u32>
     ensures { MatchResult result (AreCompared asked one.now other.now) (RefusesOne (read_at (places_in asked)) one.now other.now) }
 {
     if one.len() <= SHORTEST && other.len() <= SHORTEST {
-        return same_cleared::<64, 208>(one, other, asked);
+        return same_cleared::<64, 192>(one, other, asked);
     }
     // For the point of fifteen decimals of capi/bench/calls.sh.
     if one.len() <= SHORTER && other.len() <= SHORTER {
@@ -87,11 +85,11 @@ fn same_cleared<const NEAR: usize, const ROOM: usize>(
 {
     let mut near = [0u8; NEAR];
     let mut room = [0u8; ROOM];
-    let mut other_near = [0u8; NEAR];
     let (end, n) = match write_short(one, asked, &mut near, &mut room) {
         Ok(written) => written,
-        Err(status) => return Err(refused_first(status, other, &mut other_near)),
+        Err(status) => return Err(refused_first(status, other, &mut room)),
     };
+    let mut other_near = [0u8; NEAR];
     let mut other_room = [0u8; ROOM];
     let (other_end, m) = match write_short(other, asked, &mut other_near, &mut other_room) {
         Ok(written) => written,

@@ -57,3 +57,19 @@ pub fn copy_out(answer: &[u8], out: &mut [u8], needed: &mut usize) -> u32
     copy_to_front(answer, out);
     DONE
 }
+
+/// Does what `copy_out` does with a short answer: that is copied at once, not in pieces.
+#[inline(always)]
+pub(crate) fn copy_out_at_once(answer: &[u8], out: &mut [u8], needed: &mut usize) -> u32
+    ensures stands { result ≡ DONE → IsHandedOut answer.now needed.new out.old out.new }
+    ensures lacks { result ≡ SMALL → HasNoRoom answer.now needed.new out.old }
+    ensures kept { 1 ≤ result → out.new ≡ out.old }
+    ensures two { (result ≡ DONE) ⊎ (result ≡ SMALL) }
+{
+    *needed = answer.len();
+    if answer.len() > out.len() {
+        return SMALL;
+    }
+    out[..answer.len()].copy_from_slice(answer);
+    DONE
+}

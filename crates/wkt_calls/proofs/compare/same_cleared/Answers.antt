@@ -1,4 +1,5 @@
 -- The bytes behind both short texts are zeros; and the first is refused, or the other isn't UTF-8.
+use Rattle.std.proofs.Common.{arith}
 use Rattle.wkt_calls.specs.Answer.{read_at, places_in}
 use Rattle.wkt_calls.proofs.Padded.{zeros-at, cleared-long}
 use Rattle.wkt_calls.proofs.Pieces.{refused-first}
@@ -13,11 +14,8 @@ write_short-requires-clause-zeros g c = zeros-at g.row.NEAR
 pub write_short-requires-clause-room : goal.write_short-requires-clause-room
 write_short-requires-clause-room g c = cleared-long g.row.ROOM _ c.requires.room
 
-pub refused_first-requires-clause-near : goal.refused_first-requires-clause-near
-refused_first-requires-clause-near g c = cleared-long g.row.NEAR _ c.requires.other_near
-
-pub refused_first-requires-clause-zeros : goal.refused_first-requires-clause-zeros
-refused_first-requires-clause-zeros g c = zeros-at g.row.NEAR
+pub refused_first-requires : goal.refused_first-requires
+refused_first-requires g c = omega (arith, c.write_short.ensures.whole, cleared-long g.row.ROOM _ c.requires.other_room)
 
 pub returns-in-Err : goal.returns-in-Err
 returns-in-Err g c = refused-first (read_at (places_in c.args.asked)) c.args.one.now c.args.other.now c.in-Err.status c.refused_first.result c.in-Err.ensures.canonical c.refused_first.ensures
