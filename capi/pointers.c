@@ -13,14 +13,14 @@ __attribute__((constructor)) static void see(void) {
 /* What is passed in place of NULL for a buffer of size 0. */
 static int64_t nothing;
 
-/* Whether something may be wrong, at little cost: a pointer is NULL, the highest bit of `unseen` or of a size is set, or there
- * are 2^60 items of 4 or 8 bytes. */
-#define MISSES(at) || !(at)
+/* Whether something may be wrong, at little cost: the highest bit of `unseen`, of a size or of a pointer less 1 is set, as it is
+ * where the pointer is NULL; or there are 2^60 items of 4 or 8 bytes. */
+#define MISSES(at) | ((uintptr_t)(at) - 1)
 #define BYTES(at) | (sizeof *(at) == 1 ? at##_len : 0)
 #define ITEMS(at) | (sizeof *(at) == 1 ? 0 : at##_len)
 #define NONE(at)
 #define MAY_BE_WRONG(LIST) \
-    ((intptr_t)(unseen LIST(BYTES, NONE)) < 0 || ((size_t)0 LIST(ITEMS, NONE)) >> 60 LIST(MISSES, MISSES))
+    ((intptr_t)(unseen LIST(BYTES, NONE) LIST(MISSES, MISSES)) < 0 || ((size_t)0 LIST(ITEMS, NONE)) >> 60)
 
 /* What is wrong. */
 #define CHECK_BUFFER(at) \
