@@ -22,7 +22,7 @@ pub fn has_places(asked: u32) -> bool
     ensures yes { result ≡ true → places_in asked ≤ 36 }
     ensures no { result ≡ false → 36 < places_in asked }
 {
-    places_of(asked) <= MOST_ASKED
+    asked <= MOST_ASKED || (asked >= WHOLE && asked <= WHOLE + MOST_ASKED)
 }
 
 /// Whether whole texts are asked for.
