@@ -1,8 +1,11 @@
 //! The other callers and examples, each called.
 use crate::any_geometry::{count_members, first_member, write_members};
 use crate::equal;
+use crate::every_geometry::{every_geometry, every_geometry_of_stream};
 use crate::flat_from_reader::{CopyError, copy_polygon};
 use crate::from_text::geometry_in;
+use crate::json_service::serve;
+use crate::key::key;
 use crate::my_map::{Figure, Map};
 use crate::my_sinks::{Page, Piecewise, answers};
 use crate::one_text::write_flat_key;
@@ -16,9 +19,6 @@ use wkt::geo_types::{Coord, Geometry, Line, LineString, Point};
 use wkt::to_wkt::CountedText;
 use wkt::tokenizer::{PeekableTokens, Tokens};
 use wkt::{Decimal, ToWktError, TryFromWkt};
-use crate::every_geometry::{every_geometry, every_geometry_of_stream};
-use crate::json_service::serve;
-use crate::key::key;
 use wkt_lines::RunError;
 
 /// Two groups of nothing.

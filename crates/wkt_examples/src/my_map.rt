@@ -3,11 +3,11 @@
 ghost use Rattle.std.specs.Prelude.{map};
 ghost use Rattle.wkt_examples.specs.Mine.{line_of, polygon_of, figure_shape};
 
+use crate::my_points::{Dot, Dots, Spot};
 use wkt::geo_traits::{
     Dimensions, GeometryCollectionTrait, GeometryTrait, GeometryType, LineStringTrait, LineTrait,
     MultiLineStringTrait, MultiPolygonTrait, PolygonTrait, RectTrait, TriangleTrait,
 };
-use crate::my_points::{Dot, Dots, Spot};
 
 /// A line string, or a ring.
 #[derive(Drop)]

@@ -1,7 +1,10 @@
 //! The callers and examples that answer a text, over rows of texts and what they give. Memory that runs out is an error,
 //! which `tests/gate/each_growth.sh` tries at each allocation.
 use crate::equal;
+use crate::my_builder::has_empty;
+use crate::my_number::Half;
 use crate::one_text::{flat_key, same_place, tidy, tidy_if_any, tidy_pair};
+use crate::refusal::{Answer, answer_to};
 use std::alloc::{AllocError, Global};
 use std::fmt::Display;
 use std::process::Abort;
@@ -9,9 +12,6 @@ use std::test::Fail;
 use wkt::geo_types::Geometry;
 use wkt::geo_types_from_wkt::Error;
 use wkt::{AnyError, Decimal, TryFromWkt};
-use crate::my_builder::has_empty;
-use crate::my_number::Half;
-use crate::refusal::{Answer, answer_to};
 
 type Number = Decimal<6>;
 
