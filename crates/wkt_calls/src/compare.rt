@@ -47,7 +47,11 @@ fn refused_first(status: u32, other: &[u8], room: &mut [u8]) -> u32
     ensures { ((result ≡ status) × IsUtf8 other.now) ⊎ ((result ≡ NOT_TEXT) × (IsUtf8 other.now → ⊥)) }
 {
     room[..other.len()].copy_from_slice(other);
-    if is_text(other, room) { status } else { NOT_TEXT }
+    if is_text(other, room) {
+        status
+    } else {
+        NOT_TEXT
+    }
 }
 
 /// Whether two texts of up to [`SHORT`] bytes begin with one geometry.
