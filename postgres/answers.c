@@ -12,21 +12,32 @@ void fail_with_places(int32 most) {
     ereport(ERROR, (errcode(ERRCODE_INVALID_PARAMETER_VALUE), errmsg("places must be between 0 and %d", most)));
 }
 
+/* A cancel ends these two between two parts of a long text. */
 static bool is_ascii(const char *given, size_t length) {
     unsigned char all = 0;
-    for (size_t i = 0; i < length; i++) all |= (unsigned char)given[i];
+    for (size_t at = 0; at < length && all < 0x80; at += LONG_CALL) {
+        size_t end = Min(at + LONG_CALL, length);
+        CHECK_FOR_INTERRUPTS();
+        for (size_t i = at; i < end; i++) all |= (unsigned char)given[i];
+    }
     return all < 0x80;
+}
+
+static uint8_t *as_ascii(const char *given, size_t length) {
+    uint8_t *ascii = palloc(length);
+    for (size_t at = 0; at < length; at += LONG_CALL) {
+        size_t end = Min(at + LONG_CALL, length);
+        CHECK_FOR_INTERRUPTS();
+        for (size_t i = at; i < end; i++) ascii[i] = (uint8_t)given[i] < 0x80 ? (uint8_t)given[i] : 0x7F;
+    }
+    return ascii;
 }
 
 /* In another encoding than UTF-8 nothing is converted: a byte may have no equivalent, and it is refused where it stands. In
  * each encoding of a server the bytes of such a character are 0x80 or more. */
 Question question_of(const char *given, size_t length, uint32_t places) {
     Question asked = {given, (const uint8_t *)given, length, places};
-    if (GetDatabaseEncoding() != PG_UTF8 && !is_ascii(given, length)) {
-        uint8_t *ascii = palloc(length);
-        for (size_t i = 0; i < length; i++) ascii[i] = (uint8_t)given[i] < 0x80 ? (uint8_t)given[i] : 0x7F;
-        asked.utf8 = ascii;
-    }
+    if (GetDatabaseEncoding() != PG_UTF8 && !is_ascii(given, length)) asked.utf8 = as_ascii(given, length);
     return asked;
 }
 

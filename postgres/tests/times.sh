@@ -8,15 +8,17 @@ ask cancel "create extension wkt" "create table long (id int, t text)" "alter ta
     select 2, 'LINESTRING(' || repeat('0 0,', 25000000) || '0 0)' union all
     select 5, 'LINESTRING(' || repeat('.1 .1,', 16000000) || '0 0)'"
 ask cancel "create function digest_of(text) returns bytea as '\$libdir/wkt', 'pg_wkt_digest' language c strict"
+ask postgres "create database latin encoding 'LATIN1' template template0 locale 'C'"
+ask latin "create extension wkt"
 # processor PID: milliseconds of it that the process has taken
 processor() { awk -v hz="$(getconf CLK_TCK)" '{ print int(($14 + $15) * 1000 / hz) }' "/proc/$1/stat"; }
-# session SQL..: what one session prints is in $dir/said, in the end with its ticks of the processor and its memory; before the last
-# of the SQL its process is in $dir/pid.
+# session SQL..: what one session, of the database $on, prints is in $dir/said, in the end with its ticks of the processor and its
+# memory; before the last of the SQL its process is in $dir/pid.
 session() {
     { printf '%s\n' "select pg_backend_pid() as pid \\gset" "\\setenv PID :pid"
         printf '%s;\n' "${@:1:$#-1}"
         printf '%s\n' "\\! echo \$PID > '$dir/pid'" "${*: -1};" "\\! awk '{ print \"ticks\", \$14 + \$15 }' /proc/\$PID/stat; grep RssAnon /proc/\$PID/status"
-    } | "$bin/psql" -X -q -At -d cancel > "$dir/said" 2>&1 || true
+    } | "$bin/psql" -X -q -At -d "${on:-cancel}" > "$dir/said" 2>&1 || true
 }
 # meanwhile MS STATEMENT SQL: once the SQL has taken so much of the processor another session says the statement, of the process
 # :pid, which may have ended by then. It prints how much the SQL takes from then on.
@@ -34,8 +36,9 @@ meanwhile() {
 }
 most=0
 server=$(ask cancel "show server_version_num")
-while read -r ms sql; do
-    [ "$server" -ge 140000 ] || [[ $sql != digest_of* ]] || continue # there it is one call of the server's
+# cancelled DATABASE MS SQL: a cancel ends it once it has taken so much of the processor
+cancelled() {
+    local on=$1 ms=$2 sql=$3
     # Where the machine is faster it comes earlier.
     while after=$(meanwhile "$ms" "select pg_cancel_backend(:pid)" "select $sql") &&
         ! grep -q 'canceling statement due to user request' "$dir/said" && [ "$ms" -gt 20 ]; do ms=$((ms / 2)); done
@@ -43,7 +46,8 @@ while read -r ms sql; do
     [ "$after" -le 600 ] || wrong "cancel: $sql takes $after ms of the processor after a cancel"
     [ "$after" -le "$most" ] || most=$after which=$sql
     [ -z "${VERBOSE:-}" ] || echo "$sql: $after ms of the processor after a cancel at $ms ms"
-done <<'CALLS'
+}
+while read -r ms sql; do cancelled cancel "$ms" "$sql"; done <<'CALLS'
 300 length(wkt_canonical(t)) from long where id = 1
 600 length(wkt_canonical(t)) from long where id = 5
 600 wkt_reads(t) from long where id = 5
@@ -58,9 +62,11 @@ done <<'CALLS'
 1300 wkt_num_points(t::wkt) from long where id = 2
 1100 count(*) from long, wkt_each(t::wkt) where id = 2
 1200 wkt_kind(repeat(repeat('9', 1000000), 600))
-500 digest_of(repeat(repeat('9', 1000000), 600))
 2700 repeat(repeat('9', 1000000), 600)::wkt
 CALLS
+# These are no constants: the planner copies those, and no cancel ends that. Before 14 the digest is one call of the server's.
+[ "$server" -lt 140000 ] || cancelled cancel 800 "digest_of(repeat(repeat('9', 1000000), id)) from generate_series(600, 600) id"
+cancelled latin 1300 "wkt_reads(repeat(repeat('9', 1000000), id) || chr(228)) from generate_series(600, 600) id"
 echo "cancel: calls on some 100 MB take at most $most ms of the processor after a cancel ($which)"
 # A session goes on after timeouts, and has given their memory back.
 session "set statement_timeout = 700" "select wkt_canonical(t) from long where id = 5" "select wkt_reads(t) from long where id = 5" \
@@ -75,7 +81,7 @@ fi
 meanwhile 600 "select pg_terminate_backend(:pid)" "select wkt_canonical(t) from long where id = 5" > /dev/null
 grep -q 'terminating connection due to administrator command' "$dir/said" || wrong "cancel: terminated: $(head -c 200 "$dir/said")"
 is "cancel: the server goes on" "POINT(1 2)" "$(ask cancel "select wkt_canonical('point(1 2)')")"
-ask postgres "drop database cancel"
+ask postgres "drop database cancel" "drop database latin"
 
 # same: wkt_same reads a text that stays the same from row to row once.
 ask postgres "create database same"
