@@ -61,38 +61,6 @@ static PyObject *bind(PyObject *self, PyObject *const *args, Py_ssize_t count) {
     return PyErr_Format(PyExc_KeyError, "%R", args[0]);
 }
 
-static PyObject *texts_of(const Py_buffer *out, const int64_t *ends, const uint32_t *statuses, Py_ssize_t count) {
-    PyObject *texts = PyList_New(count);
-    for (Py_ssize_t i = 0; texts != NULL && i < count; i++) {
-        PyObject *text = NULL;
-        if (ends[i] < 0 || ends[i + 1] < ends[i] || ends[i + 1] > out->len)
-            PyErr_SetString(PyExc_ValueError, "an offset is past the bytes");
-        else if (statuses[i] == 0)
-            text = PyUnicode_FromStringAndSize((const char *)out->buf + ends[i], (Py_ssize_t)(ends[i + 1] - ends[i]));
-        else
-            text = Py_NewRef(Py_None);
-        if (text == NULL || PyList_SetItem(texts, i, text) < 0) Py_CLEAR(texts);
-    }
-    return texts;
-}
-
-static PyObject *unpack(PyObject *self, PyObject *args) {
-    Py_buffer out = {0}, ends = {0}, statuses = {0};
-    PyObject *texts = NULL;
-    Py_ssize_t count;
-    (void)self;
-    if (!PyArg_ParseTuple(args, "y*y*y*", &out, &ends, &statuses)) return NULL;
-    count = statuses.len / (Py_ssize_t)sizeof(uint32_t);
-    if (ends.len != (count + 1) * (Py_ssize_t)sizeof(int64_t))
-        PyErr_SetString(PyExc_ValueError, "there is one offset more than statuses");
-    else
-        texts = texts_of(&out, ends.buf, statuses.buf, count);
-    PyBuffer_Release(&out);
-    PyBuffer_Release(&ends);
-    PyBuffer_Release(&statuses);
-    return texts;
-}
-
 /* A function that takes its arguments as they stand on the stack. */
 #define FAST(name, words) \
     { #name, (PyCFunction)(void (*)(void))fast_##name, METH_FASTCALL, words }
@@ -119,7 +87,8 @@ static PyMethodDef methods[] = {
     FAST(arrays_rows, "arrays_rows(rows or buffers, places, report, are buffers) -> nine buffers"),
     FAST(arrays_list, "arrays_list(rows, places, invalid, report, whether rings and polygons are shared) -> list"),
     FAST(from_arrays_rows, "from_arrays_rows(rows, places or None, numbered) -> list"),
-    {"unpack", unpack, METH_VARARGS, "unpack(bytes, int64 offsets, uint32 statuses) -> list of str and None"},
+    FAST(from_arrays_column,
+         "from_arrays_column(nine buffers, places) -> (list of str and None, list of statuses), or None"),
     {"arrow_array", arrow_array, METH_VARARGS,
      "arrow_array(schema, array, is GeoArrow) -> (type, array), as of a stream"},
     {"arrow_stream", arrow_stream, METH_VARARGS,

@@ -111,4 +111,5 @@ PyObject *fast_arrays(PyObject *self, PyObject *const *args, Py_ssize_t count);
 PyObject *fast_arrays_rows(PyObject *self, PyObject *const *args, Py_ssize_t count);
 PyObject *fast_arrays_list(PyObject *self, PyObject *const *args, Py_ssize_t count);
 PyObject *fast_from_arrays_rows(PyObject *self, PyObject *const *args, Py_ssize_t count);
+PyObject *fast_from_arrays_column(PyObject *self, PyObject *const *args, Py_ssize_t count);
 #endif

@@ -71,6 +71,9 @@ class Numbers(unittest.TestCase):
         for code in "BHILQ":
             self.assertEqual(point(array.array(code, [1, 2])), "POINT(1 2)")
         self.assertEqual(point(memoryview(array.array("q", [1, 2]))), "POINT(1 2)")
+        for code in "bhilqBHILQ":
+            for numbers in (array.array(code, [1, 2, 3, 4]), memoryview(array.array(code, [1, 0, 2, 0, 3, 0, 4]))[::2]):
+                self.assertEqual(wkt.from_arrays_column(column(numbers=numbers), 0)[0], ["POINT(1 2)", "POINT(3 4)"])
         with self.assertRaises(OverflowError):
             point(array.array("Q", [1, 2**63]))
         with self.assertRaises(OverflowError):
@@ -86,6 +89,25 @@ class Numbers(unittest.TestCase):
                             ("number_offsets", 2**63), ("rings", -1), ("polygons", 2**64)]:  # fmt: skip
             with self.assertRaises(OverflowError, msg=name):
                 wkt.from_arrays_column(column(**{name: [wrong, 0]}), 0)
+
+    def test_offsets(self):
+        """Offsets and sizes of no column are refused."""
+        wrong = {name: ([0], [0, 0, 0], []) for name in ("kinds", "dimensions", "statuses")}
+        for name in ("number_offsets", "ring_offsets", "polygon_offsets"):
+            wrong[name] = [0, 2, 5], [-1, 2, 4], [0, 3, 2], [0, 2, 2**60], [-(2**63), 2**63 - 1, 4]
+            wrong[name] += [0, 2], [0, 2, 4, 4], []
+        given = [column(**{name: each}) for name, several in wrong.items() for each in several]
+        none = wkt.ColumnArrays([], [], *3 * ([], [0]), [])
+        self.assertEqual(wkt.from_arrays_column(none, 0), ([], []))
+        given += [none._replace(**{name: each}) for name in list(wrong)[3:] for each in ([1], [-1], [], [0, 0])]
+        for each in given:
+            with self.assertRaises(wkt.WktError, msg=each) as raised:
+                wkt.from_arrays_column(each, 0)
+            self.assertEqual(raised.exception.status, 27)
+        # What is null or refused is passed over, whatever its arrays are; and no row need use all of them.
+        held = column(kinds=[0, 9], number_offsets=[1, 3, 4], numbers=[9, 1, 2, 7, 8])
+        self.assertEqual(wkt.from_arrays_column(held, 0), (["POINT(1 2)", None], [0, 26]))
+        self.assertEqual(wkt.from_arrays_column(held._replace(statuses=[5, 28]), 0), ([None, None], [28, 28]))
 
     def test_kinds(self):
         for wrong in (2**32, 0, 1.0, None):
@@ -135,6 +157,10 @@ class Numbers(unittest.TestCase):
             wkt.from_arrays_column(column(kinds=numpy.array([2**32, 0])), 0)
         with self.assertRaises(TypeError):
             wkt.from_arrays_column(column(numbers=numpy.array([1.0, 2.0, 3.0, 4.0])), 0)
+        whole = numpy.array([[1, 9], [2, 9], [3, 9], [4, 9]])
+        unaligned = numpy.frombuffer(b"x" + numpy.array([1, 2, 3, 4]).tobytes(), numpy.int64, offset=1)
+        for numbers in (whole[:, 0], whole[:, :1], whole[:, 0].astype(">i8"), unaligned, memoryview(unaligned)):
+            self.assertEqual(wkt.from_arrays_column(column(numbers=numbers), 0)[0], ["POINT(1 2)", "POINT(3 4)"])
 
     def test_places(self):
         arrays = wkt.to_arrays("POINT(1 2)", 0)

@@ -217,8 +217,6 @@ class Memory(Arrow):
         self.fail("no end")
 
     def test_each_allocation(self):
-        ends, statuses = numpy.array([0, 3, 5]), numpy.array([0, 0], numpy.uint32)
-        self.assertEqual(self.each(lambda: _fast.unpack(b"abcde", ends, statuses)), ["abc", "de"])
         for format in FORMATS:
             held = HELD + [b"POINT(%d 2)" % i for i in range(20)]
             (_, _), (data, offsets, bits, count, indices) = self.each(
@@ -253,6 +251,7 @@ class Memory(Arrow):
         rows = [*[text for text in given if text != ""], b"point(3 4)", bytearray(b"point(3 4)"), long, "\xe4"]
         wanted, texts = wkt.canonical_column(rows), [long, "POINT(1 2)"]
         packed = tuple(wkt._slow.pack([long, "POINT(1 2)"]))
+        nine = tuple(map(memoryview, wkt.to_arrays_column(texts)[:9]))
         for call, answer in (
             (lambda: _fast.canonical(long, 18, True), long),
             (lambda: _fast.canonical(bytearray(b"point(1 2)"), 18, True), "POINT(1 2)"),
@@ -271,6 +270,7 @@ class Memory(Arrow):
             (lambda: _fast.infer_rows(texts, 0), [("MultiPoint", "XY"), ("Point", "XY")]),
             (lambda: _fast.lines_rows(rows[:3], 18), [*wanted[0][:3]]),
             (lambda: len(_fast.arrays_rows(rows, 6, None, False)), 9),
+            (lambda: _fast.from_arrays_column(nine, 6), (texts, [0, 0])),
             (lambda: bytes(_fast.canonical_buffers(packed, 18, None)[0]), "".join(texts).encode()),
             (lambda: bytes(_fast.distinct(packed, bytes(16))[0]), "".join(texts).encode()),
             (lambda: [it.kind for it in _fast.arrays_list(texts, 6, 0, None, False)], ["MultiPoint", "Point"]),

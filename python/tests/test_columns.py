@@ -254,6 +254,18 @@ class Kinds(unittest.TestCase):
         wkt.canonical(rows, progress=seen.append)
         self.assertEqual(seen, [175, 300])
 
+    def test_texts_of_arrays(self):
+        """A column of arrays is answered a block at a time: no call of the library has room for all of its texts."""
+        long = "LINESTRING(%s)" % ",".join(["1 2"] * 2000)
+        texts = [long, None, "POINT(1 2)"] * 500 + ["POINT(%d 2)" % i for i in range(60_000)]
+        held, rooms = wkt.to_arrays_column(texts, 0), []
+        held.kinds[-1] = 9  # there is none
+        with patched("wkt_from_arrays", lambda status, *its: rooms.append(its[10])):
+            with patched("wkt_column_from_arrays", lambda status, *its: rooms.append(its[20])):
+                made = wkt.from_arrays_column(held)
+        self.assertTrue(made == ([*texts[:-1], None], [0, 28, 0] * 500 + [0] * 59_999 + [26]))
+        self.assertLess(max(rooms), 3_000_000)
+
     @unittest.skipIf(numpy is None, "no NumPy")
     def test_arrays_of_long_rows(self):
         """They have memory of their own, as those of a single call: one row keeps no column, and no block."""

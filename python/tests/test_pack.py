@@ -66,9 +66,7 @@ class Pack(unittest.TestCase):
     def test_offsets_that_are_wrong(self):
         if _fast is None:
             return
-        statuses = array.array("I", [0, 0])
         calls = [
-            lambda ends: _fast.unpack(b"abcde", array.array("q", ends), statuses),
             lambda ends: _fast.canonical_buffers((b"abcde", array.array("q", ends), b"", 2), 18, None),
             lambda ends: _fast.arrays_rows((b"abcde", array.array("q", ends), b"", 2), 18, None, True),
             lambda ends: _fast.distinct((b"abcde", array.array("q", ends), b"", 2), bytes(16)),
@@ -85,7 +83,6 @@ class Pack(unittest.TestCase):
                 _fast.distinct(wrong, bytes(16))
         with self.assertRaises(ValueError):
             _fast.distinct((b"abcde", ends, b"", 2), bytes(15))
-        self.assertEqual(_fast.unpack(b"abcde", ends, statuses), ["abc", "de"])
 
     @unittest.skipIf(numpy is None, "no NumPy")
     def test_masks(self):

@@ -1,5 +1,4 @@
 """Geometries as flat arrays of numbers, one by one and as columns."""
-import itertools
 import operator
 from typing import Any, List, NamedTuple, Optional, Tuple
 
@@ -10,11 +9,11 @@ from ._names import DIMENSIONS, KINDS, NOT_COLUMN, NULL, TOO_SMALL
 from ._native import bind, calls
 from ._progress import Progress, shown
 from ._room import Room, pointer
-from ._values import WHOLE, Ints, array_of, integers, is_null, numpy, places_of, zeros
+from ._values import WHOLE, array_of, integers, is_null, lent, numpy, places_of
 
 CODES = dict(
     kinds="I", dimensions="I", numbers="q", number_offsets="q",
-    rings="Q", ring_offsets="q", polygons="Q", polygon_offsets="q",
+    rings="Q", ring_offsets="q", polygons="Q", polygon_offsets="q", statuses="I",
 )  # fmt: skip
 
 
@@ -108,11 +107,6 @@ def _is_ints(numbers: Any) -> bool:
     return numpy is not None and isinstance(numbers, numpy.ndarray) and numbers.dtype == "int64"
 
 
-def _parts(*held: Any) -> Any:
-    """Where each of these begins, and how long it is."""
-    return itertools.chain.from_iterable((pointer(values), len(values)) for values in held)
-
-
 bind("Arrays", Arrays)
 
 
@@ -146,13 +140,13 @@ def to_arrays_column(texts: Any, places: int = 6, progress: Progress = None, who
 
 
 def _column_arrays(texts: Any, places: int, progress: Progress) -> ColumnArrays:
-    lent, indices = _arrow.is_texts(texts), None
-    if lent:
+    are_lent, indices = _arrow.is_texts(texts), None
+    if are_lent:
         packed, indices = _buffers.whole(_arrow.taken(texts))
-    column: Any = tuple(packed) if lent else column_of(texts)
-    with shown(progress, column[3] if lent else len(column)) as report:
-        made = calls.arrays_rows(column, places, report, lent)
-    held = ColumnArrays._make([*map(array_of, "IIqqQqQqI", made), places % WHOLE])
+    column: Any = tuple(packed) if are_lent else column_of(texts)
+    with shown(progress, column[3] if are_lent else len(column)) as report:
+        made = calls.arrays_rows(column, places, report, are_lent)
+    held = ColumnArrays._make([*map(array_of, CODES.values(), made), places % WHOLE])
     return held if indices is None else _chosen(held, indices)
 
 
@@ -226,47 +220,17 @@ bind("one_text", _one_text)
 
 
 def from_arrays_column(arrays: ColumnArrays, places: Optional[int] = None) -> Tuple[List[Optional[str]], List[int]]:
-    """The canonical texts of `ColumnArrays`, and the status of each row, by one call.
+    """The canonical texts of `ColumnArrays`, and the status of each row.
 
     A status is 0, 28 of a row whose status in `arrays` isn't 0, or 26 where a row's arrays are of no geometry; where it
-    isn't 0 there is None for a text. All arrays are copied before they are looked at.
+    isn't 0 there is None for a text. The arrays of a row are copied before they are looked at.
     places, ValueError, TypeError, OverflowError: as of `from_arrays`. WktError: the offsets are of no column (27).
     """
-    if not all(hasattr(arrays, name) for name in ColumnArrays._fields[:-1]):
+    if not all(hasattr(arrays, name) for name in CODES):
         raise TypeError("a column of arrays is wkt.ColumnArrays, and not %s" % type(arrays).__name__)
-    out, ends, statuses = _column_texts(arrays, _places_in(arrays, places))
-    return calls.unpack(out, ends, statuses), statuses.tolist()
-
-
-def _column_texts(arrays: ColumnArrays, places: int) -> Tuple[Any, Any, Any]:
-    """The canonical texts of arrays as a buffer, where each begins, and the status of each row."""
-    held = {name: integers(code, getattr(arrays, name), name) for name, code in CODES.items()}
-    given = integers("I", arrays.statuses, "statuses")
-    rows = held["kinds"].length
-    if given.length != rows:
+    places = _places_in(arrays, places)
+    made = calls.from_arrays_column(tuple(lent(CODES[name], getattr(arrays, name), name) for name in CODES), places)
+    if made is None:
         raise WktError(NOT_COLUMN, words_of(NOT_COLUMN))
-    valid = _valid_bits(given)
-    ends, statuses = zeros("q", rows + 1), zeros("I", rows)
-    eight = [part for values in held.values() for part in (pointer(values.data), values.length)]
-    answers = list(_parts(ends, statuses))
-
-    def call(out: Any, length: int, needed: Any) -> int:
-        status: int = _library.wkt_column_from_arrays(*eight, valid, len(valid), places, out, length, *answers, needed)
-        return status
-
-    room = Room(12 * held["numbers"].length + 24 * rows + 64)
-    room.call(call)
-    return room.out, ends, statuses
-
-
-def _valid_bits(statuses: Ints) -> bytes:
-    """The bits of the rows that have arrays; none where all have."""
-    data = bytes(statuses.data)
-    if not any(data) if numpy is None else not numpy.frombuffer(data, numpy.uint32).any():
-        return b""
-    if numpy is not None:
-        return bytes(numpy.packbits(numpy.frombuffer(data, numpy.uint32) == 0, bitorder="little").tobytes())
-    bits = bytearray((statuses.length + 7) // 8)
-    for i, status in enumerate(statuses.data):
-        bits[i // 8] |= (status == 0) << i % 8
-    return bytes(bits)
+    texts, statuses = made
+    return texts, statuses

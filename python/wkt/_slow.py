@@ -1,5 +1,6 @@
 """What wkt._fast has, by ctypes: each function takes the same, answers the same and raises the same."""
 import array
+import bisect
 import ctypes
 import itertools
 from typing import Any, Callable, Dict, Iterable, Iterator, List, NamedTuple, Optional, Sequence, Tuple
@@ -339,7 +340,41 @@ def from_arrays_rows(rows: Sequence[Any], places: Optional[int], numbered: bool)
     return [_bound["one_text"](row, places, i if numbered else None) for i, row in enumerate(rows)]
 
 
-def unpack(out: Any, ends: Any, statuses: Any) -> List[Optional[str]]:
-    """The texts in a buffer, and None where a status isn't 0."""
-    text = str(memoryview(out)[: ends[len(statuses)]], "ascii")
-    return [None if status else text[start:end] for status, start, end in zip(statuses, ends, ends[1:])]
+def _end_of_block(first: int, three: Sequence[Any], rows: int) -> int:
+    """The end of the block of rows that begins there: about a megabyte of text, but a row at least."""
+    ends = (bisect.bisect_right(it, it[first] + BYTES // 12, first + 1, rows + 1) - 1 for it in three)
+    return min(max(first + 1, min(ends)), first + BLOCK, rows)
+
+
+def from_arrays_column(nine: Sequence[Any], places: int) -> Optional[Tuple[List[Optional[str]], List[int]]]:
+    held = [array.array(code, bytes(each)) for code, each in zip("IIqqQqQqI", nine)]
+    offsets, rows = held[3:8:2], len(held[0])
+    if any(len(it) != rows for it in (held[1], held[8])) or any(len(it) != rows + 1 for it in offsets):
+        return None
+    texts: List[Optional[str]] = []
+    codes: List[int] = []
+    room, first, last = Room(1), 0, -1
+    while last < rows:
+        last = _end_of_block(first, offsets, rows)
+        *eight, given = (it if i in (2, 4, 6) else it[first : last + (i in (3, 5, 7))] for i, it in enumerate(held))
+        valid = _bits([None if status else status for status in given])
+        ends, statuses = array.array("q", bytes(8 * (last - first + 1))), array.array("I", bytes(4 * (last - first)))
+        room.holds(12 * min(offsets[0][last] - offsets[0][first], len(held[2])) + 24 * (last - first) + 64)
+        needed = room.call(_from_arrays_call(eight, valid, places, (ends, statuses)))
+        text = str(memoryview(room.out)[:needed], "ascii")
+        texts += [None if status else text[start:end] for status, start, end in zip(statuses, ends, ends[1:])]
+        codes += statuses
+        first = last
+    return texts, codes
+
+
+def _from_arrays_call(
+    eight: Iterable[Any], valid: bytes, places: int, answers: Iterable[Any]
+) -> Callable[[Any, int, Any], int]:
+    given, made = (list(itertools.chain(*((pointer(it), len(it)) for it in its))) for its in (eight, answers))
+
+    def call(out: Any, length: int, needed: Any) -> int:
+        status: int = _library.wkt_column_from_arrays(*given, valid, len(valid), places, out, length, *made, needed)
+        return status
+
+    return call

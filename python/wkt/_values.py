@@ -18,6 +18,7 @@ TEXTS = (str, bytes, bytearray, memoryview)
 INTEGERS = {"q": ("int64", -(2**63), 2**63 - 1), "Q": ("uint64", 0, 2**64 - 1), "I": ("uint32", 0, 2**32 - 1)}
 # The same types as NumPy has them.
 _TYPES = {code: numpy.dtype(name) for code, (name, _, _) in INTEGERS.items()} if numpy is not None else {}
+_FORMATS = {"q": ("l", "q"), "Q": ("L", "Q"), "I": ("I", "L")}  # of memoryview, if they have its size
 _NULLS = ("NAType", "NaTType")
 WHOLE = 256  # WKT_WHOLE of include/wkt.h
 MOST_PLACES = 36
@@ -146,11 +147,21 @@ def integers(code: str, values: Any, what: str) -> Ints:
     return Ints(held, len(held))
 
 
-def zeros(code: str, length: int) -> Any:
-    """An array for a call to fill."""
-    if numpy is not None:
-        return numpy.zeros(length, _TYPES[code])
-    return array.array(code, bytes(array.array(code).itemsize * length))
+def lent(code: str, values: Any, what: str) -> memoryview:
+    """Some ints, each of the type that a code names: where they stand, or a copy where they are others.
+
+    Errors are those of `integers`.
+    """
+    if numpy is not None and isinstance(values, numpy.ndarray):
+        values = numpy.asarray(values)  # of no subclass
+        if values.dtype == _TYPES[code] and values.flags.c_contiguous:
+            return memoryview(values)
+    elif isinstance(values, (array.array, memoryview)):
+        view = memoryview(values)
+        known = view.format.lstrip("@=") in _FORMATS[code] and view.itemsize == array.array(code).itemsize
+        if known and view.c_contiguous:
+            return view
+    return memoryview(integers(code, values, what).data)
 
 
 def array_of(code: str, buffer: Any) -> Any:
