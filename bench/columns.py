@@ -1,8 +1,8 @@
 """Processor time and peak of memory for a column of points of six decimals, beside Shapely: columns.py [ROWS [FEW]]
 
-columns.py sizes [TURNS]: each form of list, of rows of 33 bytes to 90 KB, 8 to 16 MB in all, and a loop of single
-calls, in turn in one process: milliseconds of a processor, the least; how many times that of the loop it is; and of two
-that come in turn, the median of that. The last stands the noise of a loaded machine.
+columns.py sizes [TURNS [FORM]]: each form of list and of column, of rows of 33 bytes to 90 KB, 8 to 16 MB in all, and a
+loop of single calls, in turn in one process: milliseconds of a processor, the least; how many times that of the loop it
+is; and of two that come in turn, the median of that. The last stands the noise of a loaded machine.
 
 columns.py threads [ROWS]: threads over parts of one column of Arrow: the least time by the clock, and what a thread
 spends on a processor, waiting for one, and waiting for something else, such as the lock of the interpreter.
@@ -153,7 +153,7 @@ def one_by_one(call):
 
 
 def forms():
-    """Of each form of list what it takes, the form, and a loop of single calls."""
+    """Of each form of list and of column what it takes, the form, and a loop of single calls."""
     import wkt
 
     def canonical(texts):
@@ -165,6 +165,10 @@ def forms():
     def two(one, other):
         return [wkt.same(*both) for both in zip(one, other)]
 
+    def of_arrow(call):
+        """Beside a loop over the texts themselves."""
+        return lambda texts: (arrow_of(texts), texts), lambda both: call(both[0]), lambda both: list(map(call, both[1]))
+
     made = {call.__name__: (list, call, one_by_one(call)) for call in (wkt.canonical, wkt.reads, wkt.infer, wkt.lines)}
     return {
         **made,
@@ -174,6 +178,14 @@ def forms():
         "same": (lambda texts: (texts, canonical(texts)), lambda both: wkt.same(*both), lambda both: two(*both)),
         "to_arrays": (list, wkt.to_arrays, one_by_one(wkt.to_arrays)),
         "from_arrays": (wkt.to_arrays, wkt.from_arrays, one_by_one(wkt.from_arrays)),
+        "canonical_column": (list, wkt.canonical_column, one_by_one(wkt.canonical)),
+        "to_arrays_column": (list, wkt.to_arrays_column, one_by_one(wkt.to_arrays)),
+        "from_arrays_column": (
+            wkt.to_arrays_column, wkt.from_arrays_column,
+            lambda held: [wkt.from_arrays(held.row(i)) for i in range(len(held.kinds))],
+        ),
+        "canonical, Arrow": of_arrow(wkt.canonical),
+        "reads, Arrow": of_arrow(wkt.reads),
     }
 
 
@@ -193,11 +205,13 @@ def in_turn(calls, given, turns):
     return spent
 
 
-def sizes(turns=40):
+def sizes(turns=40, only=None):
     from statistics import median
 
     print("| a list beside a loop | %s |\n|%s" % (" | ".join(SIZES), "---|" * (len(SIZES) + 1)))
     for name, (prepare, form, loop) in forms().items():
+        if only not in (None, name):
+            continue
         cells = []
         for size in SIZES.values():
             form_spent, loop_spent = in_turn((form, loop), prepare(list(lines_of(*size))), turns)
@@ -276,7 +290,7 @@ def main(rows=1_000_000, few=None):
 
 if __name__ == "__main__":
     if sys.argv[1:2] == ["sizes"]:
-        sizes(*map(int, sys.argv[2:]))
+        sizes(*map(int, sys.argv[2:3]), *sys.argv[3:])
     elif sys.argv[1:2] == ["threads"]:
         threads(*map(int, sys.argv[2:]))
     elif len(sys.argv) == 3 and not sys.argv[1].isdigit():
