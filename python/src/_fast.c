@@ -75,7 +75,7 @@ static PyMethodDef methods[] = {
     FAST(hint, "hint(bytes, places) -> (status, hint)"),
     FAST(lines, "lines(text, places) -> bytes"),
     FAST(canonical_rows, "canonical_rows(rows, places, invalid, report, statuses or None) -> list"),
-    FAST(statuses, "statuses(rows, places, report) -> uint32s"),
+    FAST(statuses, "statuses(rows or buffers, places, report, are buffers) -> uint32s"),
     FAST(explain_rows, "explain_rows(rows, places, report) -> list"),
     FAST(same_rows, "same_rows(rows, rows or canonical text, places, invalid, report) -> list"),
     FAST(infer_rows, "infer_rows(rows, invalid) -> list"),

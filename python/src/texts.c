@@ -215,40 +215,37 @@ PyObject *fast_lines(PyObject *self, PyObject *const *args, Py_ssize_t count) {
     return made;
 }
 
-/* The statuses of a block, once another thread may run. Returns WKT_NO_MEMORY where one is that. */
-static wkt_status block_statuses(const Walk *walk, uint32_t places) {
-    for (Py_ssize_t i = 0; i < walk->last - walk->first; i++) {
-        const Cell *cell = &walk->cells[i];
-        walk->statuses[i] = cell->text == NULL ? WKT_NULL : status_of(walk->state, cell, places);
-        if (walk->statuses[i] == WKT_NO_MEMORY) return WKT_NO_MEMORY;
+/* The statuses of a block, behind those before it. Returns WKT_NO_MEMORY where one is that. */
+static wkt_status block_statuses(const Walk *walk, uint32_t places, Room *all) {
+    Py_ssize_t rows = walk->last - walk->first;
+    if (room_holds(all, (size_t)rows) < 0) return WKT_NO_MEMORY;
+    for (Py_ssize_t i = 0; i < rows; i++) {
+        Cell cell = walk_cell(walk, i);
+        wkt_status status = cell.text == NULL ? WKT_NULL : status_of(walk->state, &cell, places);
+        if (status == WKT_NO_MEMORY) return WKT_NO_MEMORY;
+        ((uint32_t *)all->items)[all->used++] = status;
     }
     return WKT_OK;
 }
 
-/* (rows, places, report) -> the status of each row, as 32 bits each */
+/* (rows or (data, offsets, bits, rows), places, report, whether those are buffers) -> the status of each row, as 32 bits each */
 PyObject *fast_statuses(PyObject *self, PyObject *const *args, Py_ssize_t count) {
     Room all = {NULL, sizeof(uint32_t), 0, 0};
     State *state = state_of(self);
     Walk walk;
     PyObject *made = NULL;
     unsigned long places;
-    int more = -1;
-    if (!has_count(count, 3) || (places = PyLong_AsUnsignedLong(args[1])) > UINT32_MAX) return NULL;
-    if (walk_rows(&walk, state, args[0], NULL, args[2]) == 0)
-        while ((more = walk_next(&walk)) > 0) {
-            size_t rows = (size_t)(walk.last - walk.first);
-            wkt_status status;
-            Py_BEGIN_ALLOW_THREADS
-            status = block_statuses(&walk, (uint32_t)places);
-            Py_END_ALLOW_THREADS
-            if (status != WKT_OK || room_holds(&all, rows) < 0) {
-                PyErr_NoMemory();
-                more = -1;
-                break;
-            }
-            memcpy((uint32_t *)all.items + all.used, walk.statuses, rows * sizeof(uint32_t));
-            all.used += rows;
-        }
+    int more;
+    if (!has_count(count, 4) || (places = PyLong_AsUnsignedLong(args[1])) > UINT32_MAX) return NULL;
+    more = args[3] == Py_True ? walk_buffers(&walk, state, args[0], args[2])
+                              : walk_rows(&walk, state, args[0], NULL, args[2]);
+    while (more >= 0 && (more = walk_next(&walk)) > 0) {
+        wkt_status status;
+        Py_BEGIN_ALLOW_THREADS
+        status = block_statuses(&walk, (uint32_t)places, &all);
+        Py_END_ALLOW_THREADS
+        if (status != WKT_OK) more = (PyErr_NoMemory(), -1);
+    }
     walk_end(&walk);
     if (more == 0) made = lent_room(state, &all, 1);
     free(all.items);

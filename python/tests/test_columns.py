@@ -254,6 +254,15 @@ class Kinds(unittest.TestCase):
         wkt.canonical(rows, progress=seen.append)
         self.assertEqual(seen, [175, 300])
 
+    def test_reads_of_arrow(self):
+        """No text is written of which only the status is asked for."""
+        if compiled is None or numpy is None:
+            return
+        rooms = []
+        with patched("wkt_canonical", lambda status, *its: rooms.append(its[4])):
+            answers = wkt.reads(arrow(["point(1 2)", None, "POINT(1", "POINT(3 4)"]))
+        self.assertEqual((answers.tolist(), rooms), ([True, False, False, True], [0, 0, 0]))
+
     def test_texts_of_arrays(self):
         """A column of arrays is answered a block at a time: no call of the library has room for all of its texts."""
         long = "LINESTRING(%s)" % ",".join(["1 2"] * 2000)

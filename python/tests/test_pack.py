@@ -14,7 +14,7 @@ numpy = installed("numpy")
 ROWS = {
     "canonical": (lambda it: native.canonical_rows(it, 18, 1, None, None), ["POINT(1 2)", None, None]),
     "keep": (lambda it: native.canonical_rows(it, 18, 2, None, None), ["POINT(1 2)", None, "x"]),
-    "statuses": (lambda it: list(memoryview(native.statuses(it, 18, None)).cast("B").cast("I")), [0, 28, 3]),
+    "statuses": (lambda it: list(memoryview(native.statuses(it, 18, None, False)).cast("B").cast("I")), [0, 28, 3]),
     "explain": (lambda it: [why and why.status for why in native.explain_rows(it, 18, None)], [None, None, 3]),
     "same": (lambda it: native.same_rows(it, it, 18, 1, None), [True, None, None]),
     "same as": (lambda it: native.same_rows(it, "POINT(1 2)", 18, 1, None), [True, None, None]),

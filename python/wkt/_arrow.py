@@ -10,6 +10,7 @@ from typing import Any, Dict, Iterator, List, Optional, Tuple
 
 from ._buffers import (
     Buffers, Chunk, Texts, answered, bounds, fixed_array, fixed_packed, is_fixed, joined, rows_in, shown_text,
+    statuses_of,
 )  # fmt: skip
 from ._errors import printable
 from ._names import NOT_UTF8
@@ -323,9 +324,5 @@ def canonical(column: Any, places: int, invalid: str, progress: Progress) -> Any
 
 def statuses(column: Any, places: int, progress: Progress = None) -> Any:
     """The status of each row, as an array of the column's shape."""
-    parts = [
-        numpy.empty(0, numpy.uint32),
-        *(texts.statuses for texts in answered(taken(column), places, "null", progress)),
-    ]
-    result = numpy.concatenate(parts)
+    result = numpy.concatenate([numpy.empty(0, numpy.uint32), *statuses_of(taken(column), places, progress)])
     return result.reshape(column.shape) if is_fixed(column) else result

@@ -161,21 +161,40 @@ def _from(report: Callable[[int], None], first: int) -> Callable[[int], None]:
     return lambda done: report(first + done)
 
 
-def answered(held: Buffers, places: int, invalid: str, progress: Progress, bytes_too: bool = False) -> Iterator[Texts]:
-    """The canonical texts of each chunk, once they are asked for: each text that rows share is answered once."""
+def _each(held: Buffers, progress: Progress, call: Callable[[Chunk, int, Any], Any]) -> Iterator[Any]:
+    """What a call answers of each chunk, once it is asked for. It gets the chunk's first row, and what to tell rows."""
     first = 0
     with shown(progress, held.rows) as report:
         for chunk in held.chunks:
-            counted = None if report is None or held.indexed else _from(report, first)
-            texts = canonical_chunk(chunk.texts, places, counted)
-            if invalid == "raise":
-                raise_first(chunk, texts, places, first)
-            elif invalid == "keep":
-                texts = kept(chunk.texts, texts, bytes_too)
+            made = call(chunk, first, None if report is None or held.indexed else _from(report, first))
             first += chunk.rows
             if held.indexed and report is not None:
                 report(first)
-            yield texts if chunk.indices is None else distinct(texts, chunk.indices)
+            yield made
+
+
+def answered(held: Buffers, places: int, invalid: str, progress: Progress, bytes_too: bool = False) -> Iterator[Texts]:
+    """The canonical texts of each chunk: each text that rows share is answered once."""
+
+    def call(chunk: Chunk, first: int, report: Any) -> Texts:
+        texts = canonical_chunk(chunk.texts, places, report)
+        if invalid == "raise":
+            raise_first(chunk, texts, places, first)
+        elif invalid == "keep":
+            texts = kept(chunk.texts, texts, bytes_too)
+        return texts if chunk.indices is None else distinct(texts, chunk.indices)
+
+    return _each(held, progress, call)
+
+
+def statuses_of(held: Buffers, places: int, progress: Progress) -> Iterator[Any]:
+    """The statuses of each chunk. No text is written."""
+
+    def call(chunk: Chunk, first: int, report: Any) -> Any:
+        made = array_of("I", calls.statuses(tuple(chunk.texts), places, report, True))
+        return made if chunk.indices is None else numpy.append(made, numpy.uint32(NULL))[chunk.indices]
+
+    return _each(held, progress, call)
 
 
 def distinct(texts: Texts, indices: Any) -> Texts:

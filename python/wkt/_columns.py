@@ -161,7 +161,7 @@ def canonical_rows(
 def statuses_of(rows: Sequence[Any], places: int, progress: Progress) -> Any:
     """The status of each row."""
     with shown(progress, len(rows)) as report:
-        return array_of("I", calls.statuses(rows, places, report))
+        return array_of("I", calls.statuses(rows, places, report, False))
 
 
 def canonical_like(values: Any, places: int, invalid: str, progress: Progress) -> Any:

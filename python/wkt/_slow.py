@@ -200,16 +200,18 @@ def canonical_rows(
     return answers
 
 
-def statuses(rows: Sequence[Any], places: int, report: _Report) -> Any:
+def statuses(column: Any, places: int, report: _Report, are_buffers: bool) -> Any:
+    if are_buffers:
+        return canonical_buffers(column, places, report)[2]
     made = array.array("I")
-    for _, _, codes in _answers(rows, places, report):
+    for _, _, codes in _answers(column, places, report):
         made.extend(codes)
     return made
 
 
 def explain_rows(rows: Sequence[Any], places: int, report: _Report) -> List[Any]:
     answers: List[Any] = [None] * len(rows)
-    for i, status in enumerate(statuses(rows, places, report)):
+    for i, status in enumerate(statuses(rows, places, report, False)):
         if status not in (OK, NULL):
             data = _bound["text_of"](rows[i], i)
             answers[i] = _bound["explanation"](rows[i], places, *explain(data, places))
