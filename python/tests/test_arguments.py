@@ -6,7 +6,9 @@ import decimal
 import fractions
 import pickle
 import threading
+import tracemalloc
 import unittest
+import unittest.mock
 
 import wkt
 from modules import installed, patched
@@ -314,6 +316,17 @@ class Shared(unittest.TestCase):
         finally:
             stop.set()
             thread.join()
+
+    def test_one_copy(self):
+        """Without NumPy an array is the one copy of what a call has made."""
+        made = memoryview(bytes(8 << 20))
+        with unittest.mock.patch.object(wkt._values, "numpy", None):
+            tracemalloc.start()
+            try:
+                self.assertEqual(len(wkt._values.array_of("q", made)), 1 << 20)
+                self.assertLess(tracemalloc.get_traced_memory()[1], 12 << 20)
+            finally:
+                tracemalloc.stop()
 
     @unittest.skipIf(numpy is None, "no NumPy")
     def test_arrays_are_copied(self):

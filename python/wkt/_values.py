@@ -168,4 +168,8 @@ def array_of(code: str, buffer: Any) -> Any:
     """An array over the items of a buffer that a call has made."""
     if numpy is not None:
         return numpy.frombuffer(buffer, _TYPES[code])
-    return buffer if isinstance(buffer, array.array) else array.array(code, bytes(buffer))
+    if isinstance(buffer, array.array):
+        return buffer
+    made = array.array(code)
+    made.frombytes(buffer)
+    return made
