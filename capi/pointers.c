@@ -15,7 +15,7 @@ static int64_t nothing;
 
 /* Whether something may be wrong, at little cost: the highest bit of `unseen`, of a size or of a pointer less 1 is set, as it is
  * where the pointer is NULL; or there are 2^60 items of 4 or 8 bytes. */
-#define MISSES(at) | ((uintptr_t)(at) - 1)
+#define MISSES(at) | ((uintptr_t)(at)-1)
 #define BYTES(at) | (sizeof *(at) == 1 ? at##_len : 0)
 #define ITEMS(at) | (sizeof *(at) == 1 ? 0 : at##_len)
 #define NONE(at)
