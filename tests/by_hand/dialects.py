@@ -12,8 +12,8 @@ Then TEXTS (20,000) are generated: in each dialect, in all four, and damaged. Th
 the others read it and its canonical text. Numbers are compared as doubles; a point of NaN is an empty one. Where a
 reading differs, READ and NOT_READ say how: else the text is printed, and the status is 1.
 
-It needs a library whose calls take dialects, which none does yet; apt with Debian's keyring, PostgreSQL with PostGIS (as
-the user postgres if it runs as root), and libgeos_c.
+It needs a library whose calls take dialects, which none does yet; apt with Debian's keyring; PostgreSQL with PostGIS
+(as the user postgres if it runs as root); and libgeos_c.
 """
 import collections
 import ctypes
