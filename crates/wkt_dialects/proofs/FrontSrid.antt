@@ -1,5 +1,5 @@
 -- The SRID in front of a text is one.
-use Rattle.std.proofs.Common.{◌≡◌, ◌≢◌, inl, inr, ℕ, suc, ◌+◌, ◌-◌, ◌*◌, ◌^◌, ◌<◌, ◌≤◌, Bool, true, false, List, [], ◌∷◌, ◌++◌, length, take, drop, get_or, codes, refl, sym, ap, subst, ◌∙◌, arith, length-append, length-take, length-drop, drop-cons, if◌then◌else◌, Option, None}
+use Rattle.std.proofs.Common.{◌≡◌, ◌≢◌, inl, inr, ℕ, suc, ◌+◌, ◌-◌, ◌*◌, ◌^◌, ◌<◌, ◌≤◌, Bool, true, false, List, [], ◌∷◌, ◌++◌, length, take, drop, get_or, codes, refl, sym, ap, subst, ◌∙◌, arith, length-append, length-take, length-drop, drop-cons, if◌then◌else◌, Option, None, append_assoc, IsUtf8}
 use Rattle.std.specs.Prelude.{bytes_eq}
 use Rattle.std.specs.Char.{is_ascii_digit, digit_value, to_ascii_uppercase}
 use Rattle.std.specs.Str.{str_to_ascii_uppercase}
@@ -13,7 +13,8 @@ use Rattle.std.proofs.Math.ListN.{drop_of_length-le}
 use Rattle.std.proofs.Math.Nat.{pow-suc, pow-le-pow_right}
 use Rattle.wkt_num.specs.DecimalLaws.{digits_append, value_append}
 use Rattle.wkt_num.proofs.FirstTextFound.{test-range}
-use Rattle.std.proofs.Math.Seq.{take-suc, take-append_seam, drop-append_seam, get_or-append-add}
+use Rattle.std.proofs.lemmas.Str.{IsUtf8-drop, IsCharBoundary-after_ascii}
+use Rattle.std.proofs.Math.Seq.{take-suc, take-append_seam, drop-append_seam, get_or-append-add, get_or-append_seam}
 use Rattle.std.proofs.lemmas.List.{length-map}
 use Rattle.wkt_num.specs.Bytes.{White, Run, Mark, Word, Num, AllWhite, class_of}
 use Rattle.wkt_read.specs.Lexemes.{StartsOther, SpellsLexeme, Takes, starts_number, without_plus}
@@ -241,3 +242,16 @@ has-srid text start n count white says f some inside semicolon = record {
   few = omega (arith, length-take count (drop (start + 5) text), f.few);
   value = f.value;
 }
+
+-- What stands behind it is text, where all is.
+past-byte : (p : List ℕ) (b : ℕ) (rest : List ℕ) → b < 128 → IsUtf8 (p ++ (b ∷ rest)) → IsUtf8 rest
+past-byte p b rest low u =
+    let bs : List ℕ = p ++ (b ∷ rest) in
+    let there : get_or bs (length p) 0 < 128 = omega (arith, low, get_or-append_seam p b rest 0) in
+    let cut = IsCharBoundary-after_ascii bs (length p) u (omega (arith, length-append p (b ∷ rest))) there in
+    subst IsUtf8 (sym (drop-drop 1 (length p) bs) ∙ ap (drop 1) (drop-append_seam p (b ∷ rest))) (IsUtf8-drop bs (length p + 1) u cut)
+
+pub rest_text : (text : List ℕ) (n : ℕ) (rest : List ℕ) → HasSrid text n rest → IsUtf8 text → IsUtf8 rest
+rest_text text n rest h u =
+    past-byte (h.gap ++ (h.word ++ h.digits)) 59 rest (omega arith)
+    (subst IsUtf8 (h.split ∙ ap (λ l. h.gap ++ l) (sym (append_assoc h.word h.digits (59 ∷ rest))) ∙ sym (append_assoc h.gap (h.word ++ h.digits) (59 ∷ rest))) u)

@@ -17,16 +17,17 @@ use Rattle.wkt_dialects.specs.Reading.{lexemes_as}
 use Rattle.wkt_dialects.specs.Pieces.{lexeme_as, read_from, LeadsTo, TakesPiece}
 
 pub leads-none : (d : Dialects) (s : Spot) (text : List ℕ) → LeadsTo d s text 0 [] s 0
-leads-none d s text = record { order = omega arith; inside = omega arith; reads = refl; ends = refl; no_nul = refl }
+leads-none d s text = record { order = omega arith; inside = omega arith; reads = refl; ends = refl; no_nul = refl; utf8 = λ u. u }
 
 pub leads-more : (d : Dialects) (s t : Spot) (text : List ℕ) (at to : ℕ) (taken : List Spanned) (p : Step) → LeadsTo d s text at taken t to → (k : TakesPiece d t text to p)
     → LeadsTo d s text at (taken ++ (record { lexeme = lexeme_as p.piece k.lexeme; end = p.end } ∷ [])) p.spot p.end
 leads-more d s t text at to taken p l k = record {
   order = omega (arith, l.order, k.grows);
-  inside = k.inside;
+  inside = k.inside.1;
   reads = l.reads ∙ ap (λ ps. taken ++ ps) k.reads ∙ sym (append_assoc taken (record { lexeme = lexeme_as p.piece k.lexeme; end = p.end } ∷ []) (read_from d p.spot text p.end));
   ends = last at taken;
   no_nul = l.no_nul ∙ k.no_nul;
+  utf8 = λ u. (k.utf8 (l.utf8 u)).0;
 }
   where
     last : (n : ℕ) (ps : List Spanned) → end_after n (ps ++ (record { lexeme = lexeme_as p.piece k.lexeme; end = p.end } ∷ [])) ≡ p.end

@@ -1,5 +1,6 @@
 -- What is written of a piece.
-use Rattle.std.proofs.Common.{◌≡◌, inl, inr, ℕ, Bool, true, false, ◌==◌, ◌||◌, List, [], ◌∷◌, ◌++◌, drop, slice_range, get_or, if◌then◌else◌, Result, Ok, Err, IfOk, refl, sym, ap, subst, ◌∙◌}
+use lib.Utf8.{encode}
+use Rattle.std.proofs.Common.{◌≡◌, inl, inr, ℕ, Bool, true, false, ◌==◌, ◌||◌, List, [], ◌∷◌, ◌++◌, drop, slice_range, get_or, if◌then◌else◌, Result, Ok, Err, IfOk, IsUtf8, codes, refl, sym, ap, subst, ◌∙◌}
 use borrow.Author.Tests.{ne_eqb}
 use Rattle.wkt_num.specs.Bytes.{Lexeme, Nul, White, Mark, Run, Open, Close, Comma, Word, Num, class_of, IsRun, AllRun}
 use Rattle.wkt_access.specs.declared.dimensions.Dimension.{Dimension}
@@ -98,6 +99,7 @@ module _ {A E : Type 0} (r : Result A E) (d : Dialects) (text : List ℕ) (p : S
         written = body;
         split = k;
         no_nul = spelled-no-nul body after l spelled;
+        utf8 = λ u. u same;
         is = λ m s. (m, subst (λ q. IsAs d (lexeme_as q m) m) (sym same) (keeps m (s same)), λ later. before-space body after later m (s same));
       }
 
@@ -115,11 +117,12 @@ module _ {A E : Type 0} (r : Result A E) (d : Dialects) (text : List ℕ) (p : S
         written = w.written;
         split = w.split;
         no_nul = run-no-nul w.written w.run_written.1;
+        utf8 = λ u. w.utf8 (u same);
         is = λ m s. (lexeme_of w.written, subst (λ q. IsAs d (lexeme_as q m) (lexeme_of w.written)) (sym same) (number w m (s same)), λ later. space-ends w.written later (lexeme_of w.written) w.run_written refl);
       }
 
-  pub as-word : (w : List ℕ) → IsRun w → lexeme_of w ≡ Word w → ((m : Lexeme) → lexeme_as p.piece m ≡ Word w) → IfOk r (λ _. new ≡ out ++ w) → IfOk r (λ _. IsWritten d text p out new)
-  as-word w run word says h = go r h
+  pub as-word : (w : List ℕ) → IsRun w → lexeme_of w ≡ Word w → IsUtf8 w → ((m : Lexeme) → lexeme_as p.piece m ≡ Word w) → IfOk r (λ _. new ≡ out ++ w) → IfOk r (λ _. IsWritten d text p out new)
+  as-word w run word text-is says h = go r h
     where
       go : (r : Result A E) → IfOk r (λ _. new ≡ out ++ w) → IfOk r (λ _. IsWritten d text p out new)
       go (Err e) k = tt
@@ -127,44 +130,46 @@ module _ {A E : Type 0} (r : Result A E) (d : Dialects) (text : List ℕ) (p : S
         written = w;
         split = k;
         no_nul = run-no-nul w run.1;
+        utf8 = λ u. text-is;
         is = λ m s. (Word w, subst (λ x. IsAs d x (Word w)) (sym (says m)) refl, λ later. space-ends w later (Word w) run (sym word));
       }
 
 pub record IsWordRun (w : List ℕ) : Type 0 where
   pub run : IsRun w
   pub word : lexeme_of w ≡ Word w
+  pub utf8 : IsUtf8 w
 
 pub empty-run : IsWordRun (69 ∷ 77 ∷ 80 ∷ 84 ∷ 89 ∷ [])
-unfolding class_of
-empty-run = record { run = is_run 69 _ refl; word = refl }
+unfolding class_of encode
+empty-run = record { run = is_run 69 _ refl; word = refl; utf8 = (codes "EMPTY", (refl, refl)) }
 
 pub joined-run : (k : GeometryType) (d : Dimension) → IsWordRun (joined_word k d)
-unfolding class_of
-joined-run kind.Point XY = record { run = is_run 80 _ refl; word = refl }
-joined-run kind.Point XYZ = record { run = is_run 80 _ refl; word = refl }
-joined-run kind.Point XYM = record { run = is_run 80 _ refl; word = refl }
-joined-run kind.Point XYZM = record { run = is_run 80 _ refl; word = refl }
-joined-run kind.LineString XY = record { run = is_run 76 _ refl; word = refl }
-joined-run kind.LineString XYZ = record { run = is_run 76 _ refl; word = refl }
-joined-run kind.LineString XYM = record { run = is_run 76 _ refl; word = refl }
-joined-run kind.LineString XYZM = record { run = is_run 76 _ refl; word = refl }
-joined-run kind.Polygon XY = record { run = is_run 80 _ refl; word = refl }
-joined-run kind.Polygon XYZ = record { run = is_run 80 _ refl; word = refl }
-joined-run kind.Polygon XYM = record { run = is_run 80 _ refl; word = refl }
-joined-run kind.Polygon XYZM = record { run = is_run 80 _ refl; word = refl }
-joined-run kind.MultiPoint XY = record { run = is_run 77 _ refl; word = refl }
-joined-run kind.MultiPoint XYZ = record { run = is_run 77 _ refl; word = refl }
-joined-run kind.MultiPoint XYM = record { run = is_run 77 _ refl; word = refl }
-joined-run kind.MultiPoint XYZM = record { run = is_run 77 _ refl; word = refl }
-joined-run kind.MultiLineString XY = record { run = is_run 77 _ refl; word = refl }
-joined-run kind.MultiLineString XYZ = record { run = is_run 77 _ refl; word = refl }
-joined-run kind.MultiLineString XYM = record { run = is_run 77 _ refl; word = refl }
-joined-run kind.MultiLineString XYZM = record { run = is_run 77 _ refl; word = refl }
-joined-run kind.MultiPolygon XY = record { run = is_run 77 _ refl; word = refl }
-joined-run kind.MultiPolygon XYZ = record { run = is_run 77 _ refl; word = refl }
-joined-run kind.MultiPolygon XYM = record { run = is_run 77 _ refl; word = refl }
-joined-run kind.MultiPolygon XYZM = record { run = is_run 77 _ refl; word = refl }
-joined-run kind.GeometryCollection XY = record { run = is_run 71 _ refl; word = refl }
-joined-run kind.GeometryCollection XYZ = record { run = is_run 71 _ refl; word = refl }
-joined-run kind.GeometryCollection XYM = record { run = is_run 71 _ refl; word = refl }
-joined-run kind.GeometryCollection XYZM = record { run = is_run 71 _ refl; word = refl }
+unfolding class_of encode
+joined-run kind.Point XY = record { run = is_run 80 _ refl; word = refl; utf8 = (codes "POINT", (refl, refl)) }
+joined-run kind.Point XYZ = record { run = is_run 80 _ refl; word = refl; utf8 = (codes "POINTZ", (refl, refl)) }
+joined-run kind.Point XYM = record { run = is_run 80 _ refl; word = refl; utf8 = (codes "POINTM", (refl, refl)) }
+joined-run kind.Point XYZM = record { run = is_run 80 _ refl; word = refl; utf8 = (codes "POINTZM", (refl, refl)) }
+joined-run kind.LineString XY = record { run = is_run 76 _ refl; word = refl; utf8 = (codes "LINESTRING", (refl, refl)) }
+joined-run kind.LineString XYZ = record { run = is_run 76 _ refl; word = refl; utf8 = (codes "LINESTRINGZ", (refl, refl)) }
+joined-run kind.LineString XYM = record { run = is_run 76 _ refl; word = refl; utf8 = (codes "LINESTRINGM", (refl, refl)) }
+joined-run kind.LineString XYZM = record { run = is_run 76 _ refl; word = refl; utf8 = (codes "LINESTRINGZM", (refl, refl)) }
+joined-run kind.Polygon XY = record { run = is_run 80 _ refl; word = refl; utf8 = (codes "POLYGON", (refl, refl)) }
+joined-run kind.Polygon XYZ = record { run = is_run 80 _ refl; word = refl; utf8 = (codes "POLYGONZ", (refl, refl)) }
+joined-run kind.Polygon XYM = record { run = is_run 80 _ refl; word = refl; utf8 = (codes "POLYGONM", (refl, refl)) }
+joined-run kind.Polygon XYZM = record { run = is_run 80 _ refl; word = refl; utf8 = (codes "POLYGONZM", (refl, refl)) }
+joined-run kind.MultiPoint XY = record { run = is_run 77 _ refl; word = refl; utf8 = (codes "MULTIPOINT", (refl, refl)) }
+joined-run kind.MultiPoint XYZ = record { run = is_run 77 _ refl; word = refl; utf8 = (codes "MULTIPOINTZ", (refl, refl)) }
+joined-run kind.MultiPoint XYM = record { run = is_run 77 _ refl; word = refl; utf8 = (codes "MULTIPOINTM", (refl, refl)) }
+joined-run kind.MultiPoint XYZM = record { run = is_run 77 _ refl; word = refl; utf8 = (codes "MULTIPOINTZM", (refl, refl)) }
+joined-run kind.MultiLineString XY = record { run = is_run 77 _ refl; word = refl; utf8 = (codes "MULTILINESTRING", (refl, refl)) }
+joined-run kind.MultiLineString XYZ = record { run = is_run 77 _ refl; word = refl; utf8 = (codes "MULTILINESTRINGZ", (refl, refl)) }
+joined-run kind.MultiLineString XYM = record { run = is_run 77 _ refl; word = refl; utf8 = (codes "MULTILINESTRINGM", (refl, refl)) }
+joined-run kind.MultiLineString XYZM = record { run = is_run 77 _ refl; word = refl; utf8 = (codes "MULTILINESTRINGZM", (refl, refl)) }
+joined-run kind.MultiPolygon XY = record { run = is_run 77 _ refl; word = refl; utf8 = (codes "MULTIPOLYGON", (refl, refl)) }
+joined-run kind.MultiPolygon XYZ = record { run = is_run 77 _ refl; word = refl; utf8 = (codes "MULTIPOLYGONZ", (refl, refl)) }
+joined-run kind.MultiPolygon XYM = record { run = is_run 77 _ refl; word = refl; utf8 = (codes "MULTIPOLYGONM", (refl, refl)) }
+joined-run kind.MultiPolygon XYZM = record { run = is_run 77 _ refl; word = refl; utf8 = (codes "MULTIPOLYGONZM", (refl, refl)) }
+joined-run kind.GeometryCollection XY = record { run = is_run 71 _ refl; word = refl; utf8 = (codes "GEOMETRYCOLLECTION", (refl, refl)) }
+joined-run kind.GeometryCollection XYZ = record { run = is_run 71 _ refl; word = refl; utf8 = (codes "GEOMETRYCOLLECTIONZ", (refl, refl)) }
+joined-run kind.GeometryCollection XYM = record { run = is_run 71 _ refl; word = refl; utf8 = (codes "GEOMETRYCOLLECTIONM", (refl, refl)) }
+joined-run kind.GeometryCollection XYZM = record { run = is_run 71 _ refl; word = refl; utf8 = (codes "GEOMETRYCOLLECTIONZM", (refl, refl)) }

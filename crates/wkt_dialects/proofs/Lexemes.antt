@@ -45,7 +45,7 @@ class-nul = refl
 pub not-nul : (b : ℕ) (c : Class) → class_of b ≡ c → c ≢ Nul → b ≢ 0
 not-nul b c is other e = other (sym is ∙ ap class_of e ∙ class-nul)
 
-class-white : (b : ℕ) → class_in false b ≡ White → class_of b ≡ White
+pub class-white : (b : ℕ) → class_in false b ≡ White → class_of b ≡ White
 unfolding class_in
 class-white b e = e
 

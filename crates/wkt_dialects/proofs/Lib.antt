@@ -3,6 +3,7 @@ pub mod Scaled
 pub mod Passed
 pub mod FrontSrid
 pub mod Lexemes
+pub mod Texts
 pub mod Looks
 pub mod Keeping
 pub mod Spelling

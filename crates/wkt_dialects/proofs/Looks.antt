@@ -12,6 +12,7 @@ use Rattle.wkt_dialects.specs.declared.lexeme.Kind.TheVariants as kind
 use Rattle.std.proofs.Math.Seq.{drop-append_seam}
 use Rattle.wkt_dialects.specs.Dialects.{counts, is_nan, nans, nans_within, begins_with, is_open, is_close, numbers_there, first_numbers, open_behind}
 use Rattle.wkt_dialects.specs.Pieces.{of_kind, lexeme_in, IsFound, IsPastSome}
+use Rattle.wkt_dialects.proofs.Texts.{found-text}
 
 module _ (d : Dialects) (text : List ℕ) (at : ℕ) (f : Found) (is : IsFound text at f) where
   abbrev there : List Spanned
@@ -55,6 +56,7 @@ module _ (text : List ℕ) (at : ℕ) (f : Found) (is : IsFound text at f) where
     split = p.split ∙ ap (λ l. p.taken ++ l) is.next ∙ sym (append_assoc p.taken (record { lexeme = lexeme_in text f; end = f.end } ∷ []) after);
     ends = last from p.taken;
     no_nul = p.no_nul ∙ is.no_nul;
+    utf8 = λ u. (found-text text at f is (p.utf8 u)).1;
   }
     where
       last : (n : ℕ) (ps : List Spanned) → end_after n (ps ++ (record { lexeme = lexeme_in text f; end = f.end } ∷ [])) ≡ f.end
@@ -71,7 +73,7 @@ unfolding first_numbers
 first-end d n = refl
 
 pub past-none : (text : List ℕ) (from : ℕ) → from ≤ length text → IsPastSome text from 0 from
-past-none text from h = record { taken = []; order = omega arith; inside = h; many = refl; split = refl; ends = refl; no_nul = refl }
+past-none text from h = record { taken = []; order = omega arith; inside = h; many = refl; split = refl; ends = refl; no_nul = refl; utf8 = λ u. u }
 
 pub open-most : (n : ℕ) (l : Lexeme) (m : ℕ) → open_behind n l ≡ Some m → m ≤ n + 1
 open-most n lex.Open m e = let h : suc n ≡ m = cc in omega (arith, h)
@@ -128,6 +130,7 @@ module _ (text : List ℕ) (from b count : ℕ) (o k : Found) (opens : IsFound t
     split = opens.next ∙ ap (λ l. first ∷ l) (past.split ∙ ap (λ l. past.taken ++ l) closes.next ∙ sym (append_assoc past.taken (last-one ∷ []) (remaining_spanned false text k.end)));
     ends = ends-with o.end past.taken;
     no_nul = opens.no_nul ∙ past.no_nul ∙ closes.no_nul;
+    utf8 = λ u. (found-text text b k closes (past.utf8 (found-text text from o opens u).1)).1;
   }
     where
       ends-with : (n : ℕ) (ps : List Spanned) → end_after n (ps ++ (last-one ∷ [])) ≡ k.end

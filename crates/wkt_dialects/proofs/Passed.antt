@@ -166,10 +166,6 @@ pub ruleset both_parts = (first-not, none-first, some-first)
 pub value-cut : (V most v d : ℕ) → v ≡ min V most → most < 2 ^ 64 → min most (min (min (v * 10) (2 ^ 64 - 1) + d) (2 ^ 64 - 1)) ≡ min (V * 10 + d) most
 value-cut V most v d e h = omega arith
 
-pub ok-items : {A E : Type 0} (r : Result A E) (new x y : List ℕ) → new ≡ (if is_ok r then x else y) → IfOk r (λ _. new ≡ x)
-ok-items (Ok a) new x y h = h
-ok-items (Err b) new x y h = tt
-
 pub not-true : (b : Bool) → not b ≡ true → b ≡ false
 not-true true e = cc
 not-true false e = refl

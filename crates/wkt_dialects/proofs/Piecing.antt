@@ -18,6 +18,7 @@ use Rattle.wkt_dialects.specs.Pieces.{lexeme_as, lexeme_in, IsFound, IsPastSome,
 use Rattle.wkt_dialects.specs.declared.spot.Spot.{Spot}
 use Rattle.wkt_dialects.specs.declared.spot.Spot.TheVariants as spot
 use Rattle.wkt_dialects.specs.Dialects.{read_as, tagged, empty_there, empty_word, spot_behind, spot_word, dimensioned, goes_on, joined_word, headed}
+use Rattle.wkt_dialects.proofs.Texts.{found-text}
 
 -- A lexeme where no empty point stands.
 pub read-one : (d : Dialects) (s : Spot) (p : Spanned) (ps : List Spanned) → empty_there d s (p ∷ ps) ≡ 0
@@ -118,10 +119,11 @@ module _ (d : Dialects) (s : Spot) (text : List ℕ) (from : ℕ) (f : Found) (i
       record {
         lexeme = lexeme_in text f;
         grows = omega (arith, p.order, some);
-        inside = p.inside;
+        inside = (omega (arith, is.bytes.order, is.bytes.inside), p.inside);
         between = is.between;
         dark = is.dark;
         no_nul = p.no_nul;
+        utf8 = λ u. (p.utf8 u, λ e. cc);
         reads =
             ap (read_as d 0 s) p.split
             ∙ read-group d s from p.taken (remaining_spanned false text end) (omega (arith, some, p.many)) counted
@@ -138,10 +140,11 @@ module _ (d : Dialects) (s : Spot) (text : List ℕ) (from : ℕ) (f : Found) (i
       record {
         lexeme = lexeme_in text f;
         grows = omega (arith, is.between.order, is.bytes.order);
-        inside = is.bytes.inside;
+        inside = (omega (arith, is.bytes.order, is.bytes.inside), is.bytes.inside);
         between = is.between;
         dark = is.dark;
         no_nul = is.no_nul;
+        utf8 = λ u. ((found-text text from f is u).1, λ e. (found-text text from f is u).0);
         reads =
             ap (read_as d 0 s) is.next
             ∙ read-one d s here behind (ap (empty_there d s) (sym is.next) ∙ none)

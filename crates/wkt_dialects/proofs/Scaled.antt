@@ -1,6 +1,9 @@
 -- A number without its exponent is read as the same.
-use Rattle.std.proofs.Common.{◌≡◌, ◌⊎◌, inl, inr, ℕ, ◌+◌, ◌-◌, ◌*◌, ◌^◌, ◌<◌, ◌≤◌, Bool, true, false, cond, ◌==◌, ◌||◌, nat_le, min, if◌then◌else◌, List, [], ◌∷◌, ◌++◌, length, take, drop, get_or, Option, Some, None, refl, sym, ap, subst, ◌∙◌, arith, length-append, length-take, length-drop, append_assoc, ℤ, IsTrue, Result, Ok, Err, IfOk}
+use Rattle.std.proofs.Common.{◌≡◌, ◌⊎◌, inl, inr, ℕ, ◌+◌, ◌-◌, ◌*◌, ◌^◌, ◌<◌, ◌≤◌, Bool, true, false, cond, ◌==◌, ◌||◌, nat_le, min, if◌then◌else◌, List, [], ◌∷◌, ◌++◌, length, take, drop, get_or, Option, Some, None, refl, sym, ap, subst, ◌∙◌, arith, length-append, length-take, length-drop, append_assoc, ℤ, IsTrue, Result, Ok, Err, IfOk, IsUtf8, codes}
+use lib.Utf8.{encode}
 use Rattle.std.specs.Fmt.{sign_text}
+use Rattle.std.proofs.lemmas.Fmt.{IsAscii-from_digits}
+use Rattle.std.proofs.lemmas.Str.{IsUtf8-append, IsUtf8-from_ascii}
 use Rattle.std.specs.Char.{digit_value}
 use Rattle.std.specs.Str.Parse.{AllDigits, digits_value, starts_with_minus, without_leading_sign}
 use Rattle.std.proofs.lemmas.List.{append-nil, take_all, take-append-drop}
@@ -375,6 +378,18 @@ plus-first false (x ∷ xs) ys h = let r = digit_from_value x h.0 in ap (λ b. i
 starts : (b : ℕ) → IsTrue (begins_number b) → starts_number b ≡ true
 starts b h = ap (λ t. t || b == 43) h
 
+sign-text : (negative : Bool) → IsUtf8 (sign_text negative)
+unfolding encode
+sign-text true = (codes "-", (refl, refl))
+sign-text false = ([], (refl, refl))
+
+point-text : IsUtf8 (46 ∷ [])
+unfolding encode
+point-text = (codes ".", (refl, refl))
+
+digits-text : (ds : List ℕ) → AllDigits 10 ds → IsUtf8 ds
+digits-text ds h = IsUtf8-from_ascii ds (IsAscii-from_digits ds h)
+
 pub written-number : {A E : Type 0} (r : Result A E) (run out new : List ℕ) (s : Scaled) → IsScaled (without_plus run) s
     → IfOk r (λ _. new ≡ out ++ (sign_text s.negative ++ moved s.left s.by s.whole.now s.fraction.now)) → IfOk r (λ _. IsWrittenNumber run out new)
 written-number (Err b) run out new s is h = tt
@@ -387,6 +402,7 @@ written-number (Ok a) run out new s is h =
       written = sign_text s.negative ++ (p.before ++ (46 ∷ p.behind));
       split = h ∙ ap (λ l. out ++ l) split;
       run_written = w.0;
+      utf8 = λ u. IsUtf8-append (sign_text s.negative) (p.before ++ (46 ∷ p.behind)) (sign-text s.negative) (IsUtf8-append p.before (46 ∷ p.behind) (digits-text p.before p.digits) (IsUtf8-append (46 ∷ []) p.behind point-text (digits-text p.behind p.more)));
       begins = starts (get_or (sign_text s.negative ++ (p.before ++ (46 ∷ p.behind))) 0 0) w.1;
       same = λ D. ap (read_decimal 127 36 D) (plus-first s.negative p.before p.behind p.digits ∙ sym split) ∙ same_moved (without_plus run) s is D;
     }

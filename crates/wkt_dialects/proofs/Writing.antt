@@ -1,5 +1,7 @@
 -- What is written of all pieces.
-use Rattle.std.proofs.Common.{◌≡◌, ℕ, suc, ◌≤◌, Bool, true, false, ◌==◌, nat_le, List, [], ◌∷◌, ◌++◌, length, drop, if◌then◌else◌, Result, Ok, Err, IfOk, refl, sym, ap, subst, ◌∙◌, arith, append_assoc, append-nil}
+use Rattle.std.proofs.Common.{◌≡◌, ℕ, suc, ◌≤◌, Bool, true, false, ◌==◌, nat_le, List, [], ◌∷◌, ◌++◌, length, drop, if◌then◌else◌, Result, Ok, Err, IfOk, IsUtf8, codes, refl, sym, ap, subst, ◌∙◌, arith, append_assoc, append-nil}
+use lib.Utf8.{encode}
+use Rattle.std.proofs.lemmas.Str.{IsUtf8-append}
 use Rattle.wkt_num.specs.Bytes.{Lexeme}
 use Rattle.wkt_read.specs.Lexemes.{IsEnd, IsSplit}
 use Rattle.wkt_read.specs.Spanned.{Spanned, lexemes_of, spanned}
@@ -17,6 +19,11 @@ use Rattle.wkt_dialects.specs.Pieces.{lexeme_as, LeadsTo, TakesPiece, IsWritten,
 use Rattle.wkt_dialects.proofs.Leading.{read-nothing, from-start, over-there}
 use Rattle.wkt_dialects.proofs.Lexemes.{no-nul, white-some}
 use Rattle.wkt_dialects.proofs.Spelling.{written-first}
+use Rattle.wkt_dialects.proofs.Texts.{past-white}
+
+IsUtf8-space : IsUtf8 (32 ∷ [])
+unfolding encode
+IsUtf8-space = (codes " ", (refl, refl))
 
 lexemes-last : (ps : List Spanned) (q : Spanned) → lexemes_of (ps ++ (q ∷ [])) ≡ lexemes_of ps ++ (q.lexeme ∷ [])
 lexemes-last [] q = refl
@@ -58,18 +65,25 @@ written-more d s text at taken p out mid new h k w put =
 end-nothing : (bs : List ℕ) → IsEnd bs → lexemes_of (spanned bs) ≡ []
 end-nothing bs e = let s : IsSplit bs [] = (bs, refl, ([], bs, refl, tt, e)) in split_one bs _ _ (spanned-split bs) s
 
+pub more-text : (d : Dialects) (s : Spot) (text : List ℕ) (at : ℕ) (p : Step) (out mid new : List ℕ) → TakesPiece d s text at p → IsWritten d text p out mid → new ≡ mid ++ (32 ∷ []) → IsUtf8 (drop at text) → IsUtf8 out → IsUtf8 new
+more-text d s text at p out mid new k w put u v =
+    subst IsUtf8 (sym (put ∙ ap (λ l. l ++ (32 ∷ [])) w.split))
+    (IsUtf8-append (out ++ w.written) (32 ∷ []) (IsUtf8-append out w.written v (w.utf8 (k.utf8 u).1)) (IsUtf8-space))
+
 pub finished : {A E : Type 0} (r : Result A E) (d : Dialects) (s : Spot) (text : List ℕ) (at start : ℕ) (taken : List Spanned) (out new : List ℕ)
     → LeadsTo d spot.Elsewhere text 0 taken s at → HasWritten d taken out → remaining_spanned false text at ≡ [] → IsBetween false text at start → IsDark false text start → start ≤ length text
-    → IfOk r (λ _. new ≡ out ++ drop start text) → IfOk r (λ _. IsRestAs d text new)
-finished (Err b) d s text at start taken out new l h none between dark inside k = tt
-finished (Ok a) d s text at start taken out new l h none between dark inside k =
+    → IfOk r (λ _. new ≡ out ++ drop start text) → (IsUtf8 text → IsUtf8 out) → IfOk r (λ _. IsRestAs d text new × (IsUtf8 text → IsUtf8 new))
+finished (Err b) d s text at start taken out new l h none between dark inside k texts = tt
+finished (Ok a) d s text at start taken out new l h none between dark inside k texts =
     let all : lexemes_as d text ≡ taken = from-start d text ∙ l.reads ∙ ap (λ ps. taken ++ read_as d 0 s ps) none ∙ ap (λ ps. taken ++ ps) (read-nothing d s) ∙ append-nil taken in
     let over : IsEnd (drop start text) = over-there text start dark (sym between.same ∙ none) in
-    let written : lexemes_of (spanned new) ≡ h.lexemes = ap (λ b. lexemes_of (spanned b)) k ∙ h.reads (drop start text) ∙ ap (λ ms. h.lexemes ++ ms) (end-nothing (drop start text) over) ∙ append-nil h.lexemes in
-    record {
-      lexemes = subst (λ ms. AreAs d (lexemes_of (lexemes_as d text)) ms) (sym written) (subst (λ ps. AreAs d (lexemes_of ps) h.lexemes) (sym all) h.same);
-      nul = ap from_nul k ∙ nul-append out (drop start text) h.no_nul ∙ sym (l.no_nul ∙ no-nul text at start between.order inside (white-some text at start between));
-    }
+    let written : lexemes_of (spanned new) ≡ h.lexemes = ap (λ b. lexemes_of (spanned b)) k ∙ h.reads (drop start text) ∙ ap (λ ms. h.lexemes ++ ms) (end-nothing (drop start text) over) ∙ append-nil h.lexemes in (
+      record {
+        lexemes = subst (λ ms. AreAs d (lexemes_of (lexemes_as d text)) ms) (sym written) (subst (λ ps. AreAs d (lexemes_of ps) h.lexemes) (sym all) h.same);
+        nul = ap from_nul k ∙ nul-append out (drop start text) h.no_nul ∙ sym (l.no_nul ∙ no-nul text at start between.order inside (white-some text at start between));
+      },
+      λ u. subst IsUtf8 (sym k) (IsUtf8-append out (drop start text) (texts u) (past-white text at start between inside (l.utf8 u))),
+    )
 
 -- As many lexemes.
 length-lexemes : (ps : List Spanned) → length (lexemes_of ps) ≡ length ps

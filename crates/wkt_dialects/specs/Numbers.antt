@@ -1,5 +1,5 @@
 -- A number with an exponent in parts, and written without it. Only private contracts cite this file.
-use Rattle.std.specs.Prelude.{◌≡◌, ◌≤◌, ◌<◌, ◌+◌, ◌-◌, ℕ, List, ◌∷◌, ◌++◌, length, take, drop, true, Some, Bool, if◌then◌else◌, min, get_or}
+use Rattle.std.specs.Prelude.{◌≡◌, ◌≤◌, ◌<◌, ◌+◌, ◌-◌, ℕ, List, ◌∷◌, ◌++◌, length, take, drop, true, Some, Bool, if◌then◌else◌, min, get_or, IsUtf8}
 use Rattle.std.specs.Str.Parse.{digits_value, starts_with_minus, without_leading_sign}
 use Rattle.wkt_num.specs.Decimal.{before_point, after_point, zeros}
 use Rattle.wkt_num.specs.Whole.{is_numeral}
@@ -61,4 +61,5 @@ pub record IsWrittenNumber (run old new : List ℕ) : Type 0 where
   pub split : new ≡ old ++ written
   pub run_written : IsRun written
   pub begins : starts_number (get_or written 0 0) ≡ true
+  pub utf8 : IsUtf8 run → IsUtf8 written
   pub same : IsSameNumber (without_plus run) (without_plus written)

@@ -1,5 +1,5 @@
 -- One lexeme at a place of a text, as it stands and as the dialects read it. Only private contracts cite this file.
-use Rattle.std.specs.Prelude.{◌≡◌, ◌<◌, ◌≤◌, ◌+◌, ℕ, List, [], ◌∷◌, ◌++◌, length, drop, slice_range, Option, Some, None, false}
+use Rattle.std.specs.Prelude.{◌≡◌, ◌<◌, ◌≤◌, ◌+◌, ℕ, List, [], ◌∷◌, ◌++◌, length, drop, slice_range, Option, Some, None, IsUtf8, false}
 use Rattle.wkt_num.specs.Bytes.{Lexeme}
 use Rattle.wkt_num.specs.Bytes as lex
 use Rattle.wkt_read.specs.Lexemes.{SpellsLexeme, without_plus}
@@ -56,10 +56,11 @@ lexeme_as piece.Empty l = empty_word
 pub record TakesPiece (d : Dialects) (s : Spot) (text : List ℕ) (from : ℕ) (p : Step) : Type 0 where
   pub lexeme : Lexeme
   pub grows : from < p.end
-  pub inside : p.end ≤ length text
+  pub inside : (p.start ≤ length text) × (p.end ≤ length text)
   pub between : IsBetween false text from p.start
   pub dark : IsDark false text p.start
   pub no_nul : from_nul (drop from text) ≡ from_nul (drop p.end text)
+  pub utf8 : IsUtf8 (drop from text) → IsUtf8 (drop p.end text) × (p.piece ≡ piece.Same → IsUtf8 (slice_range text p.start p.end))
   pub reads : read_from d s text from ≡ record { lexeme = lexeme_as p.piece lexeme; end = p.end } ∷ read_from d p.spot text p.end
   pub spelled : p.piece ≡ piece.Same → HasBytes text p.start p.end × SpellsLexeme (slice_range text p.start p.end) (drop p.end text) lexeme
 
@@ -77,6 +78,7 @@ pub record IsPastSome (text : List ℕ) (at count end : ℕ) : Type 0 where
   pub split : remaining_spanned false text at ≡ taken ++ remaining_spanned false text end
   pub ends : end_after at taken ≡ end
   pub no_nul : from_nul (drop at text) ≡ from_nul (drop end text)
+  pub utf8 : IsUtf8 (drop at text) → IsUtf8 (drop end text)
 
 -- The pieces from `at` on that are read where `s` is, up to `to`, where `t` is.
 pub record LeadsTo (d : Dialects) (s : Spot) (text : List ℕ) (at : ℕ) (taken : List Spanned) (t : Spot) (to : ℕ) : Type 0 where
@@ -85,12 +87,14 @@ pub record LeadsTo (d : Dialects) (s : Spot) (text : List ℕ) (at : ℕ) (taken
   pub reads : read_from d s text at ≡ taken ++ read_from d t text to
   pub ends : end_after at taken ≡ to
   pub no_nul : from_nul (drop at text) ≡ from_nul (drop to text)
+  pub utf8 : IsUtf8 (drop at text) → IsUtf8 (drop to text)
 
 -- A lexeme was written that is read as the piece.
 pub record IsWritten (d : Dialects) (text : List ℕ) (p : Step) (old new : List ℕ) : Type 0 where
   pub written : List ℕ
   pub split : new ≡ old ++ written
   pub no_nul : from_nul written ≡ []
+  pub utf8 : (p.piece ≡ piece.Same → IsUtf8 (slice_range text p.start p.end)) → IsUtf8 written
   pub is : (l : Lexeme) → (p.piece ≡ piece.Same → SpellsLexeme (slice_range text p.start p.end) (drop p.end text) l)
       → (m : Lexeme) × IsAs d (lexeme_as p.piece l) m × ((later : List ℕ) → SpellsLexeme written (32 ∷ later) m)
 

@@ -1,5 +1,5 @@
 -- What a text is read as in the dialects, and where its lexemes stand in the text as it was given.
-use Rattle.std.specs.Prelude.{◌≡◌, ◌⊎◌, ℕ, suc, ℤ, List, [], ◌∷◌, ◌++◌, length, drop, Option, ◌==◌, if◌then◌else◌, nat_le, false}
+use Rattle.std.specs.Prelude.{◌≡◌, ◌⊎◌, ◌≤◌, ℕ, suc, ℤ, List, [], ◌∷◌, ◌++◌, length, drop, Option, ◌==◌, if◌then◌else◌, nat_le, false}
 use Rattle.wkt_num.specs.Bytes.{Lexeme}
 use Rattle.wkt_num.specs.Bytes as lex
 use Rattle.wkt_num.specs.Decimal.{read_decimal}
@@ -62,6 +62,7 @@ pub record IsPlace (d : Dialects) (rest : List ℕ) (count behind start end : �
   pub many : length before ≡ count
   pub reads : lexemes_as d rest ≡ before ++ later
   pub ends : end_after 0 before ≡ behind
+  pub inside : (start ≤ length rest) × (end ≤ length rest)
   pub between : IsBetween false rest behind start
   pub dark : IsDark false rest start
   pub next : ((later ≡ []) × (end ≡ start) × IsEnd (drop start rest)) ⊎ ((p : Spanned) × (ps : List Spanned) × (later ≡ p ∷ ps) × (p.end ≡ end))

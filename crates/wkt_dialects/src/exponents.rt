@@ -10,8 +10,8 @@ ghost use Rattle.wkt_num.specs.Decimal.{zeros};
 ghost use Rattle.wkt_dialects.specs.Exponents.{is_e, after_e, IsSameNumber};
 ghost use Rattle.wkt_dialects.specs.Numbers.{digits_of, moved, moved_left, moved_right, IsE, IsPoint, IsScaled, IsWrittenNumber};
 
+use crate::put::{NoRoom, Put};
 use crate::slices::{front, rest};
-use std::alloc::AllocError;
 
 /// More zeros than these stand in no number of 36 places whose units fit 127 bits.
 const MOST_ZEROS: usize = 40;
@@ -175,47 +175,47 @@ fn parts_of(number: &[u8]) -> Option<Scaled<'_>>
 
 /// Writes so many zeros.
 #[tactic(auto, using(crate::proofs::Passed::passed_zeros))]
-fn write_zeros(count: usize, out: &mut Vec<u8>) -> Result<(), AllocError>
-    ensures { IfOk result (λ _. out.new.items ≡ out.old.items ++ zeros count) }
+fn write_zeros<P: Put>(count: usize, out: &mut P) -> Result<(), NoRoom>
+    ensures { IfOk result (λ _. P.written out.new ≡ P.written out.old ++ zeros count) }
 {
     let mut left = count;
     'zeros: while left > 0 {
-        out.push(b'0')?;
+        out.put(b"0")?;
         left -= 1;
     }
     Ok(())
 }
 
 /// Writes the digits, with the point moved to the right.
-fn write_right(number: Scaled<'_>, out: &mut Vec<u8>) -> Result<(), AllocError>
-    ensures { IfOk result (λ _. out.new.items ≡ out.old.items ++ moved_right number.entry.by number.entry.whole.now number.entry.fraction.now) }
+fn write_right<P: Put>(number: Scaled<'_>, out: &mut P) -> Result<(), NoRoom>
+    ensures { IfOk result (λ _. P.written out.new ≡ P.written out.old ++ moved_right number.entry.by number.entry.whole.now number.entry.fraction.now) }
 {
     let kept = number.by.min(number.fraction.len());
-    out.extend_from_slice(number.whole)?;
-    out.extend_from_slice(&number.fraction[..kept])?;
+    out.put(number.whole)?;
+    out.put(&number.fraction[..kept])?;
     write_zeros(number.by - kept, out)?;
-    out.push(b'.')?;
-    out.extend_from_slice(&number.fraction[kept..])
+    out.put(b".")?;
+    out.put(&number.fraction[kept..])
 }
 
 /// Writes the digits, with the point moved to the left.
-fn write_left(number: Scaled<'_>, out: &mut Vec<u8>) -> Result<(), AllocError>
-    ensures { IfOk result (λ _. out.new.items ≡ out.old.items ++ moved_left number.entry.by number.entry.whole.now number.entry.fraction.now) }
+fn write_left<P: Put>(number: Scaled<'_>, out: &mut P) -> Result<(), NoRoom>
+    ensures { IfOk result (λ _. P.written out.new ≡ P.written out.old ++ moved_left number.entry.by number.entry.whole.now number.entry.fraction.now) }
 {
     let kept = number.whole.len().saturating_sub(number.by);
-    out.extend_from_slice(&number.whole[..kept])?;
-    out.push(b'.')?;
+    out.put(&number.whole[..kept])?;
+    out.put(b".")?;
     write_zeros(number.by.saturating_sub(number.whole.len()), out)?;
-    out.extend_from_slice(&number.whole[kept..])?;
-    out.extend_from_slice(number.fraction)
+    out.put(&number.whole[kept..])?;
+    out.put(number.fraction)
 }
 
 /// Writes a number with its point moved.
-fn write_scaled(number: Scaled<'_>, out: &mut Vec<u8>) -> Result<(), AllocError>
-    ensures { IfOk result (λ _. out.new.items ≡ out.old.items ++ (sign_text number.entry.negative ++ moved number.entry.left number.entry.by number.entry.whole.now number.entry.fraction.now)) }
+fn write_scaled<P: Put>(number: Scaled<'_>, out: &mut P) -> Result<(), NoRoom>
+    ensures { IfOk result (λ _. P.written out.new ≡ P.written out.old ++ (sign_text number.entry.negative ++ moved number.entry.left number.entry.by number.entry.whole.now number.entry.fraction.now)) }
 {
     if number.negative {
-        out.push(b'-')?;
+        out.put(b"-")?;
     }
     if number.left {
         write_left(number, out)
@@ -236,13 +236,13 @@ fn without_plus(run: &[u8]) -> &[u8]
 
 /// Writes a number run without its exponent, or as it stands where it has none or is no number, so it is refused as it is.
 /// It takes no longer than the run is, however great the exponent.
-pub(crate) fn write_number(run: &[u8], out: &mut Vec<u8>) -> Result<(), AllocError>
+pub(crate) fn write_number<P: Put>(run: &[u8], out: &mut P) -> Result<(), NoRoom>
     requires run { IsRun run.now }
     requires begins { starts_number (get_or run.now 0 0) ≡ true }
-    ensures { IfOk result (λ _. IsWrittenNumber run.now out.old.items out.new.items) }
+    ensures { IfOk result (λ _. IsWrittenNumber run.now (P.written out.old) (P.written out.new)) }
 {
     match parts_of(without_plus(run)) {
         Some(parts) => write_scaled(parts, out),
-        None => out.extend_from_slice(run),
+        None => out.put(run),
     }
 }

@@ -14,6 +14,7 @@ mod lexeme;
 mod nan;
 mod pieces;
 mod places;
+mod put;
 mod reading;
 mod slices;
 mod spot;
@@ -21,6 +22,7 @@ mod srid;
 
 pub use dialects::{Dialects, dialects_in};
 pub use places::place_in;
+pub use put::{Front, NoRoom, Put};
 pub use reading::write_as_read;
 pub use srid::{rest_of, split_srid};
 

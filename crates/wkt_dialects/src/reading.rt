@@ -1,5 +1,5 @@
 //! The text that a text in a dialect is read as.
-ghost use Rattle.std.specs.Prelude.{◌≡◌, [], IfOk, drop, slice_range};
+ghost use Rattle.std.specs.Prelude.{◌≡◌, [], IfOk, IsUtf8, drop, slice_range};
 ghost use Rattle.wkt_dialects.specs.Dialects.{kind_name, letters};
 ghost use Rattle.wkt_dialects.specs.Reading.{IsRestAs};
 ghost use Rattle.wkt_read.specs.Lexemes.{SpellsLexeme};
@@ -10,9 +10,9 @@ ghost use Rattle.wkt_num.specs.Bytes.{Lexeme};
 use crate::dialects::Dialects;
 use crate::exponents::write_number;
 use crate::pieces::{Piece, Step, piece_at};
+use crate::put::{NoRoom, Put};
 use crate::slices::rest;
 use crate::spot::Spot;
-use std::alloc::AllocError;
 use wkt_access::Dimension;
 use wkt_events::{begins_number, skip_white};
 use wkt_types::GeometryType;
@@ -45,30 +45,30 @@ fn letters_of(dim: Dimension) -> &'static [u8]
 }
 
 /// Writes what a piece is read as, with no exponent.
-fn write_lexeme(
+fn write_lexeme<P: Put>(
     dialects: Dialects,
     text: &[u8],
     there: Step,
-    out: &mut Vec<u8>,
-) -> Result<(), AllocError>
+    out: &mut P,
+) -> Result<(), NoRoom>
     requires { there.piece ≡ Same → HasBytes text.now there.start there.end × (l : Lexeme) × SpellsLexeme (slice_range text.now there.start there.end) (drop there.end text.now) l }
-    ensures { IfOk result (λ _. IsWritten dialects text.now there out.old.items out.new.items) }
+    ensures { IfOk result (λ _. IsWritten dialects text.now there (P.written out.old) (P.written out.new)) }
 {
     match there.piece {
         Piece::Joined(kind, dim) => {
-            out.extend_from_slice(name_of(kind))?;
-            out.extend_from_slice(letters_of(dim))
+            out.put(name_of(kind))?;
+            out.put(letters_of(dim))
         }
-        Piece::Empty => out.extend_from_slice(b"EMPTY"),
+        Piece::Empty => out.put(b"EMPTY"),
         Piece::Same => {
             let bytes = &text[there.start..there.end];
             if !dialects.exponents {
-                return out.extend_from_slice(bytes);
+                return out.put(bytes);
             }
             if begins_number(bytes[0]) {
                 return write_number(bytes, out);
             }
-            out.extend_from_slice(bytes)
+            out.put(bytes)
         }
     }
 }
@@ -77,19 +77,19 @@ fn write_lexeme(
 /// as it stands.
 ///
 /// # Errors
-/// Out of memory.
-pub fn write_as_read(dialects: Dialects, text: &[u8], out: &mut Vec<u8>) -> Result<(), AllocError>
-    requires { out.old.items ≡ [] }
-    ensures { IfOk result (λ _. IsRestAs dialects text.now out.new.items) }
+/// [`NoRoom`]: what was written means nothing then.
+pub fn write_as_read<P: Put>(dialects: Dialects, text: &[u8], out: &mut P) -> Result<(), NoRoom>
+    requires { P.written out.old ≡ [] }
+    ensures { IfOk result (λ _. IsRestAs dialects text.now (P.written out.new) × (IsUtf8 text.now → IsUtf8 (P.written out.new))) }
 {
     let mut at = 0;
     let mut spot = Spot::Elsewhere;
     'pieces: while let Some(there) = piece_at(dialects, spot, text, at) {
         write_lexeme(dialects, text, there, out)?;
-        out.push(b' ')?;
+        out.put(b" ")?;
         at = there.end;
         spot = there.spot;
     }
     let end = skip_white::<false>(text, at);
-    out.extend_from_slice(rest(text, end))
+    out.put(rest(text, end))
 }

@@ -19,7 +19,7 @@ pub enum Spot {
 }
 
 impl Spot {
-    /// Behind a number, or another lexeme that says nothing.
+    /// Behind a number, or any other lexeme.
     pub(crate) fn goes_on(self) -> Spot
         ensures { result ≡ goes_on self }
     {

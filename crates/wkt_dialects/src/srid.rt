@@ -1,5 +1,5 @@
 //! The SRID in front of a text.
-ghost use Rattle.std.specs.Prelude.{◌≡◌, ◌≤◌, ℕ, List, MatchOption, length, drop, codes, bytes_eq};
+ghost use Rattle.std.specs.Prelude.{◌≡◌, ◌≤◌, ℕ, List, MatchOption, IsUtf8, length, drop, codes, bytes_eq};
 ghost use Rattle.std.specs.Str.{str_to_ascii_uppercase};
 ghost use Rattle.wkt_dialects.specs.Dialects.{HasSrid, IsRest};
 ghost use Rattle.wkt_dialects.specs.Srids.{IsFrontNumber};
@@ -71,9 +71,11 @@ pub fn split_srid(text: &[u8]) -> Option<(u32, usize)>
 }
 
 /// Where what is read of a text begins: behind its SRID, where one is split off.
+#[tactic(auto, using(crate::proofs::FrontSrid::rest_text))]
 pub fn rest_of(dialects: Dialects, text: &[u8]) -> usize
     ensures inside { result ≤ length text.now }
     ensures rest { IsRest dialects text.now (drop result text.now) }
+    ensures utf8 { IsUtf8 text.now → IsUtf8 (drop result text.now) }
 {
     if !dialects.srid {
         return 0;

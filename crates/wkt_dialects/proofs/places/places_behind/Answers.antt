@@ -37,6 +37,7 @@ returns-in-Some-piece_at c =
       many = omega (arith, c.pieces.invariant.2);
       reads = from-start c.args.dialects c.args.text.now ∙ l.reads;
       ends = l.ends;
+      inside = k.inside;
       between = k.between;
       dark = k.dark;
       next = inr (record { lexeme = lexeme_as p.piece k.lexeme; end = p.end }, read_from c.args.dialects p.spot c.args.text.now p.end, k.reads, refl);
@@ -52,6 +53,7 @@ returns-in-None c =
       many = omega (arith, c.pieces.invariant.2);
       reads = from-start c.args.dialects c.args.text.now ∙ l.reads;
       ends = l.ends;
+      inside = (s.inside, s.inside);
       between = record { order = s.order; same = s.same; white = s.white };
       dark = s.stops;
       next = inl (ap (read_as c.args.dialects 0 c.pieces.spot) c.in-None.ensures ∙ read-nothing c.args.dialects c.pieces.spot, refl, over-there c.args.text.now c.skip_white-end.result s.stops (sym s.same ∙ c.in-None.ensures));
