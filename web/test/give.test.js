@@ -142,7 +142,7 @@ test('what lies at a place of the picture', () => {
   assert.deepEqual(at(7, 7), { id: 1, points: 10 });
   assert.deepEqual(at(3, 3), null); // in the hole
   assert.deepEqual(at(20.4, 1.2), { id: 2, digits: '20.500 1' });
-  assert.equal(lengthOf([0, 0, 3, 4, 3, 5]), 6);
+  assert.equal(lengthOf([0, 0, 3, 4, 3, 5], (i) => ['0 0', '3 4', '3 5'][i]), 6);
   let [place, seen] = [null, []];
   for (let i = 0; i < 11; i++) {
     place = stepped(shapes[0], place, 1);
