@@ -165,7 +165,7 @@ const TEXTS: [(&[u8], &str, Option<&str>); 78] = [
     ),
     (b"POINT(1e3 -2.5E-3)", "e", Some("POINT(1000 -0.0025)")),
     (b"POINT(+1e+3 12.5e1)", "e", Some("POINT(1000 125)")),
-    // PostGIS refuses a point that stands first or last.
+    // PostGIS refuses a point that stands last.
     (b"POINT(.5e1 5.e1)", "e", Some("POINT(5 50)")),
     (
         b"POINT(0e99 -0e-999999999999999999999999)",
