@@ -126,7 +126,7 @@ fn place<'a>(refusal: TextRefusal<'a>) -> (&'a [u8], usize) {
     }
 }
 
-/// A text as JSON has it, where what isn't printable is escaped too; null where it is empty.
+/// A text as a JSON string, in which what isn't printable is escaped too; null where it is empty.
 #[derive(Clone, Copy)]
 struct Quoted<'a>(&'a str);
 

@@ -1,4 +1,4 @@
-//! Examples: callers of `wkt`, proved, each in a file of its own and written to be copied from. Of each kind of call that
+//! Examples: callers of `wkt`, proved, each in its own file and written to be copied from. Of each kind of call that
 //! has a contract one is here. `called`, `io_errors`, `rows`, `visit` and `write` are tests that call them.
 //!
 //! Below stand `wkt` and `wkt_lines`; nothing stands above.
