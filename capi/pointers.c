@@ -14,13 +14,15 @@ __attribute__((constructor)) static void see(void) {
 static int64_t nothing;
 
 /* Whether something may be wrong, at little cost: the highest bit of `unseen`, of a size or of a pointer less 1 is set, as it is
- * where the pointer is NULL; or there are 2^60 items of 4 or 8 bytes. */
+ * where the pointer is NULL; or one of the four highest bits of a number of items of 4 or
+ * 8 bytes is. */
 #define MISSES(at) | ((uintptr_t)(at)-1)
 #define BYTES(at) | (sizeof *(at) == 1 ? at##_len : 0)
 #define ITEMS(at) | (sizeof *(at) == 1 ? 0 : at##_len)
 #define NONE(at)
+#define HIGH_BITS (8 * sizeof(size_t) - 4)
 #define MAY_BE_WRONG(LIST) \
-    ((intptr_t)(unseen LIST(BYTES, NONE) LIST(MISSES, MISSES)) < 0 || ((size_t)0 LIST(ITEMS, NONE)) >> 60)
+    ((intptr_t)(unseen LIST(BYTES, NONE) LIST(MISSES, MISSES)) < 0 || ((size_t)0 LIST(ITEMS, NONE)) >> HIGH_BITS)
 
 /* What is wrong. */
 #define CHECK_BUFFER(at) \

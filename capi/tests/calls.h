@@ -15,8 +15,11 @@ extern size_t needed, end_at;
 extern int64_t ends[ROWS + 1];
 extern wkt_status statuses[ROWS];
 
-/* How often memory was taken. */
+/* How often memory was taken. With portable C that isn't looked at. */
 extern long allocations;
+#ifndef PORTABLE
+#define PORTABLE 0
+#endif
 
 void check(int holds, const char *what, const char *file, int line);
 int holds(const char *text);

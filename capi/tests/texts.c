@@ -65,7 +65,7 @@ static void short_texts(void) {
     for (size = 10; size < 220; size++) {
         allocations = 0;
         CHECK(canonical(padded(size), 6, ROOM) == WKT_OK && holds("POINT(1 2)") && end_at == 10);
-        CHECK((allocations == 0) == (size <= 200));
+        CHECK(PORTABLE || (allocations == 0) == (size <= 200));
         CHECK(canonical(padded(size), 6 | WKT_WHOLE, ROOM) == WKT_OK && holds("POINT(1 2)") && end_at == 10);
     }
 }
