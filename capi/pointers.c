@@ -3,6 +3,7 @@
 #pragma GCC visibility push(default)
 #include "../include/wkt.h"
 #pragma GCC visibility pop
+#include <stdlib.h>
 
 /* Its highest bit is set, but where the processor was seen to be supported. */
 static uintptr_t unseen = ~(UINTPTR_MAX >> 1);
@@ -14,8 +15,7 @@ __attribute__((constructor)) static void see(void) {
 static int64_t nothing;
 
 /* Whether something may be wrong, at little cost: the highest bit of `unseen`, of a size or of a pointer less 1 is set, as it is
- * where the pointer is NULL; or one of the four highest bits of a number of items of 4 or
- * 8 bytes is. */
+ * where the pointer is NULL; or one of the four highest of a number of items of 4 or 8 bytes. */
 #define MISSES(at) | ((uintptr_t)(at)-1)
 #define BYTES(at) | (sizeof *(at) == 1 ? at##_len : 0)
 #define ITEMS(at) | (sizeof *(at) == 1 ? 0 : at##_len)
@@ -45,22 +45,79 @@ static int64_t nothing;
         return proved_##name passed; \
     }
 
+/* A function that works in rooms: ROOMS has them, and how large each is, `call` what the proved function is passed. All rooms of
+ * a call are one block; short texts need none. A room that is too small gets a status. */
+#define SIZE_OF(it, size) const size_t it##_len = (size);
+#define SUM_OF(it, size) +it##_len
+#define NO_ROOM(it, size) uint8_t *it = (uint8_t *)&nothing;
+#define PLACED(it, size) \
+    uint8_t *it = rooms; \
+    rooms += it##_len;
+#define BARE(...) __VA_ARGS__
+#define FUNCTION_IN_ROOMS(name, LIST, ROOMS, parameters, passed, proved_parameters, call) \
+    extern wkt_status proved_##name proved_parameters; \
+    static __attribute__((noinline)) wkt_status roomy_##name parameters { \
+        ROOMS(SIZE_OF) \
+        uint8_t *rooms = malloc((size_t)0 ROOMS(SUM_OF)), *block = rooms; \
+        wkt_status status; \
+        if (!block) return WKT_NO_MEMORY; \
+        ROOMS(PLACED) \
+        status = proved_##name call; \
+        free(block); \
+        return status; \
+    } \
+    static inline wkt_status unchecked_##name parameters { \
+        ROOMS(SIZE_OF) \
+        ROOMS(NO_ROOM) \
+        if (__builtin_expect(((size_t)0 ROOMS(SUM_OF)) != 0, 0)) return roomy_##name passed; \
+        return proved_##name call; \
+    } \
+    static __attribute__((noinline, cold)) wkt_status checked_##name parameters { \
+        if (unseen && !wkt_supported()) return WKT_NOT_SUPPORTED; \
+        LIST(CHECK_BUFFER, CHECK_RESULT) \
+        return unchecked_##name passed; \
+    } \
+    wkt_status name parameters { \
+        if (__builtin_expect(MAY_BE_WRONG(LIST), 0)) return checked_##name passed; \
+        return unchecked_##name passed; \
+    }
+
+/* How much room canonical texts of texts take that aren't short: none, and so a status, where that is no size. */
+#define IS_SHORT(size) ((size) <= 200)
+static inline size_t room_for(size_t size) { return size > PTRDIFF_MAX / 8 ? 0 : 2 * size + 65; }
+
 #define CANONICAL(BUFFER, RESULT) BUFFER(text) BUFFER(out) RESULT(needed) RESULT(end)
-FUNCTION(wkt_canonical, CANONICAL,
-         (const uint8_t *text, size_t text_len, uint32_t places, uint8_t *out, size_t out_len, size_t *needed,
-          size_t *end),
-         (text, text_len, places, out, out_len, needed, end))
+#define CANONICAL_ROOMS(ROOM) ROOM(room, IS_SHORT(text_len) ? 0 : room_for(text_len))
+FUNCTION_IN_ROOMS(wkt_canonical, CANONICAL, CANONICAL_ROOMS,
+                  (const uint8_t *text, size_t text_len, uint32_t places, uint8_t *out, size_t out_len, size_t *needed,
+                   size_t *end),
+                  (text, text_len, places, out, out_len, needed, end),
+                  (const uint8_t *text, size_t text_len, uint32_t places, uint8_t *room, size_t room_len, uint8_t *out,
+                   size_t out_len, size_t *needed, size_t *end),
+                  (text, text_len, places, room, room_len, out, out_len, needed, end))
 
 #define SAME(BUFFER, RESULT) BUFFER(one) BUFFER(other) RESULT(same)
-FUNCTION(wkt_same, SAME,
-         (const uint8_t *one, size_t one_len, const uint8_t *other, size_t other_len, uint32_t places, uint32_t *same),
-         (one, one_len, other, other_len, places, same))
+#define SAME_ROOMS(ROOM) \
+    ROOM(room, IS_SHORT(one_len) && IS_SHORT(other_len) ? 0 : room_for(one_len)) \
+    ROOM(other_room, IS_SHORT(one_len) && IS_SHORT(other_len) ? 0 : room_for(other_len))
+FUNCTION_IN_ROOMS(wkt_same, SAME, SAME_ROOMS,
+                  (const uint8_t *one, size_t one_len, const uint8_t *other, size_t other_len, uint32_t places,
+                   uint32_t *same),
+                  (one, one_len, other, other_len, places, same),
+                  (const uint8_t *one, size_t one_len, const uint8_t *other, size_t other_len, uint32_t places,
+                   uint8_t *room, size_t room_len, uint8_t *other_room, size_t other_room_len, uint32_t *same),
+                  (one, one_len, other, other_len, places, room, room_len, other_room, other_room_len, same))
 
 #define SAME_ENDS(BUFFER, RESULT) BUFFER(one) BUFFER(other) RESULT(same) RESULT(end) RESULT(other_end)
-FUNCTION(wkt_same_ends, SAME_ENDS,
-         (const uint8_t *one, size_t one_len, const uint8_t *other, size_t other_len, uint32_t places, uint32_t *same,
-          size_t *end, size_t *other_end),
-         (one, one_len, other, other_len, places, same, end, other_end))
+FUNCTION_IN_ROOMS(wkt_same_ends, SAME_ENDS, SAME_ROOMS,
+                  (const uint8_t *one, size_t one_len, const uint8_t *other, size_t other_len, uint32_t places,
+                   uint32_t *same, size_t *end, size_t *other_end),
+                  (one, one_len, other, other_len, places, same, end, other_end),
+                  (const uint8_t *one, size_t one_len, const uint8_t *other, size_t other_len, uint32_t places,
+                   uint8_t *room, size_t room_len, uint8_t *other_room, size_t other_room_len, uint32_t *same,
+                   size_t *end, size_t *other_end),
+                  (one, one_len, other, other_len, places, room, room_len, other_room, other_room_len, same, end,
+                   other_end))
 
 #define EXPLAIN(BUFFER, RESULT) BUFFER(text) RESULT(message) RESULT(start) RESULT(stop) RESULT(expected)
 FUNCTION(wkt_explain, EXPLAIN,

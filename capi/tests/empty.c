@@ -15,10 +15,11 @@ static void look(const void *at, void *to, size_t bytes) {
     memcpy(to, room, bytes);
 }
 
-wkt_status proved_wkt_canonical(const uint8_t *text, size_t text_len, uint32_t places, uint8_t *out, size_t out_len,
-                                size_t *needed, size_t *end) {
+wkt_status proved_wkt_canonical(const uint8_t *text, size_t text_len, uint32_t places, uint8_t *its_room,
+                                size_t its_room_len, uint8_t *out, size_t out_len, size_t *needed, size_t *end) {
     (void)places, (void)needed, (void)end;
     look(text, out, text_len + out_len);
+    look(text, its_room, its_room_len);
     return WKT_OK;
 }
 
@@ -48,5 +49,5 @@ int main(void) {
     int wrong = wkt_canonical(NULL, 0, 6, NULL, 0, &needed, &end) != WKT_OK;
     wrong |= wkt_arrays(NULL, 0, 6, &sizes, NULL, 0, NULL, 0, NULL, 0) != WKT_OK;
     wrong |= wkt_column_canonical(NULL, 0, NULL, 0, NULL, 0, 6, NULL, 0, NULL, 0, NULL, 0, &needed) != WKT_OK;
-    return wrong || calls != 6;
+    return wrong || calls != 7;
 }

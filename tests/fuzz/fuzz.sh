@@ -30,9 +30,10 @@ build() {
     cd "$WORK"
     [ -s "$WORK/module.bc" ] || { cat "$WORK/try.log"; echo "fuzz.sh: rt try left no module" >&2; exit 2; }
     "$kit/toolchain/bin/clang" -x ir "$WORK/module.bc" -S -emit-llvm -Xclang -disable-llvm-passes -o "$WORK/whole.ll"
-    # The functions get their C names, and the program's main gives way to libFuzzer's.
-    sed -E -e 's/@"(wkt_fuzz|wkt_c::exports|wkt_c::exports_arrays|wkt_c::exports_explain)::(wkt_[a-z_]+)"/@\2/g' \
-        -e 's/^define internal (noundef )?i32 @(wkt_[a-z_]+)\(/define i32 @\2(/' \
+    # The functions get the names by which capi/pointers.c calls them, and the program's main gives way to libFuzzer's.
+    sed -E -e 's/@"wkt_fuzz::(wkt_[a-z_]+)"/@\1/g' \
+        -e 's/@"wkt_c::exports(_arrays|_explain)?::(wkt_[a-z_]+)"/@proved_\2/g' \
+        -e 's/^define internal (noundef )?i32 @((proved_)?wkt_[a-z_]+)\(/define i32 @\2(/' \
         -e 's/^define i32 @main\(\)/define i32 @rattle_main()/' "$WORK/whole.ll" > "$WORK/wkt_fuzz.ll"
     # The flags of rt try, with libFuzzer's counters in the place of its address sanitizer; -O2 takes a minute more.
     flags="--target=x86_64-unknown-linux-gnu -mllvm -no-trap-after-noreturn -ffunction-sections -fdata-sections
@@ -43,7 +44,8 @@ build() {
     rustc --edition 2021 -O -Cpanic=abort -Coverflow-checks=on --crate-type staticlib --crate-name harness \
         "$here/harness.rs" -o "$WORK/libharness.a"
     "$clang" -O2 -c "$here/heap.c" -o "$WORK/heap.o"
-    "$clang" -o "$WORK/fuzz" -fsanitize=fuzzer "$WORK/wkt_fuzz.o" "$WORK/libharness.a" "$WORK/heap.o" \
+    "$clang" -O2 -ffunction-sections -Dmalloc=heap_malloc -Dfree=heap_free -c "$root/capi/pointers.c" -o "$WORK/pointers.o"
+    "$clang" -o "$WORK/fuzz" -fsanitize=fuzzer "$WORK/wkt_fuzz.o" "$WORK/libharness.a" "$WORK/heap.o" "$WORK/pointers.o" \
         "$kit"/c/libos_c.a "$kit"/c/liblibc_c.a -fuse-ld=lld -Wl,--gc-sections -Wl,--wrap=rattle_alloc \
         -Wl,--wrap=rattle_realloc -Wl,--wrap=rattle_dealloc -lpthread -ldl -lm
 }

@@ -1,7 +1,9 @@
 /* Counts the allocations that are held, and fails the one that is asked for. Linked with
- * --wrap, so that the calls of the Rattle code come here, and from here go to the toolchain's functions. */
+ * --wrap, so that the calls of the Rattle code come here, and from here go to the toolchain's functions. capi/pointers.c calls
+ * heap_malloc and heap_free. */
 #include <stdint.h>
 #include <stddef.h>
+#include <stdlib.h>
 typedef struct {
     uint64_t ok;
     void *at;
@@ -27,3 +29,13 @@ void __wrap_rattle_dealloc(void *p, size_t size, size_t align) {
     heap_held--;
     __real_rattle_dealloc(p, size, align);
 }
+void *heap_malloc(size_t size) {
+    void *at = fails() ? NULL : malloc(size);
+    if (at) heap_held++;
+    return at;
+}
+void heap_free(void *at) {
+    heap_held--;
+    free(at);
+}
+int wkt_supported(void) { return 1; }

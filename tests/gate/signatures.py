@@ -1,9 +1,9 @@
 #!/usr/bin/env python3
 """Whether the proved functions have the parameters that their callers pass; the status is 1 where one hasn't.
 
-include/wkt.h says which functions there are. Compared with it are the functions that crates/wkt_c exports and their
-structs, the calls of capi/pointers.c, the declarations of rust/src/ffi.rs, and the module's functions, which take rooms
-beside what the header has. The calls of javascript/src are compared with these. A slice is a pointer and a size. At the
+include/wkt.h says which functions there are. Compared with it are the functions that crates/wkt_c exports, which may take
+rooms beside what the header has, and their structs, the calls of capi/pointers.c, the declarations of rust/src/ffi.rs,
+and the module's functions, which take other rooms. The calls of javascript/src are compared with these. A slice is a pointer and a size. At the
 end a parameter or a field is changed in each of these files, and each change has to be seen.
 """
 import os
@@ -22,6 +22,8 @@ ALIKE = {"wkt_status": "u32", "uint32_t": "u32", "uint8_t": "u8", "size_t": "64"
          "usize": "64", "i64": "64"}
 EXPORT = r'extern "C" fn (wkt_\w+)\(([^()]*)\)\s*->\s*u32'
 STRUCT = r"#\[repr\(C\)\]\s*#\[derive[^\n]*\s*pub struct (?P<name>\w+) \{(?P<body>.*?)\}"
+# A list in parentheses behind a comma.
+LISTED = r",\s*\(([^()]*)\)"
 # The function of the header that has the results of the module's.
 HEADED = {"wkt_same": "wkt_same_ends"}
 
@@ -81,11 +83,19 @@ def fields_of_c(body):
 
 
 def pointers_of(text):
-    """Of each function of pointers.c: its parameters, what is passed on, and its buffers and results in their order."""
+    """Of each function of pointers.c: its parameters, what is passed on, its buffers and results in their order, its
+    rooms, and the parameters of the proved function with what it is passed."""
     lists = {name: re.findall(r"(BUFFER|RESULT)\((\w+)\)", body)
              for name, body in re.findall(r"#define (\w+)\(BUFFER, RESULT\) ((?:[^\n]*\\\n)*[^\n]*)", text)}
-    calls = re.findall(r"^FUNCTION\((\w+), (\w+),\s*\(([^()]*)\),\s*\(([^()]*)\)\)", text, re.S | re.M)
-    return {name: (of_c(given), parameters(passed), lists[checked]) for name, checked, given, passed in calls}
+    rooms = {name: re.findall(r"\bROOM\((\w+),", body)
+             for name, body in re.findall(r"#define (\w+)\(ROOM\) ((?:[^\n]*\\\n)*[^\n]*)", text)}
+    found = {}
+    for name, checked, given, passed in re.findall(rf"^FUNCTION\((\w+), (\w+){LISTED * 2}\)", text, re.S | re.M):
+        found[name] = (of_c(given), parameters(passed), lists[checked], [], of_c(given), parameters(passed))
+    roomy = rf"^FUNCTION_IN_ROOMS\((\w+), (\w+), (\w+){LISTED * 4}\)"
+    for name, checked, within, given, passed, taken, call in re.findall(roomy, text, re.S | re.M):
+        found[name] = (of_c(given), parameters(passed), lists[checked], rooms[within], of_c(taken), parameters(call))
+    return found
 
 
 def checks_of(declared):
@@ -116,14 +126,17 @@ def differences(texts):
     module = functions(EXPORT, texts[MODULE], of_rattle)
     in_rust = functions(r"pub fn (wkt_\w+)\(([^()]*)\)\s*->\s*u32;", texts[RUST], of_rust)
     pointers = pointers_of(texts[POINTERS])
-    yield from named("what wkt_c exports and what wkt.h declares", declared, exported)
+    yield from named("what wkt_c exports and what pointers.c calls", {name: it[4] for name, it in pointers.items()}, exported)
     called = {name: one[0] for name, one in pointers.items()}
     yield from named("what pointers.c calls and what wkt.h declares", declared, called)
     here = {name: declared.get(name) for name in in_rust}
     yield from named("what ffi.rs declares and what wkt.h declares", here, in_rust)
-    for name, (given, passed, checked) in pointers.items():
-        if passed != [one for one, _ in given] or checked != checks_of(given):
+    for name, (given, passed, checked, rooms, taken, call) in pointers.items():
+        if passed != [one for one, _ in given] or checked != checks_of(given) or call != [one for one, _ in taken]:
             yield f"{name}: pointers.c passes or checks other parameters than it has"
+        of_rooms = [it for room in rooms for it in (room, f"{room}_len")]
+        if [it for it in taken if it[0] not in of_rooms] != given or len(taken) != len(given) + len(of_rooms):
+            yield f"{name}: the proved function hasn't the parameters of wkt.h and its rooms"
     for name, given in module.items():
         wanted = [word for _, word in declared[HEADED.get(name, name)]]
         if not is_part(wanted, [word for _, word in given]):
@@ -151,6 +164,7 @@ CHANGES = [
     (HEADER, "size_t numbers, rings, polygons; /*", "uint32_t numbers, rings, polygons; /*"),
     (POINTERS, "(text, text_len, places, hint))", "(text, places, text_len, hint))"),
     (POINTERS, "BUFFER(text) RESULT(hint)", "RESULT(hint)"),
+    (POINTERS, "room, room_len, out, out_len, needed, end))", "out, out_len, room, room_len, needed, end))"),
     (RUST, "pub rings: usize,\n    pub polygons: usize,", "pub polygons: usize,\n    pub rings: usize,"),
     (RUST, "last: u32,\n", ""),
     (ENGINE, "big(rooms[0]), big(sizes[0]), ", ""),

@@ -1,11 +1,11 @@
-//! The one text of what a text begins with, and texts compared by it, in rooms that are made for long ones.
+//! The one text of what a text begins with, and texts compared by it, in rooms of the caller's for long ones.
 ghost use Rattle.std.specs.Prelude.{◌≡◌, ◌+◌, ◌*◌, ◌≤◌, ◌<◌, ◌⊎◌, MatchResult, IfOk, IsUtf8, length, take, vec_len};
 ghost use Rattle.wkt_calls.specs.Calls.{AnswersCanonical, AreCompared};
 ghost use Rattle.wkt_calls.specs.Answer.{read_at, print_at, places_in, IsCanonicalOf, RefusesText, RefusesOne};
 
-use std::alloc::Global;
 use wkt_calls::canonical::{SHORT, canonical_short, copy_out_front, write_within};
 use wkt_calls::compare::{Compared, same_in, same_short};
+use wkt_calls::has_room;
 use wkt_calls::status::{MEMORY, NOT_TEXT};
 use wkt_canonical::make_room;
 
@@ -25,20 +25,21 @@ pub(crate) fn write_long(text: &str, asked: u32, room: &mut Vec<u8>) -> Result<(
     write_within(text, asked, room.as_mut_slice())
 }
 
-/// Answers a text with the canonical text of what it begins with.
+/// Answers a text with the canonical text of what it begins with, which is written in the room first, if the text is long.
 pub(crate) fn canonical(
-    alloc: Global,
     text: &[u8],
     asked: u32,
+    room: &mut [u8],
     out: &mut [u8],
     needed: &mut usize,
     end: &mut usize,
 ) -> u32
     requires { places_in asked ≤ 36 }
-    ensures { AnswersCanonical asked text.now result out.old out.new needed.old needed.new end.old end.new }
+    ensures answers { AnswersCanonical asked text.now result out.old out.new needed.old needed.new end.old end.new }
+    ensures lacks { result ≡ MEMORY → length room.old < 2 * length text.now + 65 }
 {
     if text.len() > SHORT {
-        return canonical_long(alloc, text, asked, out, needed, end);
+        return canonical_long(text, asked, room, out, needed, end);
     }
     canonical_short(text, asked, out, needed, end)
 }
@@ -48,22 +49,25 @@ pub(crate) fn canonical(
 /// It isn't inlined, so that the function that chooses between short and long texts needs no stack frame.
 #[inline(never)]
 fn canonical_long(
-    alloc: Global,
     text: &[u8],
     asked: u32,
+    room: &mut [u8],
     out: &mut [u8],
     needed: &mut usize,
     end: &mut usize,
 ) -> u32
     requires places { places_in asked ≤ 36 }
     requires long { SHORT < length text.now }
-    ensures { AnswersCanonical asked text.now result out.old out.new needed.old needed.new end.old end.new }
+    ensures answers { AnswersCanonical asked text.now result out.old out.new needed.old needed.new end.old end.new }
+    ensures lacks { result ≡ MEMORY → length room.old < 2 * length text.now + 65 }
 {
+    if !has_room(room.len(), text.len()) {
+        return MEMORY;
+    }
     let Ok(text) = str::from_utf8(text) else {
         return NOT_TEXT;
     };
-    let mut room = Vec::new(alloc);
-    match write_long(text, asked, &mut room) {
+    match write_within(text, asked, room) {
         Ok((at, n)) => {
             *end = at;
             copy_out_front(text.as_bytes(), at, asked, &room[..n], out, needed)
@@ -72,46 +76,51 @@ fn canonical_long(
     }
 }
 
-/// Whether two texts begin with one geometry: whether their canonical texts are equal.
-pub(crate) fn same(alloc: Global, one: &[u8], other: &[u8], asked: u32) -> Result<Compared, u32>
+/// Whether two texts begin with one geometry: whether their canonical texts are equal, which are written in the rooms, if
+/// one of the texts is long.
+pub(crate) fn same(
+    one: &[u8],
+    other: &[u8],
+    asked: u32,
+    room: &mut [u8],
+    other_room: &mut [u8],
+) -> Result<Compared, u32>
     requires places { places_in asked ≤ 36 }
     ensures { MatchResult result (AreCompared asked one.now other.now)
-        (λ s. ((s ≡ MEMORY) × ((SHORT < length one.now) ⊎ (SHORT < length other.now)))
+        (λ s. ((s ≡ MEMORY) × (((SHORT < length one.now) ⊎ (SHORT < length other.now))
+        × ((length room.old < 2 * length one.now + 65) ⊎ (length other_room.old < 2 * length other.now + 65))))
         ⊎ RefusesOne (read_at (places_in asked)) one.now other.now s) }
 {
     if one.len() <= SHORT && other.len() <= SHORT {
         return same_short(one, other, asked);
     }
-    same_long(alloc, one, other, asked)
+    same_long(one, other, asked, room, other_room)
 }
 
 /// The same, of texts of which one at least isn't short.
 ///
 /// Apart from the short ones, for which no place of what is needed here is cleared then.
 #[inline(never)]
-fn same_long(alloc: Global, one: &[u8], other: &[u8], asked: u32) -> Result<Compared, u32>
+fn same_long(
+    one: &[u8],
+    other: &[u8],
+    asked: u32,
+    room: &mut [u8],
+    other_room: &mut [u8],
+) -> Result<Compared, u32>
     requires places { places_in asked ≤ 36 }
     ensures { MatchResult result (AreCompared asked one.now other.now)
-        (λ s. (s ≡ MEMORY) ⊎ RefusesOne (read_at (places_in asked)) one.now other.now s) }
+        (λ s. ((s ≡ MEMORY) × ((length room.old < 2 * length one.now + 65) ⊎ (length other_room.old < 2 * length other.now + 65)))
+        ⊎ RefusesOne (read_at (places_in asked)) one.now other.now s) }
 {
+    if !has_room(room.len(), one.len()) || !has_room(other_room.len(), other.len()) {
+        return Err(MEMORY);
+    }
     let Ok(one) = str::from_utf8(one) else {
         return Err(NOT_TEXT);
     };
     let Ok(other) = str::from_utf8(other) else {
         return Err(NOT_TEXT);
     };
-    let mut first = Vec::new(alloc);
-    let mut second = Vec::new(alloc);
-    if make_room(&mut first, 0, one.len()).is_err()
-        || make_room(&mut second, 0, other.len()).is_err()
-    {
-        return Err(MEMORY);
-    }
-    same_in(
-        one,
-        other,
-        asked,
-        first.as_mut_slice(),
-        second.as_mut_slice(),
-    )
+    same_in(one, other, asked, room, other_room)
 }

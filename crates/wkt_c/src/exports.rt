@@ -26,12 +26,13 @@ use wkt_num::Places;
 
 /// Writes the one text of the geometry that `text` begins with to the front of `out`, its length to `needed`,
 /// and to `end` where the geometry ends in `text`. Numbers are decimals of so many places; with 256 more the whole
-/// text is to be one geometry.
+/// text is to be one geometry. A text of more than 200 bytes is written in the room first, and the status is 22 where that
+/// isn't 65 bytes longer than twice the text; what stands in it afterwards means nothing.
 #[unsafe(no_mangle)]
 pub extern "C" fn wkt_canonical(
-    alloc: Global,
     text: &[u8],
     places: u32,
+    room: &mut [u8],
     out: &mut [u8],
     needed: &mut usize,
     end: &mut usize,
@@ -42,7 +43,7 @@ pub extern "C" fn wkt_canonical(
         end.new × EndsAsAsked (asks_whole places) text.now end.new × HasNoRoom answer needed.new out.old }
     ensures bound { (result ≡ DONE) ⊎ (result ≡ SMALL) → needed.new ≤ 2 * length text.now + 65 }
     ensures more { result ≡ NOT_WHOLE → HasMore (read_at (places_in places)) (asks_whole places) text.now end.new }
-    ensures memory { result ≡ MEMORY → SHORT < length text.now }
+    ensures memory { result ≡ MEMORY → (SHORT < length text.now) × (length room.old < 2 * length text.now + 65) }
     ensures others { 1 ≤ result → result ≢ SMALL → result ≢ MEMORY → result ≢ NOT_WHOLE →
         RefusesAt (places_in places) text.now result }
     ensures no_places { 36 < places_in places → result ≡ NO_PLACES }
@@ -53,18 +54,20 @@ pub extern "C" fn wkt_canonical(
     if !has_places(places) {
         return NO_PLACES;
     }
-    canonical(alloc, text, places, out, needed, end)
+    canonical(text, places, room, out, needed, end)
 }
 
 /// Reports whether two texts begin with one geometry: `same` is 1 where their canonical texts are equal, and else
 /// 0; `end` and `other_end` are where each geometry ends in its text. Numbers are decimals of so many places; with 256
-/// more both whole texts are to be one geometry each.
+/// more both whole texts are to be one geometry each. Where a text has more than 200 bytes they are written in the rooms,
+/// and the status is 22 where one of these isn't 65 bytes longer than twice its text.
 #[unsafe(no_mangle)]
 pub extern "C" fn wkt_same_ends(
-    alloc: Global,
     one: &[u8],
     other: &[u8],
     places: u32,
+    room: &mut [u8],
+    other_room: &mut [u8],
     same: &mut u32,
     end: &mut usize,
     other_end: &mut usize,
@@ -76,7 +79,8 @@ pub extern "C" fn wkt_same_ends(
     ensures more { result ≡ NOT_WHOLE → (answer : Bool) × Compares (read_at (places_in places)) (print_at (places_in places)) one.now other.now
         end.new other_end.new answer
         × (IsMore (asks_whole places) one.now end.new ⊎ IsMore (asks_whole places) other.now other_end.new) }
-    ensures memory { result ≡ MEMORY → (SHORT < length one.now) ⊎ (SHORT < length other.now) }
+    ensures memory { result ≡ MEMORY → ((SHORT < length one.now) ⊎ (SHORT < length other.now))
+        × ((length room.old < 2 * length one.now + 65) ⊎ (length other_room.old < 2 * length other.now + 65)) }
     ensures others { 1 ≤ result → result ≢ MEMORY → result ≢ NOT_WHOLE →
         RefusesOneAt (places_in places) one.now other.now result }
     ensures no_places { 36 < places_in places → result ≡ NO_PLACES }
@@ -86,7 +90,7 @@ pub extern "C" fn wkt_same_ends(
     if !has_places(places) {
         return NO_PLACES;
     }
-    match crate::canonical::same(alloc, one, other, places) {
+    match crate::canonical::same(one, other, places, room, other_room) {
         Ok(compared) => {
             *end = compared.end;
             *other_end = compared.other_end;
@@ -106,10 +110,11 @@ pub extern "C" fn wkt_same_ends(
 /// Whether two texts begin with one geometry, as [`wkt_same_ends`] reports, without where these end.
 #[unsafe(no_mangle)]
 pub extern "C" fn wkt_same(
-    alloc: Global,
     one: &[u8],
     other: &[u8],
     places: u32,
+    room: &mut [u8],
+    other_room: &mut [u8],
     same: &mut u32,
 ) -> u32
     ensures compared { result ≡ DONE → (end : ℕ) × (other_end : ℕ) × (answer : Bool)
@@ -119,7 +124,8 @@ pub extern "C" fn wkt_same(
     ensures more { result ≡ NOT_WHOLE → (end : ℕ) × (other_end : ℕ) × (answer : Bool)
         × Compares (read_at (places_in places)) (print_at (places_in places)) one.now other.now end other_end answer
         × (IsMore (asks_whole places) one.now end ⊎ IsMore (asks_whole places) other.now other_end) }
-    ensures memory { result ≡ MEMORY → (SHORT < length one.now) ⊎ (SHORT < length other.now) }
+    ensures memory { result ≡ MEMORY → ((SHORT < length one.now) ⊎ (SHORT < length other.now))
+        × ((length room.old < 2 * length one.now + 65) ⊎ (length other_room.old < 2 * length other.now + 65)) }
     ensures others { 1 ≤ result → result ≢ MEMORY → result ≢ NOT_WHOLE →
         RefusesOneAt (places_in places) one.now other.now result }
     ensures no_places { 36 < places_in places → result ≡ NO_PLACES }
@@ -127,7 +133,16 @@ pub extern "C" fn wkt_same(
 {
     let mut end = 0;
     let mut other_end = 0;
-    wkt_same_ends(alloc, one, other, places, same, &mut end, &mut other_end)
+    wkt_same_ends(
+        one,
+        other,
+        places,
+        room,
+        other_room,
+        same,
+        &mut end,
+        &mut other_end,
+    )
 }
 
 /// Reports the kind (0 Point to 6 GeometryCollection) and the dimension (0 XY, 1 XYZ, 2 XYM, 3 XYZM) that the
