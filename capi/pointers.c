@@ -16,28 +16,29 @@ static int64_t nothing;
 
 /* Whether something may be wrong, at little cost: the highest bit of `unseen`, of a size or of a pointer less 1 is set, as it is
  * where the pointer is NULL; or one of the four highest of a number of items of 4 or 8 bytes. */
-#define MISSES(at) | ((uintptr_t)(at)-1)
-#define BYTES(at) | (sizeof *(at) == 1 ? at##_len : 0)
-#define ITEMS(at) | (sizeof *(at) == 1 ? 0 : at##_len)
-#define NONE(at)
+#define MISSES(at, ...) | ((uintptr_t)(at)-1)
+#define BYTES(at, ...) | (sizeof *(at) == 1 ? at##_len : 0)
+#define ITEMS(at, ...) | (sizeof *(at) == 1 ? 0 : at##_len)
+#define NONE(...)
 #define HIGH_BITS (8 * sizeof(size_t) - 4)
 #define MAY_BE_WRONG(LIST) \
-    ((intptr_t)(unseen LIST(BYTES, NONE) LIST(MISSES, MISSES)) < 0 || ((size_t)0 LIST(ITEMS, NONE)) >> HIGH_BITS)
+    ((intptr_t)(unseen LIST(BYTES, BYTES, NONE, NONE) LIST(MISSES, MISSES, MISSES, MISSES)) < 0 || \
+     ((size_t)0 LIST(ITEMS, ITEMS, NONE, NONE)) >> HIGH_BITS)
 
 /* What is wrong. */
-#define CHECK_BUFFER(at) \
+#define CHECK_BUFFER(at, ...) \
     if (!(at) && at##_len) return WKT_NULL_POINTER; \
     if (at##_len > PTRDIFF_MAX / sizeof *(at)) return WKT_TOO_LONG; \
     if (!(at)) at = (void *)&nothing;
-#define CHECK_RESULT(at) \
+#define CHECK_RESULT(at, ...) \
     if (!(at)) return WKT_NULL_POINTER;
 
-/* A function: LIST has its buffers and its results, in the order of its parameters. */
+/* A function without rooms. */
 #define FUNCTION(name, LIST, parameters, passed) \
     extern __typeof__(name) proved_##name; \
     static __attribute__((noinline, cold)) wkt_status checked_##name parameters { \
         if (unseen && !wkt_supported()) return WKT_NOT_SUPPORTED; \
-        LIST(CHECK_BUFFER, CHECK_RESULT) \
+        LIST(CHECK_BUFFER, CHECK_BUFFER, CHECK_RESULT, CHECK_RESULT) \
         return proved_##name passed; \
     } \
     wkt_status name parameters { \
@@ -45,159 +46,58 @@ static int64_t nothing;
         return proved_##name passed; \
     }
 
-/* A function that works in rooms: ROOMS has them, and how large each is, `call` what the proved function is passed. All rooms of
- * a call are one block; short texts need none. A room that is too small gets a status. */
-#define SIZE_OF(it, size) const size_t it##_len = (size);
-#define SUM_OF(it, size) +it##_len
-#define NO_ROOM(it, size) uint8_t *it = (uint8_t *)&nothing;
-#define PLACED(it, size) \
-    uint8_t *it = rooms; \
-    rooms += it##_len;
-#define BARE(...) __VA_ARGS__
+/* A function that works in rooms: ROOMS has them, their types and how many items each has, `call` what the proved function is
+ * passed. All rooms of a call are one block, in which each begins at a multiple of 8; short texts need none. Where it answers
+ * that they are too small, and ROOMS has larger ones for the next turn, it is called again. Where there is no memory it is
+ * called with none, since other statuses may come first. */
+#ifdef WKT_NO_ROOMS
+#define FUNCTION_IN_ROOMS(name, LIST, ROOMS, parameters, passed, proved_parameters, call) \
+    FUNCTION(name, LIST, parameters, passed)
+#else
+#define SIZE_OF(it, type, count) size_t it##_len = (size_t)(count);
+#define SUM_OF(it, type, count) +((it##_len * sizeof(type) + 7) & ~(size_t)7)
+#define NO_ITEM(it, type, count) it##_len = 0;
+#define NO_ROOM(it, type, count) type *it = (type *)&nothing;
+#define PLACED(it, type, count) \
+    type *it = (type *)(void *)at; \
+    at += (it##_len * sizeof(type) + 7) & ~(size_t)7;
 #define FUNCTION_IN_ROOMS(name, LIST, ROOMS, parameters, passed, proved_parameters, call) \
     extern wkt_status proved_##name proved_parameters; \
     static __attribute__((noinline)) wkt_status roomy_##name parameters { \
-        ROOMS(SIZE_OF) \
-        uint8_t *rooms = malloc((size_t)0 ROOMS(SUM_OF)), *block = rooms; \
-        wkt_status status; \
-        if (!block) return WKT_NO_MEMORY; \
-        ROOMS(PLACED) \
-        status = proved_##name call; \
-        free(block); \
-        return status; \
+        size_t before = 0; \
+        for (unsigned turn = 0;; turn++) { \
+            ROOMS(SIZE_OF) \
+            const size_t sum = (size_t)0 ROOMS(SUM_OF); \
+            wkt_status status = WKT_NO_MEMORY; \
+            if (sum == before) return status; \
+            uint8_t *block = malloc(sum), *at = block ? block : (uint8_t *)&nothing; \
+            if (!block) { \
+                ROOMS(NO_ITEM) \
+            } \
+            ROOMS(PLACED) \
+            status = proved_##name call; \
+            free(block); \
+            if (status != WKT_NO_MEMORY || !block) return status; \
+            before = sum; \
+        } \
     } \
     static inline wkt_status unchecked_##name parameters { \
+        const unsigned turn = 0; \
         ROOMS(SIZE_OF) \
         ROOMS(NO_ROOM) \
+        (void)turn; \
         if (__builtin_expect(((size_t)0 ROOMS(SUM_OF)) != 0, 0)) return roomy_##name passed; \
         return proved_##name call; \
     } \
     static __attribute__((noinline, cold)) wkt_status checked_##name parameters { \
         if (unseen && !wkt_supported()) return WKT_NOT_SUPPORTED; \
-        LIST(CHECK_BUFFER, CHECK_RESULT) \
+        LIST(CHECK_BUFFER, CHECK_BUFFER, CHECK_RESULT, CHECK_RESULT) \
         return unchecked_##name passed; \
     } \
     wkt_status name parameters { \
         if (__builtin_expect(MAY_BE_WRONG(LIST), 0)) return checked_##name passed; \
         return unchecked_##name passed; \
     }
+#endif
 
-/* How much room canonical texts of texts take that aren't short: none, and so a status, where that is no size. */
-#define IS_SHORT(size) ((size) <= 200)
-static inline size_t room_for(size_t size) { return size > PTRDIFF_MAX / 8 ? 0 : 2 * size + 65; }
-
-#define CANONICAL(BUFFER, RESULT) BUFFER(text) BUFFER(out) RESULT(needed) RESULT(end)
-#define CANONICAL_ROOMS(ROOM) ROOM(room, IS_SHORT(text_len) ? 0 : room_for(text_len))
-FUNCTION_IN_ROOMS(wkt_canonical, CANONICAL, CANONICAL_ROOMS,
-                  (const uint8_t *text, size_t text_len, uint32_t places, uint8_t *out, size_t out_len, size_t *needed,
-                   size_t *end),
-                  (text, text_len, places, out, out_len, needed, end),
-                  (const uint8_t *text, size_t text_len, uint32_t places, uint8_t *room, size_t room_len, uint8_t *out,
-                   size_t out_len, size_t *needed, size_t *end),
-                  (text, text_len, places, room, room_len, out, out_len, needed, end))
-
-#define SAME(BUFFER, RESULT) BUFFER(one) BUFFER(other) RESULT(same)
-#define SAME_ROOMS(ROOM) \
-    ROOM(room, IS_SHORT(one_len) && IS_SHORT(other_len) ? 0 : room_for(one_len)) \
-    ROOM(other_room, IS_SHORT(one_len) && IS_SHORT(other_len) ? 0 : room_for(other_len))
-FUNCTION_IN_ROOMS(wkt_same, SAME, SAME_ROOMS,
-                  (const uint8_t *one, size_t one_len, const uint8_t *other, size_t other_len, uint32_t places,
-                   uint32_t *same),
-                  (one, one_len, other, other_len, places, same),
-                  (const uint8_t *one, size_t one_len, const uint8_t *other, size_t other_len, uint32_t places,
-                   uint8_t *room, size_t room_len, uint8_t *other_room, size_t other_room_len, uint32_t *same),
-                  (one, one_len, other, other_len, places, room, room_len, other_room, other_room_len, same))
-
-#define SAME_ENDS(BUFFER, RESULT) BUFFER(one) BUFFER(other) RESULT(same) RESULT(end) RESULT(other_end)
-FUNCTION_IN_ROOMS(wkt_same_ends, SAME_ENDS, SAME_ROOMS,
-                  (const uint8_t *one, size_t one_len, const uint8_t *other, size_t other_len, uint32_t places,
-                   uint32_t *same, size_t *end, size_t *other_end),
-                  (one, one_len, other, other_len, places, same, end, other_end),
-                  (const uint8_t *one, size_t one_len, const uint8_t *other, size_t other_len, uint32_t places,
-                   uint8_t *room, size_t room_len, uint8_t *other_room, size_t other_room_len, uint32_t *same,
-                   size_t *end, size_t *other_end),
-                  (one, one_len, other, other_len, places, room, room_len, other_room, other_room_len, same, end,
-                   other_end))
-
-#define EXPLAIN(BUFFER, RESULT) BUFFER(text) RESULT(message) RESULT(start) RESULT(stop) RESULT(expected)
-FUNCTION(wkt_explain, EXPLAIN,
-         (const uint8_t *text, size_t text_len, uint32_t places, uint32_t *message, size_t *start, size_t *stop,
-          uint32_t *expected),
-         (text, text_len, places, message, start, stop, expected))
-
-#define HINT(BUFFER, RESULT) BUFFER(text) RESULT(hint)
-FUNCTION(wkt_hint, HINT, (const uint8_t *text, size_t text_len, uint32_t places, uint32_t *hint),
-         (text, text_len, places, hint))
-
-#define INFER(BUFFER, RESULT) BUFFER(text) RESULT(kind) RESULT(dimension)
-FUNCTION(wkt_infer, INFER, (const uint8_t *text, size_t text_len, uint32_t *kind, uint32_t *dimension),
-         (text, text_len, kind, dimension))
-
-#define LINES(BUFFER, RESULT) BUFFER(input) BUFFER(out) RESULT(needed)
-FUNCTION(wkt_lines, LINES,
-         (const uint8_t *input, size_t input_len, uint32_t places, uint8_t *out, size_t out_len, size_t *needed),
-         (input, input_len, places, out, out_len, needed))
-
-#define LINES_SOME(BUFFER, RESULT) BUFFER(input) BUFFER(out) RESULT(taken) RESULT(written)
-FUNCTION(wkt_lines_some, LINES_SOME,
-         (const uint8_t *input, size_t input_len, uint32_t places, uint32_t last, uint8_t *out, size_t out_len,
-          size_t *taken, size_t *written),
-         (input, input_len, places, last, out, out_len, taken, written))
-
-/* clang-format would indent each line of these lists further. */
-/* clang-format off */
-#define COLUMN_CANONICAL(BUFFER, RESULT) BUFFER(texts) BUFFER(offsets) BUFFER(valid) BUFFER(out) BUFFER(out_offsets) \
-    BUFFER(statuses) RESULT(needed)
-/* clang-format on */
-FUNCTION(wkt_column_canonical, COLUMN_CANONICAL,
-         (const uint8_t *texts, size_t texts_len, const int64_t *offsets, size_t offsets_len, const uint8_t *valid,
-          size_t valid_len, uint32_t places, uint8_t *out, size_t out_len, int64_t *out_offsets, size_t out_offsets_len,
-          wkt_status *statuses, size_t statuses_len, size_t *needed),
-         (texts, texts_len, offsets, offsets_len, valid, valid_len, places, out, out_len, out_offsets, out_offsets_len,
-          statuses, statuses_len, needed))
-
-#define ARRAYS(BUFFER, RESULT) BUFFER(text) RESULT(sizes) BUFFER(numbers) BUFFER(rings) BUFFER(polygons)
-FUNCTION(wkt_arrays, ARRAYS,
-         (const uint8_t *text, size_t text_len, uint32_t places, WktSizes *sizes, int64_t *numbers, size_t numbers_len,
-          size_t *rings, size_t rings_len, size_t *polygons, size_t polygons_len),
-         (text, text_len, places, sizes, numbers, numbers_len, rings, rings_len, polygons, polygons_len))
-
-/* clang-format off */
-#define COLUMN_ARRAYS(BUFFER, RESULT) BUFFER(texts) BUFFER(offsets) BUFFER(valid) RESULT(sizes) BUFFER(kinds) \
-    BUFFER(dimensions) BUFFER(numbers) BUFFER(number_offsets) BUFFER(rings) BUFFER(ring_offsets) BUFFER(polygons) \
-    BUFFER(polygon_offsets) BUFFER(statuses)
-/* clang-format on */
-FUNCTION(wkt_column_arrays, COLUMN_ARRAYS,
-         (const uint8_t *texts, size_t texts_len, const int64_t *offsets, size_t offsets_len, const uint8_t *valid,
-          size_t valid_len, uint32_t places, WktColumnSizes *sizes, uint32_t *kinds, size_t kinds_len,
-          uint32_t *dimensions, size_t dimensions_len, int64_t *numbers, size_t numbers_len, int64_t *number_offsets,
-          size_t number_offsets_len, size_t *rings, size_t rings_len, int64_t *ring_offsets, size_t ring_offsets_len,
-          size_t *polygons, size_t polygons_len, int64_t *polygon_offsets, size_t polygon_offsets_len,
-          wkt_status *statuses, size_t statuses_len),
-         (texts, texts_len, offsets, offsets_len, valid, valid_len, places, sizes, kinds, kinds_len, dimensions,
-          dimensions_len, numbers, numbers_len, number_offsets, number_offsets_len, rings, rings_len, ring_offsets,
-          ring_offsets_len, polygons, polygons_len, polygon_offsets, polygon_offsets_len, statuses, statuses_len))
-
-#define FROM_ARRAYS(BUFFER, RESULT) BUFFER(numbers) BUFFER(rings) BUFFER(polygons) BUFFER(out) RESULT(needed)
-FUNCTION(wkt_from_arrays, FROM_ARRAYS,
-         (uint32_t kind, uint32_t dimension, const int64_t *numbers, size_t numbers_len, const size_t *rings,
-          size_t rings_len, const size_t *polygons, size_t polygons_len, uint32_t places, uint8_t *out, size_t out_len,
-          size_t *needed),
-         (kind, dimension, numbers, numbers_len, rings, rings_len, polygons, polygons_len, places, out, out_len,
-          needed))
-
-/* clang-format off */
-#define COLUMN_FROM_ARRAYS(BUFFER, RESULT) BUFFER(kinds) BUFFER(dimensions) BUFFER(numbers) BUFFER(number_offsets) \
-    BUFFER(rings) BUFFER(ring_offsets) BUFFER(polygons) BUFFER(polygon_offsets) BUFFER(valid) BUFFER(out) \
-    BUFFER(out_offsets) BUFFER(statuses) RESULT(needed)
-/* clang-format on */
-FUNCTION(wkt_column_from_arrays, COLUMN_FROM_ARRAYS,
-         (const uint32_t *kinds, size_t kinds_len, const uint32_t *dimensions, size_t dimensions_len,
-          const int64_t *numbers, size_t numbers_len, const int64_t *number_offsets, size_t number_offsets_len,
-          const size_t *rings, size_t rings_len, const int64_t *ring_offsets, size_t ring_offsets_len,
-          const size_t *polygons, size_t polygons_len, const int64_t *polygon_offsets, size_t polygon_offsets_len,
-          const uint8_t *valid, size_t valid_len, uint32_t places, uint8_t *out, size_t out_len, int64_t *out_offsets,
-          size_t out_offsets_len, wkt_status *statuses, size_t statuses_len, size_t *needed),
-         (kinds, kinds_len, dimensions, dimensions_len, numbers, numbers_len, number_offsets, number_offsets_len, rings,
-          rings_len, ring_offsets, ring_offsets_len, polygons, polygons_len, polygon_offsets, polygon_offsets_len,
-          valid, valid_len, places, out, out_len, out_offsets, out_offsets_len, statuses, statuses_len, needed))
+#include "functions.h"

@@ -22,11 +22,14 @@
  *
  * Each function from wkt_canonical on is proved to do what its comment says, in crates/wkt_c/src/exports*.rt. Only tested,
  * and not proved, are the three functions without a status, those three statuses, what a call costs, and that memory
- * suffices: the proof would also hold of a call that returned WKT_NO_MEMORY wherever it may come.
+ * suffices. A proved function works in memory that it is passed, and is proved to return WKT_NO_MEMORY only where that is
+ * too small, but for those of columns; that the library passes enough is tested.
  *
  * What a call costs: it checks its whole text for UTF-8, also after the geometry. wkt_canonical, wkt_same and
  * wkt_same_ends take memory for twice the text, and none for texts of up to 200 bytes. So to read one geometry after the
  * other, don't pass all that is left of a large buffer from *end on: pass a piece at a time, or call wkt_lines_some.
+ * A call takes its memory at once, by one malloc, for the longest answer that there can be: calls of arrays and columns ask
+ * for more than they write. Only wkt_lines and wkt_lines_some may free it and ask for more.
  * A canonical text has at most twice the length of its text and 65 bytes more: a buffer of that size is never too small.
  *
  * What nothing checks, and the caller has to ensure:

@@ -341,6 +341,29 @@ static void some_lines(void) {
     CHECK(wkt_lines_some(NULL, 0, 18, 1, NULL, 0, &taken, &written) == WKT_OK && taken == 0 && written == 0);
 }
 
+/* Answers that are longer than their lines, and a line that is longer than most: memory is taken again, and more. */
+static void rooms_again(void) {
+    enum { MANY = 100000 };
+    uint8_t *input = (uint8_t *)malloc(MANY + 12), *answers = (uint8_t *)malloc(8 * MANY);
+    size_t taken = 99, written = 99, i;
+    CHECK(input && answers);
+    memset(input, '\n', MANY);
+    allocations = 0;
+    CHECK(wkt_lines(input, MANY, 18, answers, 8 * MANY, &needed) == WKT_OK && needed == 8 * MANY);
+    CHECK(PORTABLE || allocations > 1);
+    for (i = 0; i < MANY; i++) CHECK(!memcmp(answers + 8 * i, "refused\n", 8));
+    CHECK(wkt_lines(input, MANY, 18, answers, 8 * MANY - 1, &needed) == WKT_TOO_SMALL && needed == 8 * MANY);
+    memset(input, ' ', MANY);
+    memcpy(input + MANY, "POINT(1 2)\n\n", 12);
+    allocations = 0;
+    CHECK(wkt_lines_some(input, MANY + 12, 18, 1, answers, 11, &taken, &written) == WKT_OK);
+    CHECK(taken == MANY + 11 && written == 11 && !memcmp(answers, "POINT(1 2)\n", 11));
+    CHECK(PORTABLE || allocations > 1);
+    CHECK(wkt_lines_some(input, MANY + 12, 18, 1, answers, 10, &taken, &written) == WKT_TOO_SMALL);
+    free(input);
+    free(answers);
+}
+
 void test_texts(void) {
     versions();
     canonicals();
@@ -356,4 +379,5 @@ void test_texts(void) {
     headers();
     many_lines();
     some_lines();
+    rooms_again();
 }

@@ -1,6 +1,6 @@
 /* What is tested of portable C beside the tests of capi/tests: a trap, memory that ends or is given back, sizes past 4 GiB, an
  * instance for each of several threads. It is the library and its test in one, so that instances can be looked at:
- * cc -O2 -DWKT_HAS_CPU=1 dist/c/test.c capi/pointers.c capi/heap.c -pthread && ./a.out */
+ * cc -O2 -DWKT_HAS_CPU=1 -DWKT_NO_ROOMS dist/c/test.c capi/pointers.c capi/heap.c -pthread && ./a.out */
 #include <stdlib.h>
 /* Memory ends with the call of this number. */
 static int callocs, refused = -1;

@@ -202,11 +202,6 @@ static void take(machine *m, uint64_t from, unsigned width, void *to, size_t cou
 #define ADDRESS(it, ...) const uint64_t it = it##_at;
 #define BARE(...) __VA_ARGS__
 
-/* Rooms that C makes for the proved object: here they lie in the module's memory. */
-#define UNUSED __attribute__((unused))
-#define ROOM_OF_C UNUSED uint8_t *c_room, UNUSED size_t c_room_len
-#define OTHER_ROOM_OF_C UNUSED uint8_t *c_other, UNUSED size_t c_other_len
-
 /* The functions of capi/pointers.c call these by their names; each runs `inner_*` with an instance of its own. */
 #define RUN(name, parameters, passed) \
     wkt_status proved_##name parameters; \
@@ -258,9 +253,9 @@ FUNCTION(wkt_infer, wkt_infer, INFER, (const uint8_t *text, size_t text_len, uin
     RESULT(same, 4) RESULT(end, 8) RESULT(other_end, 8)
 /* clang-format on */
 FUNCTION(wkt_same_ends, wkt_same, SAME_ENDS,
-         (const uint8_t *one, size_t one_len, const uint8_t *other, size_t other_len, uint32_t places, ROOM_OF_C,
-          OTHER_ROOM_OF_C, uint32_t *same, size_t *end, size_t *other_end),
-         (one, one_len, other, other_len, places, c_room, c_room_len, c_other, c_other_len, same, end, other_end),
+         (const uint8_t *one, size_t one_len, const uint8_t *other, size_t other_len, uint32_t places, uint32_t *same,
+          size_t *end, size_t *other_end),
+         (one, one_len, other, other_len, places, same, end, other_end),
          (one, one_len, other, other_len, places, room, room_len, other_room, other_room_len, same, end, other_end))
 
 /* clang-format off */
@@ -277,18 +272,16 @@ FUNCTION(wkt_arrays, wkt_arrays, ARRAYS,
 
 /* ---- What follows goes once the module has all functions as wkt.h declares them; then each is a list as those above. */
 
+wkt_status proved_wkt_same(const uint8_t *, size_t, const uint8_t *, size_t, uint32_t, uint32_t *);
 wkt_status proved_wkt_same(const uint8_t *one, size_t one_len, const uint8_t *other, size_t other_len, uint32_t places,
-                           uint8_t *c_room, size_t c_room_len, uint8_t *c_other, size_t c_other_len, uint32_t *same);
-wkt_status proved_wkt_same(const uint8_t *one, size_t one_len, const uint8_t *other, size_t other_len, uint32_t places,
-                           uint8_t *c_room, size_t c_room_len, uint8_t *c_other, size_t c_other_len, uint32_t *same) {
+                           uint32_t *same) {
     size_t end = 0, other_end = 0;
-    return proved_wkt_same_ends(one, one_len, other, other_len, places, c_room, c_room_len, c_other, c_other_len, same,
-                                &end, &other_end);
+    return proved_wkt_same_ends(one, one_len, other, other_len, places, same, &end, &other_end);
 }
 
 /* The module writes the text to its room, which is always long enough; C asks for it in a buffer. */
-static wkt_status inner_wkt_canonical(machine *m, const uint8_t *text, size_t text_len, uint32_t places, ROOM_OF_C,
-                                      uint8_t *out, size_t out_len, size_t *needed, size_t *end) {
+static wkt_status inner_wkt_canonical(machine *m, const uint8_t *text, size_t text_len, uint32_t places, uint8_t *out,
+                                      size_t out_len, size_t *needed, size_t *end) {
     const uint64_t text_at = lay(m, text_len, 1), room_len = 2 * (uint64_t)text_len + 65, room_at = lay(m, room_len, 1);
     const uint64_t needed_at = lay(m, 1, 8), end_at = lay(m, 1, 8);
     wkt_status status = holds(m);
@@ -304,9 +297,8 @@ static wkt_status inner_wkt_canonical(machine *m, const uint8_t *text, size_t te
     return status;
 }
 RUN(wkt_canonical,
-    (const uint8_t *text, size_t text_len, uint32_t places, ROOM_OF_C, uint8_t *out, size_t out_len, size_t *needed,
-     size_t *end),
-    (text, text_len, places, c_room, c_room_len, out, out_len, needed, end))
+    (const uint8_t *text, size_t text_len, uint32_t places, uint8_t *out, size_t out_len, size_t *needed, size_t *end),
+    (text, text_len, places, out, out_len, needed, end))
 
 /* Some lines in the module's memory, and how far they are answered. */
 typedef struct {

@@ -2,21 +2,22 @@
 """Whether the proved functions have the parameters that their callers pass; the status is 1 where one hasn't.
 
 include/wkt.h says which functions there are. Compared with it are the functions that crates/wkt_c exports, which may take
-rooms beside what the header has, and their structs, the calls of capi/pointers.c, the declarations of rust/src/ffi.rs,
-and the module's functions, which take other rooms. The calls of javascript/src are compared with these. A slice is a pointer and a size. At the
-end a parameter or a field is changed in each of these files, and each change has to be seen.
+rooms beside what the header has, and their structs, the functions of capi/functions.h, the declarations of
+rust/src/ffi.rs, and the module's functions, which take other rooms. The calls of javascript/src are compared with these.
+A slice is a pointer and a size. At the end a parameter or a field is changed in each of these files, and each change has
+to be seen.
 """
 import os
 import re
 import sys
 
 TOP = os.path.dirname(os.path.dirname(os.path.dirname(os.path.abspath(__file__))))
-HEADER, POINTERS, RUST = "include/wkt.h", "capi/pointers.c", "rust/src/ffi.rs"
+HEADER, LISTS, RUST = "include/wkt.h", "capi/functions.h", "rust/src/ffi.rs"
 ENGINE, LINES = "javascript/src/engine.js", "javascript/src/lines.js"
 EXPORTS = [f"crates/wkt_c/src/exports{part}.rt" for part in ("", "_arrays", "_explain")]
 MODULE = "crates/wkt_web/src/exports.rt"
 SIZES = ["crates/wkt_calls/src/sizes.rt", "crates/wkt_c/src/sizes.rt"]
-FILES = [HEADER, POINTERS, RUST, ENGINE, LINES, MODULE, *EXPORTS, *SIZES]
+FILES = [HEADER, LISTS, RUST, ENGINE, LINES, MODULE, *EXPORTS, *SIZES]
 # Types that C has by two names. Offsets are of 64 bits, as sizes are, and one below 0 is refused as too large.
 ALIKE = {"wkt_status": "u32", "uint32_t": "u32", "uint8_t": "u8", "size_t": "64", "int64_t": "64", "int": "c_int",
          "usize": "64", "i64": "64"}
@@ -42,12 +43,10 @@ def of_c(text):
 
 
 def of_rattle(text):
-    """The same of an exported function: a slice has its size behind it, and an allocator is nothing."""
+    """The same of an exported function: a slice has its size behind it."""
     found = []
     for name, word in (one.split(": ") for one in parameters(text)):
         kind, slice_of, plain = re.fullmatch(r"(&mut |&|)(?:\[(\w+)\]|(\w+))", word).groups()
-        if word == "Global":
-            continue
         star = {"": "", "&": "const *", "&mut ": "*"}[kind]
         found.append((name, star + ALIKE.get(slice_of or plain, slice_of or plain)))
         if slice_of:
@@ -82,26 +81,32 @@ def fields_of_c(body):
             for name in row.strip().split(None, 1)[1].split(",")]
 
 
-def pointers_of(text):
-    """Of each function of pointers.c: its parameters, what is passed on, its buffers and results in their order, its
-    rooms, and the parameters of the proved function with what it is passed."""
-    lists = {name: re.findall(r"(BUFFER|RESULT)\((\w+)\)", body)
-             for name, body in re.findall(r"#define (\w+)\(BUFFER, RESULT\) ((?:[^\n]*\\\n)*[^\n]*)", text)}
-    rooms = {name: re.findall(r"\bROOM\((\w+),", body)
+def listed(text):
+    """Of each function of functions.h: its parameters, what is passed on, its buffers and results in their order, with the
+    width of each, its rooms, and the parameters of the proved function with what it is passed."""
+    has = {name: re.findall(r"(GIVEN|ANSWER|RESULTS?)\((\w+)(?:, (\d))?", body)
+           for name, body in re.findall(r"#define (\w+)\(GIVEN, ANSWER, RESULT, RESULTS\) ((?:[^\n]*\\\n)*[^\n]*)", text)}
+    rooms = {name: [(room, "*" + ALIKE[word]) for room, word in re.findall(r"\bROOM\((\w+), (\w+),", body)]
              for name, body in re.findall(r"#define (\w+)\(ROOM\) ((?:[^\n]*\\\n)*[^\n]*)", text)}
     found = {}
-    for name, checked, given, passed in re.findall(rf"^FUNCTION\((\w+), (\w+){LISTED * 2}\)", text, re.S | re.M):
-        found[name] = (of_c(given), parameters(passed), lists[checked], [], of_c(given), parameters(passed))
-    roomy = rf"^FUNCTION_IN_ROOMS\((\w+), (\w+), (\w+){LISTED * 4}\)"
-    for name, checked, within, given, passed, taken, call in re.findall(roomy, text, re.S | re.M):
-        found[name] = (of_c(given), parameters(passed), lists[checked], rooms[within], of_c(taken), parameters(call))
+    for name, its, given, passed in re.findall(rf"^FUNCTION\(\s*(\w+), (\w+){LISTED * 2}\)", text, re.S | re.M):
+        found[name] = (of_c(given), parameters(passed), has[its], [], of_c(given), parameters(passed))
+    roomy = rf"^FUNCTION_IN_ROOMS\(\s*(\w+), (\w+), (\w+){LISTED * 4}\)"
+    for name, its, within, given, passed, taken, call in re.findall(roomy, text, re.S | re.M):
+        found[name] = (of_c(given), parameters(passed), has[its], rooms[within], of_c(taken), parameters(call))
     return found
 
 
-def checks_of(declared):
-    """The buffers and the results of a function, in their order."""
+def list_of(declared):
+    """What a function has as it is to be listed: buffers that are read, those that are written, and results."""
     names = {name for name, _ in declared}
-    return [("BUFFER" if f"{name}_len" in names else "RESULT", name) for name, word in declared if "*" in word]
+    found = []
+    for name, word in declared:
+        width = {"u8": "1", "u32": "4", "64": "8"}.get(word.split("*")[-1], "")
+        kind = "RESULT" if f"{name}_len" not in names else "GIVEN" if word.startswith("const") else "ANSWER"
+        if "*" in word:
+            found.append((kind if width else "RESULTS", name, width))
+    return found
 
 
 def passed_by_engine(text, name):
@@ -125,17 +130,17 @@ def differences(texts):
     exported = functions(EXPORT, "\n".join(texts[one] for one in EXPORTS), of_rattle)
     module = functions(EXPORT, texts[MODULE], of_rattle)
     in_rust = functions(r"pub fn (wkt_\w+)\(([^()]*)\)\s*->\s*u32;", texts[RUST], of_rust)
-    pointers = pointers_of(texts[POINTERS])
-    yield from named("what wkt_c exports and what pointers.c calls", {name: it[4] for name, it in pointers.items()}, exported)
-    called = {name: one[0] for name, one in pointers.items()}
-    yield from named("what pointers.c calls and what wkt.h declares", declared, called)
+    lists = listed(texts[LISTS])
+    yield from named("what wkt_c exports and what functions.h has", {name: it[4] for name, it in lists.items()}, exported)
+    called = {name: one[0] for name, one in lists.items()}
+    yield from named("what functions.h has and what wkt.h declares", declared, called)
     here = {name: declared.get(name) for name in in_rust}
     yield from named("what ffi.rs declares and what wkt.h declares", here, in_rust)
-    for name, (given, passed, checked, rooms, taken, call) in pointers.items():
-        if passed != [one for one, _ in given] or checked != checks_of(given) or call != [one for one, _ in taken]:
-            yield f"{name}: pointers.c passes or checks other parameters than it has"
-        of_rooms = [it for room in rooms for it in (room, f"{room}_len")]
-        if [it for it in taken if it[0] not in of_rooms] != given or len(taken) != len(given) + len(of_rooms):
+    for name, (given, passed, its, rooms, taken, call) in lists.items():
+        if passed != [one for one, _ in given] or its != list_of(given) or call != [one for one, _ in taken]:
+            yield f"{name}: functions.h passes or lists other parameters than it has"
+        of_rooms = [it for room, word in rooms for it in ((room, word), (f"{room}_len", "64"))]
+        if [it for it in taken if it not in of_rooms] != given or [it for it in taken if it in of_rooms] != of_rooms:
             yield f"{name}: the proved function hasn't the parameters of wkt.h and its rooms"
     for name, given in module.items():
         wanted = [word for _, word in declared[HEADED.get(name, name)]]
@@ -162,9 +167,11 @@ def named(what, wanted, found):
 CHANGES = [
     (HEADER, "size_t out_len, size_t *needed, size_t *end)", "size_t out_len, size_t *end, size_t *needed)"),
     (HEADER, "size_t numbers, rings, polygons; /*", "uint32_t numbers, rings, polygons; /*"),
-    (POINTERS, "(text, text_len, places, hint))", "(text, places, text_len, hint))"),
-    (POINTERS, "BUFFER(text) RESULT(hint)", "RESULT(hint)"),
-    (POINTERS, "room, room_len, out, out_len, needed, end))", "out, out_len, room, room_len, needed, end))"),
+    (LISTS, "(text, text_len, places, hint))", "(text, places, text_len, hint))"),
+    (LISTS, "GIVEN(text, 1) RESULT(hint, 4)", "RESULT(hint, 4)"),
+    (LISTS, "GIVEN(offsets, 8)", "GIVEN(offsets, 4)"),
+    (LISTS, "room, room_len, out, out_len, needed, end))", "out, out_len, room, room_len, needed, end))"),
+    (LISTS, "ROOM(words_room, size_t,", "ROOM(words_room, uint32_t,"),
     (RUST, "pub rings: usize,\n    pub polygons: usize,", "pub polygons: usize,\n    pub rings: usize,"),
     (RUST, "last: u32,\n", ""),
     (ENGINE, "big(rooms[0]), big(sizes[0]), ", ""),

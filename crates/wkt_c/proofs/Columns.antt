@@ -1,18 +1,17 @@
 -- The answers to a column, row after row: texts, arrays, and texts of arrays.
-use Rattle.std.proofs.Common.{◌≡◌, ◌+◌, ◌-◌, ◌<◌, ◌≤◌, ◌++◌, inl, inr, ℕ, zero, suc, List, [], ◌∷◌, Option, Bool, length, take, drop, slice_range, refl, sym, ap, ◌∙◌, subst, arith, true, false, add-zero, below_more, take_all, length-append, length-drop, map, ℤ, ◌≢◌, Result, Ok, Err, MatchResult}
+use Rattle.std.proofs.Common.{◌≡◌, ◌+◌, ◌-◌, ◌<◌, ◌≤◌, ◌++◌, inl, inr, ℕ, zero, suc, List, [], ◌∷◌, Option, Bool, length, take, drop, slice_range, refl, sym, ap, ◌∙◌, subst, arith, true, false, add-zero, below_more, take_all, length-append, length-drop, ℤ, ◌≢◌, Result, Ok, Err, MatchResult}
 use Rattle.std.specs.List.{slice_index}
-use Rattle.std.proofs.lemmas.List.{take-append-le, drop-append-le, get_or_append_left, map-append}
+use Rattle.std.proofs.lemmas.List.{take-append-le, drop-append-le, get_or_append_left}
 use Rattle.std.proofs.Math.Seq.{drop-append_seam, get_or-append_seam}
 use Rattle.wkt_num.specs.Bytes.{AllWhite}
 use Rattle.wkt_calls.specs.Answer.{IsCanonicalOf, EndsAsAsked}
 use Rattle.wkt_c.specs.Column.{row_count, row, AreOffsets, AreJoined, HasNoAnswer, is_null}
-use Rattle.wkt_c.specs.Rows.{HoldsNoList, AddsList, HoldsNoRow, AddsRow, HoldsRows, AddsTextAnswer, held_arrays, kinds_of, dimensions_of, statuses_of, HoldsNoArrays, AddsArrays, AddsRowArrays, HoldsArrays, row_of, AddsArraysText}
+use Rattle.wkt_c.specs.Rows.{HoldsNoList, AddsList, HoldsNoRow, AddsRow, HoldsRows, AddsTextAnswer, items_of, held_arrays, HoldsNoArrays, AddsArrays, AddsRowArrays, HoldsArrays, row_of, AddsArraysText}
 use Rattle.wkt_c.specs.declared.joined.Joined.{Joined}
 use Rattle.wkt_c.specs.declared.column.Rows.{Rows}
 use Rattle.wkt_calls.specs.Arrays.{AreOf}
 use Rattle.wkt_c.specs.ColumnArrays.{RowArrays, row_arrays, HasNothing, HasNoRowArrays, IsRowArrays, HasOffsets, IsTextOf, IsNoTextAt}
 use Rattle.wkt_c.specs.declared.column_arrays.ArrayRows.{ArrayRows}
-use Rattle.wkt_c.specs.declared.column_arrays.RowHead.{RowHead}
 
 -- The answers to a column, row after row.
 
@@ -95,30 +94,30 @@ module _ {A : Type 0} (i : ℕ) (items : List A) (ends : List ℕ) (piece : List
 
 -- ---- one list joined
 
-pub no-list : {T : Type 0} (j : Joined T) → HoldsNoList j → AreJoined 0 j.items.items j.ends.items
+pub no-list : {T : Type 0} (j : Joined T) → HoldsNoList j → AreJoined 0 (items_of j.items) (items_of j.ends)
 no-list {T} j h =
-    subst (λ xs. AreJoined {A = T} 0 xs j.ends.items) (sym h.no_items)
+    subst (λ xs. AreJoined {A = T} 0 xs (items_of j.ends)) (sym h.no_items)
     (subst (λ es. AreJoined {A = T} 0 [] es) (sym h.zero) none-joined)
 
-module _ {T : Type 0} (i : ℕ) (list : List T) (a b : Joined T) (are : AreJoined i a.items.items a.ends.items) (adds : AddsList list a b) where
-  ends-are : b.ends.items ≡ a.ends.items ++ length (a.items.items ++ list) ∷ []
-  ends-are = adds.ends_are ∙ ap (λ xs. a.ends.items ++ length xs ∷ []) adds.items_are
+module _ {T : Type 0} (i : ℕ) (list : List T) (a b : Joined T) (are : AreJoined i (items_of a.items) (items_of a.ends)) (adds : AddsList list a b) where
+  ends-are : (items_of b.ends) ≡ (items_of a.ends) ++ length ((items_of a.items) ++ list) ∷ []
+  ends-are = adds.ends_are ∙ ap (λ xs. (items_of a.ends) ++ length xs ∷ []) adds.items_are
 
-  pub longer : AreJoined (i + 1) b.items.items b.ends.items
+  pub longer : AreJoined (i + 1) (items_of b.items) (items_of b.ends)
   longer =
-      subst (λ xs. AreJoined (i + 1) xs b.ends.items) (sym adds.items_are)
-      (subst (λ es. AreJoined (i + 1) (a.items.items ++ list) es) (sym ends-are) (one-joined i a.items.items a.ends.items list are))
+      subst (λ xs. AreJoined (i + 1) xs (items_of b.ends)) (sym adds.items_are)
+      (subst (λ es. AreJoined (i + 1) ((items_of a.items) ++ list) es) (sym ends-are) (one-joined i (items_of a.items) (items_of a.ends) list are))
 
-  in-longer : (k : ℕ) → row (a.items.items ++ list) (a.ends.items ++ length (a.items.items ++ list) ∷ []) k ≡ row b.items.items b.ends.items k
+  in-longer : (k : ℕ) → row ((items_of a.items) ++ list) ((items_of a.ends) ++ length ((items_of a.items) ++ list) ∷ []) k ≡ row (items_of b.items) (items_of b.ends) k
   in-longer k =
-      ap (λ xs. row xs (a.ends.items ++ length (a.items.items ++ list) ∷ []) k) (sym adds.items_are)
-      ∙ ap (λ es. row b.items.items es k) (sym ends-are)
+      ap (λ xs. row xs ((items_of a.ends) ++ length ((items_of a.items) ++ list) ∷ []) k) (sym adds.items_are)
+      ∙ ap (λ es. row (items_of b.items) es k) (sym ends-are)
 
-  pub old-list : (k : ℕ) → k < i → row a.items.items a.ends.items k ≡ row b.items.items b.ends.items k
-  old-list k lt = row-kept i a.items.items a.ends.items list are k lt ∙ in-longer k
+  pub old-list : (k : ℕ) → k < i → row (items_of a.items) (items_of a.ends) k ≡ row (items_of b.items) (items_of b.ends) k
+  old-list k lt = row-kept i (items_of a.items) (items_of a.ends) list are k lt ∙ in-longer k
 
-  pub new-list : list ≡ row b.items.items b.ends.items i
-  new-list = row-new i a.items.items a.ends.items list are ∙ in-longer i
+  pub new-list : list ≡ row (items_of b.items) (items_of b.ends) i
+  new-list = row-new i (items_of a.items) (items_of a.ends) list are ∙ in-longer i
 
 -- ---- one word a row
 
@@ -144,13 +143,13 @@ module _ (IsRow : ℕ → List ℕ → ℕ → Type 0) where
   pub one-more : (i : ℕ) (a b : Rows) (text : List ℕ) (status : ℕ) → HoldsRows IsRow i a → IsRow i text status → AddsRow text status a b → HoldsRows IsRow (i + 1) b
   one-more i a b text status are is adds = record {
     joined = longer i text a.texts b.texts are.joined adds.text_added;
-    statuses_size = more-words a.statuses.items b.statuses.items status i adds.status_added are.statuses_size;
-    answers = below_more (λ k. IsRow k (row b.texts.items.items b.texts.ends.items k) (slice_index b.statuses.items k)) i
-        (λ k lt. subst (λ s. IsRow k (row b.texts.items.items b.texts.ends.items k) s)
-        (old-word a.statuses.items b.statuses.items status k adds.status_added (omega (arith, are.statuses_size, lt)))
-        (subst (λ xs. IsRow k xs (slice_index a.statuses.items k)) (old-list i text a.texts b.texts are.joined adds.text_added k lt) (are.answers k lt)))
-        (subst (λ s. IsRow i (row b.texts.items.items b.texts.ends.items i) s)
-        (new-word a.statuses.items b.statuses.items status i adds.status_added are.statuses_size)
+    statuses_size = more-words (items_of a.statuses) (items_of b.statuses) status i adds.status_added are.statuses_size;
+    answers = below_more (λ k. IsRow k (row (items_of b.texts.items) (items_of b.texts.ends) k) (slice_index (items_of b.statuses) k)) i
+        (λ k lt. subst (λ s. IsRow k (row (items_of b.texts.items) (items_of b.texts.ends) k) s)
+        (old-word (items_of a.statuses) (items_of b.statuses) status k adds.status_added (omega (arith, are.statuses_size, lt)))
+        (subst (λ xs. IsRow k xs (slice_index (items_of a.statuses) k)) (old-list i text a.texts b.texts are.joined adds.text_added k lt) (are.answers k lt)))
+        (subst (λ s. IsRow i (row (items_of b.texts.items) (items_of b.texts.ends) i) s)
+        (new-word (items_of a.statuses) (items_of b.statuses) status i adds.status_added are.statuses_size)
         (subst (λ xs. IsRow i xs status) (new-list i text a.texts b.texts are.joined adds.text_added) is));
   }
 
@@ -191,30 +190,18 @@ module _ (places : ℕ) (whole : Bool) (texts offsets valid : List ℕ) where
     numbers_joined = no-list r.numbers h.no_numbers;
     rings_joined = no-list r.rings h.no_rings;
     polygons_joined = no-list r.polygons h.no_polygons;
-    kinds_size = ap (λ hs. length (kinds_of hs)) h.no_heads;
-    dimensions_size = ap (λ hs. length (dimensions_of hs)) h.no_heads;
-    statuses_size = ap (λ hs. length (statuses_of hs)) h.no_heads;
+    kinds_size = ap length h.no_kinds;
+    dimensions_size = ap length h.no_dimensions;
+    statuses_size = ap length h.no_statuses;
     answers = λ i lt. absurd (omega (arith, lt));
   }
 
   module _ (i : ℕ) (r : RowArrays) (status : ℕ) (a b : ArrayRows) (are : HoldsArrays places whole texts offsets valid i a) (adds : AddsArrays r status a b) where
-    part-added : (part : RowHead → ℕ) → map part b.heads.items ≡ map part a.heads.items ++ part (record { kind = r.kind; dimension = r.dimension; status = status }) ∷ []
-    part-added part = ap (λ hs. map part hs) adds.head_added ∙ map-append part a.heads.items (record { kind = r.kind; dimension = r.dimension; status = status } ∷ [])
-
-    kind-added : kinds_of b.heads.items ≡ kinds_of a.heads.items ++ r.kind ∷ []
-    kind-added = part-added (λ h. h.kind)
-
-    dimension-added : dimensions_of b.heads.items ≡ dimensions_of a.heads.items ++ r.dimension ∷ []
-    dimension-added = part-added (λ h. h.dimension)
-
-    status-added : statuses_of b.heads.items ≡ statuses_of a.heads.items ++ status ∷ []
-    status-added = part-added (λ h. h.status)
-
     old-row : (k : ℕ) → k < i → row_arrays (held_arrays a) k ≡ row_arrays (held_arrays b) k
     old-row k lt =
         same-row _ _ _ _ _ _ _ _ _ _
-        (old-word (kinds_of a.heads.items) (kinds_of b.heads.items) r.kind k kind-added (omega (arith, lt, are.kinds_size)))
-        (old-word (dimensions_of a.heads.items) (dimensions_of b.heads.items) r.dimension k dimension-added (omega (arith, lt, are.dimensions_size)))
+        (old-word (items_of a.kinds) (items_of b.kinds) r.kind k adds.kind_added (omega (arith, lt, are.kinds_size)))
+        (old-word (items_of a.dimensions) (items_of b.dimensions) r.dimension k adds.dimension_added (omega (arith, lt, are.dimensions_size)))
         (old-list i r.numbers a.numbers b.numbers are.numbers_joined adds.numbers_added k lt)
         (old-list i r.rings a.rings b.rings are.rings_joined adds.rings_added k lt)
         (old-list i r.polygons a.polygons b.polygons are.polygons_joined adds.polygons_added k lt)
@@ -222,26 +209,26 @@ module _ (places : ℕ) (whole : Bool) (texts offsets valid : List ℕ) where
     new-row : r ≡ row_arrays (held_arrays b) i
     new-row =
         same-row _ _ _ _ _ _ _ _ _ _
-        (new-word (kinds_of a.heads.items) (kinds_of b.heads.items) r.kind i kind-added are.kinds_size)
-        (new-word (dimensions_of a.heads.items) (dimensions_of b.heads.items) r.dimension i dimension-added are.dimensions_size)
+        (new-word (items_of a.kinds) (items_of b.kinds) r.kind i adds.kind_added are.kinds_size)
+        (new-word (items_of a.dimensions) (items_of b.dimensions) r.dimension i adds.dimension_added are.dimensions_size)
         (new-list i r.numbers a.numbers b.numbers are.numbers_joined adds.numbers_added)
         (new-list i r.rings a.rings b.rings are.rings_joined adds.rings_added)
         (new-list i r.polygons a.polygons b.polygons are.polygons_joined adds.polygons_added)
 
     pub one-row-more : IsRowArrays places whole (is_null valid i) (row texts offsets i) r status → HoldsArrays places whole texts offsets valid (i + 1) b
     one-row-more is = record {
-      kinds_size = more-words (kinds_of a.heads.items) (kinds_of b.heads.items) r.kind i kind-added are.kinds_size;
-      dimensions_size = more-words (dimensions_of a.heads.items) (dimensions_of b.heads.items) r.dimension i dimension-added are.dimensions_size;
+      kinds_size = more-words (items_of a.kinds) (items_of b.kinds) r.kind i adds.kind_added are.kinds_size;
+      dimensions_size = more-words (items_of a.dimensions) (items_of b.dimensions) r.dimension i adds.dimension_added are.dimensions_size;
       numbers_joined = longer i r.numbers a.numbers b.numbers are.numbers_joined adds.numbers_added;
       rings_joined = longer i r.rings a.rings b.rings are.rings_joined adds.rings_added;
       polygons_joined = longer i r.polygons a.polygons b.polygons are.polygons_joined adds.polygons_added;
-      statuses_size = more-words (statuses_of a.heads.items) (statuses_of b.heads.items) status i status-added are.statuses_size;
-      answers = below_more (λ k. IsRowArrays places whole (is_null valid k) (row texts offsets k) (row_arrays (held_arrays b) k) (slice_index (statuses_of b.heads.items) k)) i
+      statuses_size = more-words (items_of a.statuses) (items_of b.statuses) status i adds.status_added are.statuses_size;
+      answers = below_more (λ k. IsRowArrays places whole (is_null valid k) (row texts offsets k) (row_arrays (held_arrays b) k) (slice_index (items_of b.statuses) k)) i
           (λ k lt. subst (λ s. IsRowArrays places whole (is_null valid k) (row texts offsets k) (row_arrays (held_arrays b) k) s)
-          (old-word (statuses_of a.heads.items) (statuses_of b.heads.items) status k status-added (omega (arith, are.statuses_size, lt)))
-          (subst (λ x. IsRowArrays places whole (is_null valid k) (row texts offsets k) x (slice_index (statuses_of a.heads.items) k)) (old-row k lt) (are.answers k lt)))
+          (old-word (items_of a.statuses) (items_of b.statuses) status k adds.status_added (omega (arith, are.statuses_size, lt)))
+          (subst (λ x. IsRowArrays places whole (is_null valid k) (row texts offsets k) x (slice_index (items_of a.statuses) k)) (old-row k lt) (are.answers k lt)))
           (subst (λ s. IsRowArrays places whole (is_null valid i) (row texts offsets i) (row_arrays (held_arrays b) i) s)
-          (new-word (statuses_of a.heads.items) (statuses_of b.heads.items) status i status-added are.statuses_size)
+          (new-word (items_of a.statuses) (items_of b.statuses) status i adds.status_added are.statuses_size)
           (subst (λ x. IsRowArrays places whole (is_null valid i) (row texts offsets i) x status) new-row is));
     }
 

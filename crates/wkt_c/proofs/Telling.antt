@@ -169,16 +169,17 @@ is-within p t es fits told = within-room (read_decimal 127 36 t.numbers) (decima
 
 -- What a caller is answered who gave arrays.
 
-module _ (places kind dimension : ℕ) (numbers : List ℤ) (rings polygons : List ℕ) where
+module _ (places kind dimension : ℕ) (numbers : List ℤ) (rings polygons : List ℕ) (room : ℕ) where
   -- the text was handed out, or there was no room
   pub handed : (text given old new : List ℕ) (before needed status : ℕ) → IsTextOf places kind dimension numbers rings polygons text → given ≡ text →
       (status ≡ 0 → IsHandedOut given needed old new) → (status ≡ 21 → HasNoRoom given needed old) → (1 ≤ status → new ≡ old) → (status ≡ 0) ⊎ (status ≡ 21) →
-      CopiesOutText places kind dimension numbers rings polygons old new before needed status
+      CopiesOutText places kind dimension numbers rings polygons room old new before needed status
   handed text given old new before needed status is e stands lacks kept two =
       let its : IsTextOf places kind dimension numbers rings polygons given = subst (λ xs. IsTextOf places kind dimension numbers rings polygons xs) (sym e) is in
       record {
         written = λ z. (given, its, stands z);
         small = λ z. (given, its, lacks z);
+        memory = λ m. elim two [ inl z ↦ absurd (omega (arith, m, z)) | inr z ↦ absurd (omega (arith, m, z)) ];
         others = λ some other. elim two [ inl z ↦ absurd (omega (arith, some, z)) | inr z ↦ absurd (other z) ];
         kept = kept;
         needed_kept = λ some other. elim two [ inl z ↦ absurd (omega (arith, some, z)) | inr z ↦ absurd (other z) ];

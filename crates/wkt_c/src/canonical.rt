@@ -1,29 +1,12 @@
 //! The one text of what a text begins with, and texts compared by it, in rooms of the caller's for long ones.
-ghost use Rattle.std.specs.Prelude.{◌≡◌, ◌+◌, ◌*◌, ◌≤◌, ◌<◌, ◌⊎◌, MatchResult, IfOk, IsUtf8, length, take, vec_len};
+ghost use Rattle.std.specs.Prelude.{◌≡◌, ◌+◌, ◌*◌, ◌≤◌, ◌<◌, ◌⊎◌, MatchResult, length};
 ghost use Rattle.wkt_calls.specs.Calls.{AnswersCanonical, AreCompared};
-ghost use Rattle.wkt_calls.specs.Answer.{read_at, print_at, places_in, IsCanonicalOf, RefusesText, RefusesOne};
+ghost use Rattle.wkt_calls.specs.Answer.{read_at, places_in, RefusesOne};
 
 use wkt_calls::canonical::{SHORT, canonical_short, copy_out_front, write_within};
 use wkt_calls::compare::{Compared, same_in, same_short};
 use wkt_calls::has_room;
 use wkt_calls::status::{MEMORY, NOT_TEXT};
-use wkt_canonical::make_room;
-
-/// Writes the canonical text of what a text begins with to the front of a room, which grows as it has to.
-pub(crate) fn write_long(text: &str, asked: u32, room: &mut Vec<u8>) -> Result<(usize, usize), u32>
-    requires places { places_in asked ≤ 36 }
-    requires utf8 { IsUtf8 text.now }
-    ensures canonical { MatchResult result
-        (λ r. IsCanonicalOf (read_at (places_in asked)) (print_at (places_in asked)) text.now (take r.1 room.new.items) r.0)
-        (λ s. (s ≡ MEMORY) ⊎ RefusesText (read_at (places_in asked)) text.now s) }
-    ensures within { IfOk result (λ r. r.1 ≤ vec_len room.new) }
-    ensures bound { IfOk result (λ r. r.1 ≤ 2 * length text.now + 1) }
-{
-    if make_room(room, 0, text.len()).is_err() {
-        return Err(MEMORY);
-    }
-    write_within(text, asked, room.as_mut_slice())
-}
 
 /// Answers a text with the canonical text of what it begins with, which is written in the room first, if the text is long.
 pub(crate) fn canonical(

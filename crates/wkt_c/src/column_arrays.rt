@@ -1,54 +1,32 @@
 //! A column of texts as flat arrays at once.
-ghost use Rattle.std.specs.Prelude.{◌≡◌, ◌≤◌, MatchResult, [], false, length};
+ghost use Rattle.std.specs.Prelude.{◌≡◌, ◌≤◌, IfErr, MatchResult, [], false};
 ghost use Rattle.wkt_calls.specs.Answer.{places_in, asks_whole};
 ghost use Rattle.wkt_c.specs.Column.{AreOffsets, HasBits, row_count};
 ghost use Rattle.wkt_calls.specs.Arrays.{IsFlatPoint};
-ghost use Rattle.wkt_c.specs.Rows.{HoldsNoArrays, AddsArrays, AddsRowArrays, HoldsArrays, row_of, kinds_of, dimensions_of, statuses_of};
+ghost use Rattle.wkt_c.specs.Rows.{HoldsNoArrays, AddsArrays, AddsRowArrays, HoldsArrays, row_of};
 
-use crate::arrays_room::ArraysRoom;
 use crate::column::{GivenColumn, is_null};
-use crate::joined::{Joined, push};
+use crate::joined::Joined;
+use crate::list::RoomList;
 use crate::told::GivenArrays;
-use std::alloc::Global;
 use wkt_calls::asked::{ends_as_asked, places_of};
 use wkt_calls::flat::{flat_asked, make_point};
 use wkt_calls::status::{DONE, MEMORY, NOT_WHOLE, NULL_ROW};
+use wkt_fill::Room;
 use wkt_machine::FastPoint;
 
 /// The arrays of some first rows, one row's after the other's.
 #[derive(Drop)]
-pub(crate) struct ArrayRows {
-    pub(crate) numbers: Joined<i64>,
-    pub(crate) rings: Joined<usize>,
-    pub(crate) polygons: Joined<usize>,
-    pub(crate) heads: Vec<RowHead>,
+pub(crate) struct ArrayRows<'a> {
+    pub(crate) numbers: Joined<'a, i64>,
+    pub(crate) rings: Joined<'a, usize>,
+    pub(crate) polygons: Joined<'a, usize>,
+    pub(crate) kinds: RoomList<'a, u32>,
+    pub(crate) dimensions: RoomList<'a, u32>,
+    pub(crate) statuses: RoomList<'a, u32>,
 }
 
-/// The kind, the dimension and the status of a row. They are kept together, since each row adds one of each.
-#[derive(Clone, Copy)]
-pub(crate) struct RowHead {
-    pub(crate) kind: u32,
-    pub(crate) dimension: u32,
-    pub(crate) status: u32,
-}
-
-impl ArrayRows {
-    /// The arrays of no row, with room for those of so many rows of a point.
-    fn new(alloc: Global, rows: usize) -> Result<ArrayRows, u32>
-        ensures { MatchResult result HoldsNoArrays (λ s. s ≡ MEMORY) }
-    {
-        let twice = rows.saturating_mul(2);
-        let Ok(heads) = Vec::with_capacity(alloc, rows) else {
-            return Err(MEMORY);
-        };
-        Ok(ArrayRows {
-            numbers: Joined::new(alloc, rows, twice)?,
-            rings: Joined::new(alloc, rows, twice)?,
-            polygons: Joined::new(alloc, rows, twice)?,
-            heads,
-        })
-    }
-
+impl<'a> ArrayRows<'a> {
     /// Adds a row of those arrays, with its status.
     #[inline(always)]
     fn add(&mut self, row: GivenArrays<'_>, status: u32) -> Result<(), u32>
@@ -59,12 +37,9 @@ impl ArrayRows {
         self.numbers.add(row.numbers)?;
         self.rings.add(row.rings)?;
         self.polygons.add(row.polygons)?;
-        let head = RowHead {
-            kind: row.kind,
-            dimension: row.dimension,
-            status,
-        };
-        push(&mut self.heads, head)
+        self.kinds.push(row.kind)?;
+        self.dimensions.push(row.dimension)?;
+        self.statuses.push(status)
     }
 
     /// Adds a row without arrays, which has this status.
@@ -110,7 +85,9 @@ impl ArrayRows {
         text: &[u8],
         null: bool,
         asked: u32,
-        room: &mut ArraysRoom,
+        numbers: &mut [i64],
+        rings: &mut [usize],
+        polygons: &mut [usize],
     ) -> Result<(), u32>
         requires places { places_in asked ≤ 36 }
         ensures { MatchResult result
@@ -122,18 +99,29 @@ impl ArrayRows {
         if let Some(point) = make_point(places_of(asked), text) {
             return self.add_point(text, asked, point);
         }
-        self.add_flat(text, asked, room)
+        self.add_flat(text, asked, numbers, rings, polygons)
     }
 
     /// Adds the arrays of a row that isn't null and may be no point.
     #[inline(never)]
-    fn add_flat(&mut self, text: &[u8], asked: u32, room: &mut ArraysRoom) -> Result<(), u32>
+    fn add_flat(
+        &mut self,
+        text: &[u8],
+        asked: u32,
+        numbers: &mut [i64],
+        rings: &mut [usize],
+        polygons: &mut [usize],
+    ) -> Result<(), u32>
         requires { places_in asked ≤ 36 }
         ensures { MatchResult result
             (λ _. AddsRowArrays (places_in asked) (asks_whole asked) false text.now self.old self.new) (λ s. s ≡ MEMORY) }
     {
-        room.make(text.len())?;
-        match flat_asked(text, asked, room.lend()) {
+        let room = Room {
+            numbers,
+            rings,
+            polygons,
+        };
+        match flat_asked(text, asked, room) {
             Ok(flat) => {
                 if !ends_as_asked(text, flat.end, asked) {
                     return self.add_none(NOT_WHOLE);
@@ -157,34 +145,51 @@ impl ArrayRows {
     }
 }
 
-/// Puts the heads of all rows into three buffers, a part of each into its own. They are as long as the rows are many.
-pub(crate) fn copy_heads(
-    heads: &[RowHead],
-    kinds: &mut [u32],
-    dimensions: &mut [u32],
-    statuses: &mut [u32],
-)
-    requires kinds_fit { length heads.now ≡ length kinds.old }
-    requires dimensions_fit { length heads.now ≡ length dimensions.old }
-    requires statuses_fit { length heads.now ≡ length statuses.old }
-    ensures kinds_are { kinds.new ≡ kinds_of heads.now }
-    ensures dimensions_are { dimensions.new ≡ dimensions_of heads.now }
-    ensures statuses_are { statuses.new ≡ statuses_of heads.now }
+/// The first places of a room, so many, and the others.
+fn cut<T>(room: &mut [T], at: usize) -> Result<(&mut [T], &mut [T]), u32>
+    ensures { IfErr result (λ s. s ≡ MEMORY) }
 {
-    for i in 0..heads.len() {
-        let head = heads[i];
-        kinds[i] = head.kind;
-        dimensions[i] = head.dimension;
-        statuses[i] = head.status;
+    match room.split_at_mut_checked(at) {
+        Some(parts) => Ok(parts),
+        None => Err(MEMORY),
     }
 }
 
-/// The arrays of all rows of a column.
-pub(crate) fn all_arrays(
-    alloc: Global,
+/// Adds the arrays of all rows of a column, each of which are made in these places first.
+fn add_rows<'a>(
     given: GivenColumn<'_>,
     asked: u32,
-) -> Result<ArrayRows, u32>
+    none: ArrayRows<'a>,
+    numbers: &mut [i64],
+    rings: &mut [usize],
+    polygons: &mut [usize],
+) -> Result<ArrayRows<'a>, u32>
+    requires offsets { AreOffsets given.texts.now given.offsets.now }
+    requires bits { HasBits given.valid.now (row_count given.offsets.now) }
+    requires places { places_in asked ≤ 36 }
+    requires none { HoldsNoArrays none }
+    ensures { MatchResult result
+        (HoldsArrays (places_in asked) (asks_whole asked) given.entry.texts.now given.entry.offsets.now given.entry.valid.now (row_count given.entry.offsets.now))
+        (λ s. s ≡ MEMORY) }
+{
+    let mut rows = none;
+    let count = given.offsets.len() - 1;
+    for i in 0..count {
+        let text = &given.texts[given.offsets[i]..given.offsets[i + 1]];
+        let null = is_null(given.valid, i);
+        rows.add_row(text, null, asked, numbers, rings, polygons)?;
+    }
+    Ok(rows)
+}
+
+/// The arrays of all rows of a column, in the rooms: those of a row are made in places apart, and added to the others.
+pub(crate) fn all_arrays<'a>(
+    given: GivenColumn<'_>,
+    asked: u32,
+    numbers_room: &'a mut [i64],
+    words_room: &'a mut [usize],
+    codes_room: &'a mut [u32],
+) -> Result<ArrayRows<'a>, u32>
     requires offsets { AreOffsets given.texts.now given.offsets.now }
     requires bits { HasBits given.valid.now (row_count given.offsets.now) }
     requires places { places_in asked ≤ 36 }
@@ -192,13 +197,24 @@ pub(crate) fn all_arrays(
         (HoldsArrays (places_in asked) (asks_whole asked) given.entry.texts.now given.entry.offsets.now given.entry.valid.now (row_count given.entry.offsets.now))
         (λ s. s ≡ MEMORY) }
 {
+    let bytes = given.texts.len();
     let count = given.offsets.len() - 1;
-    let mut rows = ArrayRows::new(alloc, count)?;
-    let mut room = ArraysRoom::new(alloc);
-    for i in 0..count {
-        let text = &given.texts[given.offsets[i]..given.offsets[i + 1]];
-        let null = is_null(given.valid, i);
-        rows.add_row(text, null, asked, &mut room)?;
-    }
-    Ok(rows)
+    let (row_numbers, numbers) = cut(numbers_room, bytes / 2 + 2)?;
+    let (number_ends, words) = cut(words_room, count.saturating_add(1))?;
+    let (ring_ends, words) = cut(words, count.saturating_add(1))?;
+    let (polygon_ends, words) = cut(words, count.saturating_add(1))?;
+    let (row_rings, words) = cut(words, bytes / 4 + 2)?;
+    let (row_polygons, words) = cut(words, bytes / 6 + 2)?;
+    let (rings, polygons) = cut(words, (bytes / 4).saturating_add(count.saturating_mul(2)))?;
+    let (kinds, codes) = cut(codes_room, count)?;
+    let (dimensions, statuses) = cut(codes, count)?;
+    let rows = ArrayRows {
+        numbers: Joined::new(numbers, number_ends)?,
+        rings: Joined::new(rings, ring_ends)?,
+        polygons: Joined::new(polygons, polygon_ends)?,
+        kinds: RoomList::new(kinds),
+        dimensions: RoomList::new(dimensions),
+        statuses: RoomList::new(statuses),
+    };
+    add_rows(given, asked, rows, row_numbers, row_rings, row_polygons)
 }

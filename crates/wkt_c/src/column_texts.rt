@@ -7,7 +7,6 @@ ghost use Rattle.wkt_c.specs.Rows.{row_of, given_arrays, AddsArraysText, HoldsTe
 
 use crate::column::{Rows, are_offsets, has_bits, is_null};
 use crate::told::{GivenArrays, told};
-use std::alloc::Global;
 use wkt_calls::asked::MOST_ASKED;
 use wkt_calls::status::{DONE, MEMORY, NO_PLACES, NULL_ROW};
 use wkt_num::Places;
@@ -57,8 +56,8 @@ pub(crate) fn is_array_column(given: GivenRows<'_>, ends: &[usize], statuses: &[
 /// Adds the text of a row's arrays, which is written in the room first.
 fn add_text(
     places: Places,
-    rows: &mut Rows,
-    room: &mut Vec<u8>,
+    rows: &mut Rows<'_>,
+    room: &mut [u8],
     row: GivenArrays<'_>,
     null: bool,
 ) -> Result<(), u32>
@@ -81,8 +80,15 @@ fn add_text(
     }
 }
 
-/// The texts of all rows of a column of arrays.
-fn all_texts(alloc: Global, given: GivenRows<'_>, places: Places) -> Result<Rows, u32>
+/// The texts of all rows of a column of arrays, in the rooms: each is written in the first, and added to those in the second.
+fn all_texts<'a>(
+    given: GivenRows<'_>,
+    places: Places,
+    row_room: &mut [u8],
+    room: &'a mut [u8],
+    ends_room: &'a mut [usize],
+    codes_room: &'a mut [u32],
+) -> Result<Rows<'a>, u32>
     requires places { places ≤ 36 }
     requires arrays { AreArrayColumn (given_arrays given) given.valid.now }
     ensures { MatchResult result
@@ -90,8 +96,7 @@ fn all_texts(alloc: Global, given: GivenRows<'_>, places: Places) -> Result<Rows
         (λ s. s ≡ MEMORY) }
 {
     let count = given.kinds.len();
-    let mut rows = Rows::new(alloc, given.numbers.len())?;
-    let mut room = Vec::new(alloc);
+    let mut rows = Rows::new(room, ends_room, codes_room)?;
     for i in 0..count {
         let row = GivenArrays {
             kind: given.kinds[i],
@@ -101,13 +106,19 @@ fn all_texts(alloc: Global, given: GivenRows<'_>, places: Places) -> Result<Rows
             polygons: &given.polygons[given.polygon_offsets[i]..given.polygon_offsets[i + 1]],
         };
         let null = is_null(given.valid, i);
-        add_text(places, &mut rows, &mut room, row, null)?;
+        add_text(places, &mut rows, row_room, row, null)?;
     }
     Ok(rows)
 }
 
 /// The texts of all rows, with decimals of so many places.
-pub(crate) fn texts_at(alloc: Global, given: GivenRows<'_>, places: u32) -> Result<Rows, u32>
+pub(crate) fn texts_at<'a>(
+    given: GivenRows<'_>,
+    places: u32,
+    room: &'a mut [u8],
+    ends_room: &'a mut [usize],
+    codes_room: &'a mut [u32],
+) -> Result<Rows<'a>, u32>
     requires arrays { AreArrayColumn (given_arrays given) given.valid.now }
     ensures { MatchResult result
         (HoldsTexts places (given_arrays given.entry) given.entry.valid.now (length given.entry.kinds.now))
@@ -116,5 +127,14 @@ pub(crate) fn texts_at(alloc: Global, given: GivenRows<'_>, places: u32) -> Resu
     if places > MOST_ASKED {
         return Err(NO_PLACES);
     }
-    all_texts(alloc, given, Places::new(places))
+    let half = room.len() / 2;
+    let (row_room, room) = room.split_at_mut(half);
+    all_texts(
+        given,
+        Places::new(places),
+        row_room,
+        room,
+        ends_room,
+        codes_room,
+    )
 }

@@ -3,18 +3,19 @@ ghost use Rattle.std.specs.Prelude.{◌≡◌, ◌≤◌, ◌<◌, ◌≢◌, �
 ghost use Rattle.wkt_lines.specs.Output.{IsOutput};
 ghost use Rattle.wkt_calls.specs.Answer.{read_at, print_at, places_in, asks_whole, EndsAsAsked, IsCanonicalOf, IsMore, HasMore, Compares, RefusesAt, RefusesOneAt, IsHeaderOf, NamesNone, HasNoPlaces, IsHandedOut, HasNoRoom, same_number};
 ghost use Rattle.wkt_c.specs.Chunks.{AnswersSome, AnswersNone};
+ghost use Rattle.wkt_c.specs.Rows.{items_of};
+ghost use Rattle.wkt_c.specs.Rooms.{LackRooms, LackRoom, LacksLineRoom, text_room};
 ghost use Rattle.wkt_calls.specs.Calls.{ends_here};
 ghost use Rattle.wkt_c.specs.Column.{AreColumnAnswers, IsColumn, IsNoColumn, row_count};
 ghost use Rattle.wkt_c.specs.ColumnArrays.{IsTextOf, IsNoTextAt};
 ghost use Rattle.wkt_calls.specs.Arrays.{IsNotFlat, HasMoreAt, AreHandedOut, HaveNoRoom};
 
-use crate::arrays_room::arrays_long;
+use crate::arrays::{FEW, arrays_long};
 use crate::canonical::canonical;
 use crate::column::{GivenColumn, Rows, answers, is_column};
 use crate::lines::{self, answer_some};
 use crate::told::{GivenArrays, copy_out_text_at};
-use std::alloc::Global;
-use wkt_calls::arrays_call::{arrays_short, is_short};
+use wkt_calls::arrays_call::arrays_short;
 use wkt_calls::asked::{MOST_ASKED, ends_as_asked, has_places};
 use wkt_calls::canonical::SHORT;
 use wkt_calls::fill::{copy_out, copy_whole};
@@ -164,13 +165,13 @@ pub extern "C" fn wkt_infer(text: &[u8], kind: &mut u32, dimension: &mut u32) ->
 }
 
 /// Writes the answers to all lines of `input` to the front of `out`, and their length to `needed`: of each line
-/// the text of the geometry that it begins with, or `refused`, and a line feed. Numbers are decimals of so many
-/// places.
+/// the text of the geometry that it begins with, or `refused`, and a line feed. They are written in the room first, and the
+/// status is 22 where that has no place for them, or may have none for one of them. Numbers are decimals of so many places.
 #[unsafe(no_mangle)]
 pub extern "C" fn wkt_lines(
-    alloc: Global,
     input: &[u8],
     places: u32,
+    room: &mut [u8],
     out: &mut [u8],
     needed: &mut usize,
 ) -> u32
@@ -178,6 +179,7 @@ pub extern "C" fn wkt_lines(
         × IsHandedOut answers needed.new out.old out.new }
     ensures small { result ≡ SMALL → (answers : List ℕ)
         × IsOutput (read_at places) (print_at places) input.now answers × HasNoRoom answers needed.new out.old }
+    ensures memory { result ≡ MEMORY → LackRoom (read_at places) (print_at places) input.now (length room.old) }
     ensures others { 1 ≤ result → result ≢ SMALL → HasNoPlaces places result ⊎ (result ≡ MEMORY) }
     ensures no_places { 36 < places → result ≡ NO_PLACES }
     ensures kept { 1 ≤ result → out.new ≡ out.old }
@@ -186,28 +188,31 @@ pub extern "C" fn wkt_lines(
     if places > MOST_ASKED {
         return NO_PLACES;
     }
-    match lines::answers(alloc, input, Places::new(places)) {
-        Ok(text) => copy_out(&text, out, needed),
+    match lines::answers(input, Places::new(places), room) {
+        Ok(size) => copy_out(&room[..size], out, needed),
         Err(status) => status,
     }
 }
 
 /// Writes the answers to as many whole lines at the front of `input` as fit to the front of `out`: `taken` is how many
 /// bytes of the input they are, and `written` how many bytes of `out` are answers; what stands behind these means nothing.
-/// Where `last` isn't 0 the input ends here, and what is left behind its last line feed is a line too. Numbers are
-/// decimals of so many places.
+/// Where `last` isn't 0 the input ends here, and what is left behind its last line feed is a line too. A line whose answer
+/// may not fit is answered in the room, and the status is 22 where it may not fit there; no line of n bytes has an answer of
+/// more than 2 * n + 8. Numbers are decimals of so many places.
 #[unsafe(no_mangle)]
 pub extern "C" fn wkt_lines_some(
-    alloc: Global,
     input: &[u8],
     places: u32,
     last: u32,
+    room: &mut [u8],
     out: &mut [u8],
     taken: &mut usize,
     written: &mut usize,
 ) -> u32
     ensures answered { result ≡ DONE →
         AnswersSome (read_at places) (print_at places) (ends_here last) input.now taken.new written.new out.new }
+    ensures memory { result ≡ MEMORY →
+        LacksLineRoom (read_at places) (print_at places) (ends_here last) input.now (length room.old) }
     ensures others { 1 ≤ result → HasNoPlaces places result
         ⊎ AnswersNone (read_at places) (print_at places) (ends_here last) input.now out.old result }
     ensures no_places { 36 < places → result ≡ NO_PLACES }
@@ -216,7 +221,7 @@ pub extern "C" fn wkt_lines_some(
     if places > MOST_ASKED {
         return NO_PLACES;
     }
-    match answer_some(alloc, input, Places::new(places), is_last(last), out) {
+    match answer_some(input, Places::new(places), is_last(last), room, out) {
         Ok(answered) => {
             *taken = answered.taken;
             *written = answered.written;
@@ -228,42 +233,46 @@ pub extern "C" fn wkt_lines_some(
 
 /// Copies out the answers to a column, if there is room for their texts.
 pub(crate) fn copy_out_rows(
-    rows: &Rows,
+    rows: &Rows<'_>,
     out: &mut [u8],
     ends: &mut [usize],
     statuses: &mut [u32],
     needed: &mut usize,
 ) -> u32
-    requires ends_fit { length rows.now.texts.ends.items ≡ length ends.old }
-    requires statuses_fit { length rows.now.statuses.items ≡ length statuses.old }
-    ensures stands { result ≡ DONE → IsHandedOut rows.now.texts.items.items needed.new out.old out.new }
-    ensures ends_are { result ≡ DONE → ends.new ≡ rows.now.texts.ends.items }
-    ensures statuses_are { result ≡ DONE → statuses.new ≡ rows.now.statuses.items }
-    ensures lacks { result ≡ SMALL → HasNoRoom rows.now.texts.items.items needed.new out.old }
+    requires ends_fit { length (items_of rows.now.texts.ends) ≡ length ends.old }
+    requires statuses_fit { length (items_of rows.now.statuses) ≡ length statuses.old }
+    ensures stands { result ≡ DONE → IsHandedOut (items_of rows.now.texts.items) needed.new out.old out.new }
+    ensures ends_are { result ≡ DONE → ends.new ≡ items_of rows.now.texts.ends }
+    ensures statuses_are { result ≡ DONE → statuses.new ≡ items_of rows.now.statuses }
+    ensures lacks { result ≡ SMALL → HasNoRoom (items_of rows.now.texts.items) needed.new out.old }
     ensures kept { 1 ≤ result →
         (out.new ≡ out.old) × (ends.new ≡ ends.old) × (statuses.new ≡ statuses.old) }
     ensures two { (result ≡ DONE) ⊎ (result ≡ SMALL) }
 {
-    let status = copy_out(&rows.texts.items, out, needed);
+    let status = copy_out(rows.texts.items.items(), out, needed);
     if status != DONE {
         return status;
     }
-    copy_whole(&rows.texts.ends, ends);
-    copy_whole(&rows.statuses, statuses);
+    copy_whole(rows.texts.ends.items(), ends);
+    copy_whole(rows.statuses.items(), statuses);
     DONE
 }
 
 /// Writes the canonical texts of a column of texts to the front of `out`, their length to `needed`, where each begins
 /// in `out`, with the end of the last, to `out_offsets`, and of each row to `statuses` why it has none, or 0. Row i is
 /// the bytes of `texts` from offset i to offset i + 1. `valid` has a bit for each row, which is 0 where the row is
-/// null, or no byte. Numbers are decimals of so many places; with 256 more each row as a whole is to be one geometry.
+/// null, or no byte. Numbers are decimals of so many places; with 256 more each row as a whole is to be one geometry. The
+/// answers are made in the rooms first, and the status is 22 where these are too small; so that it never is, the first has
+/// four times as many bytes as the texts, two a row and 130 more, and the others an offset a row and one more, and a code a row.
 #[unsafe(no_mangle)]
 pub extern "C" fn wkt_column_canonical(
-    alloc: Global,
     texts: &[u8],
     offsets: &[usize],
     valid: &[u8],
     places: u32,
+    room: &mut [u8],
+    ends_room: &mut [usize],
+    codes_room: &mut [u32],
     out: &mut [u8],
     out_offsets: &mut [usize],
     statuses: &mut [u32],
@@ -297,7 +306,9 @@ pub extern "C" fn wkt_column_canonical(
     if !has_places(places) {
         return NO_PLACES;
     }
-    match answers(alloc, given, places) {
+    let half = room.len() / 2;
+    let (row_room, room) = room.split_at_mut(half);
+    match answers(given, places, row_room, room, ends_room, codes_room) {
         Ok(rows) => copy_out_rows(&rows, out, out_offsets, statuses, needed),
         Err(status) => status,
     }
@@ -305,12 +316,15 @@ pub extern "C" fn wkt_column_canonical(
 
 /// Writes the numbers of the geometry that `text` begins with, in units of ten to the minus `places`, to the
 /// front of `numbers`, and its offsets to the fronts of `rings` and `polygons`. Where a buffer has no room,
-/// `sizes` says how much each needs. With 256 more places the whole text is to be one geometry.
+/// `sizes` says how much each needs. With 256 more places the whole text is to be one geometry. Arrays of a text of more
+/// than 64 bytes are made in the rooms first: n bytes have at most n / 2 + 2 numbers, n / 4 + 2 offsets of rings and
+/// n / 6 + 2 of polygons, and the status is 22 where there is no room for them.
 #[unsafe(no_mangle)]
 pub extern "C" fn wkt_arrays(
-    alloc: Global,
     text: &[u8],
     places: u32,
+    numbers_room: &mut [i64],
+    words_room: &mut [usize],
     sizes: &mut WktSizes,
     numbers: &mut [i64],
     rings: &mut [usize],
@@ -321,7 +335,8 @@ pub extern "C" fn wkt_arrays(
     ensures small { result ≡ SMALL → HaveNoRoom (places_in places) text.now sizes.new numbers.old rings.old polygons.old }
     ensures as_asked { (result ≡ DONE) ⊎ (result ≡ SMALL) → EndsAsAsked (asks_whole places) text.now sizes.new.end }
     ensures more { result ≡ NOT_WHOLE → HasMoreAt (places_in places) (asks_whole places) text.now sizes.new }
-    ensures memory { result ≡ MEMORY → 64 < length text.now }
+    ensures memory { result ≡ MEMORY → (64 < length text.now)
+        × LackRooms (places_in places) text.now (length numbers_room.old) (length words_room.old) }
     ensures others { 1 ≤ result → result ≢ SMALL → result ≢ MEMORY → result ≢ NOT_WHOLE →
         IsNotFlat (places_in places) text.now result }
     ensures no_places { 36 < places_in places → result ≡ NO_PLACES }
@@ -332,23 +347,32 @@ pub extern "C" fn wkt_arrays(
     if !has_places(places) {
         return NO_PLACES;
     }
-    if is_short(text) {
+    if text.len() <= FEW {
         return arrays_short(text, places, sizes, numbers, rings, polygons);
     }
-    arrays_long(alloc, text, places, sizes, numbers, rings, polygons)
+    arrays_long(
+        text,
+        places,
+        numbers_room,
+        words_room,
+        sizes,
+        numbers,
+        rings,
+        polygons,
+    )
 }
 
 /// Writes the text of the geometry of those arrays, which are as `wkt_arrays` gives them, to the front of `out`,
-/// and its length to `needed`.
+/// and its length to `needed`. It is written in the room first, and the status is 22 where that is too small for such arrays.
 #[unsafe(no_mangle)]
 pub extern "C" fn wkt_from_arrays(
-    alloc: Global,
     kind: u32,
     dimension: u32,
     numbers: &[i64],
     rings: &[usize],
     polygons: &[usize],
     places: u32,
+    room: &mut [u8],
     out: &mut [u8],
     needed: &mut usize,
 ) -> u32
@@ -356,6 +380,7 @@ pub extern "C" fn wkt_from_arrays(
         polygons.now answer × IsHandedOut answer needed.new out.old out.new }
     ensures small { result ≡ SMALL → (answer : List ℕ) × IsTextOf places kind dimension numbers.now rings.now
         polygons.now answer × HasNoRoom answer needed.new out.old }
+    ensures memory { result ≡ MEMORY → length room.old < text_room places numbers.now rings.now polygons.now }
     ensures others { 1 ≤ result → result ≢ SMALL → IsNoTextAt places kind dimension numbers.now rings.now polygons.now
         result }
     ensures kept { 1 ≤ result → out.new ≡ out.old }
@@ -368,5 +393,5 @@ pub extern "C" fn wkt_from_arrays(
         rings,
         polygons,
     };
-    copy_out_text_at(alloc, given, places, out, needed)
+    copy_out_text_at(given, places, room, out, needed)
 }

@@ -2,21 +2,20 @@
 ghost use Rattle.wkt_calls.specs.Answer.{IsHandedOut, HasNoRoom, places_in};
 ghost use Rattle.std.specs.Prelude.{◌≡◌, ◌≤◌, ◌<◌, ◌≢◌, ◌⊎◌, ℕ, List, length};
 ghost use Rattle.wkt_c.specs.ColumnArrays.{ColumnArrays, AreColumnArrays, AreFilled, FillColumn, LackRoom, HasNoArrays, IsTextColumn, IsArrayColumn, AreColumnTexts, HasNoTexts, as_column};
-ghost use Rattle.wkt_c.specs.Rows.{held_arrays, statuses_of};
+ghost use Rattle.wkt_c.specs.Rows.{held_arrays, items_of};
 
 use crate::column::{GivenColumn, is_column};
-use crate::column_arrays::{ArrayRows, all_arrays, copy_heads};
+use crate::column_arrays::{ArrayRows, all_arrays};
 use crate::column_texts::{GivenRows, is_array_column, texts_at};
 use crate::exports::copy_out_rows;
 use crate::sizes::WktColumnSizes;
-use std::alloc::Global;
 use wkt_calls::asked::has_places;
 use wkt_calls::fill::{copy_to_front, copy_whole};
 use wkt_calls::status::{DONE, NO_PLACES, NOT_COLUMN, SMALL};
 
 /// Copies out the arrays of a column, if there is room for them.
 fn copy_out_arrays(
-    rows: &ArrayRows,
+    rows: &ArrayRows<'_>,
     sizes: &mut WktColumnSizes,
     kinds: &mut [u32],
     dimensions: &mut [u32],
@@ -28,16 +27,16 @@ fn copy_out_arrays(
     polygon_offsets: &mut [usize],
     statuses: &mut [u32],
 ) -> u32
-    requires number_offsets_fit { length rows.now.numbers.ends.items ≡ length number_offsets.old }
-    requires ring_offsets_fit { length rows.now.rings.ends.items ≡ length ring_offsets.old }
-    requires polygon_offsets_fit { length rows.now.polygons.ends.items ≡ length polygon_offsets.old }
-    requires kinds_fit { length rows.now.heads.items ≡ length kinds.old }
-    requires dimensions_fit { length rows.now.heads.items ≡ length dimensions.old }
-    requires statuses_fit { length rows.now.heads.items ≡ length statuses.old }
+    requires number_offsets_fit { length (items_of rows.now.numbers.ends) ≡ length number_offsets.old }
+    requires ring_offsets_fit { length (items_of rows.now.rings.ends) ≡ length ring_offsets.old }
+    requires polygon_offsets_fit { length (items_of rows.now.polygons.ends) ≡ length polygon_offsets.old }
+    requires kinds_fit { length (items_of rows.now.kinds) ≡ length kinds.old }
+    requires dimensions_fit { length (items_of rows.now.dimensions) ≡ length dimensions.old }
+    requires statuses_fit { length (items_of rows.now.statuses) ≡ length statuses.old }
     ensures stands { result ≡ DONE → FillColumn (held_arrays rows.now) sizes.new numbers.old rings.old polygons.old
         (as_column kinds.new dimensions.new numbers.new number_offsets.new rings.new ring_offsets.new polygons.new
         polygon_offsets.new) }
-    ensures statuses_are { result ≡ DONE → statuses.new ≡ statuses_of rows.now.heads.items }
+    ensures statuses_are { result ≡ DONE → statuses.new ≡ items_of rows.now.statuses }
     ensures lacks { result ≡ SMALL → LackRoom (held_arrays rows.now) sizes.new (as_column kinds.old dimensions.old
         numbers.old number_offsets.old rings.old ring_offsets.old polygons.old polygon_offsets.old) }
     ensures kept { 1 ≤ result → (numbers.new ≡ numbers.old) × (rings.new ≡ rings.old) × (polygons.new ≡ polygons.old) }
@@ -47,36 +46,42 @@ fn copy_out_arrays(
         (kinds.new ≡ kinds.old) × (dimensions.new ≡ dimensions.old) × (statuses.new ≡ statuses.old) }
     ensures two { (result ≡ DONE) ⊎ (result ≡ SMALL) }
 {
-    sizes.numbers = rows.numbers.items.len();
-    sizes.rings = rows.rings.items.len();
-    sizes.polygons = rows.polygons.items.len();
-    if rows.numbers.items.len() > numbers.len()
-        || rows.rings.items.len() > rings.len()
-        || rows.polygons.items.len() > polygons.len()
+    sizes.numbers = rows.numbers.items.items().len();
+    sizes.rings = rows.rings.items.items().len();
+    sizes.polygons = rows.polygons.items.items().len();
+    if rows.numbers.items.items().len() > numbers.len()
+        || rows.rings.items.items().len() > rings.len()
+        || rows.polygons.items.items().len() > polygons.len()
     {
         return SMALL;
     }
-    copy_heads(&rows.heads, kinds, dimensions, statuses);
-    copy_to_front(&rows.numbers.items, numbers);
-    copy_whole(&rows.numbers.ends, number_offsets);
-    copy_to_front(&rows.rings.items, rings);
-    copy_whole(&rows.rings.ends, ring_offsets);
-    copy_to_front(&rows.polygons.items, polygons);
-    copy_whole(&rows.polygons.ends, polygon_offsets);
+    copy_whole(rows.kinds.items(), kinds);
+    copy_whole(rows.dimensions.items(), dimensions);
+    copy_whole(rows.statuses.items(), statuses);
+    copy_to_front(rows.numbers.items.items(), numbers);
+    copy_whole(rows.numbers.ends.items(), number_offsets);
+    copy_to_front(rows.rings.items.items(), rings);
+    copy_whole(rows.rings.ends.items(), ring_offsets);
+    copy_to_front(rows.polygons.items.items(), polygons);
+    copy_whole(rows.polygons.ends.items(), polygon_offsets);
     DONE
 }
 
 /// Writes the arrays of all texts of a column, each as `wkt_arrays` gives those of one: of each row the kind and the
 /// dimension; the numbers and offsets, one row's after the other's, to the fronts of `numbers`, `rings` and `polygons`,
 /// with where each row's begin, and the end of the last; and of each row 0, or why it has no arrays. Where a buffer has
-/// no room, `sizes` says how much each of the three needs. A column is as for `wkt_column_canonical`.
+/// no room, `sizes` says how much each of the three needs. A column is as for `wkt_column_canonical`. The arrays are made in
+/// the rooms first, and the status is 22 where these are too small; so that it never is, texts of n bytes in r rows have
+/// n / 2 * 2 + 2 r + 2 numbers, n / 4 * 2 + n / 6 * 2 + 7 r + 7 words and 3 r codes.
 #[unsafe(no_mangle)]
 pub extern "C" fn wkt_column_arrays(
-    alloc: Global,
     texts: &[u8],
     offsets: &[usize],
     valid: &[u8],
     places: u32,
+    numbers_room: &mut [i64],
+    words_room: &mut [usize],
+    codes_room: &mut [u32],
     sizes: &mut WktColumnSizes,
     kinds: &mut [u32],
     dimensions: &mut [u32],
@@ -132,7 +137,7 @@ pub extern "C" fn wkt_column_arrays(
     if !has_places(places) {
         return NO_PLACES;
     }
-    match all_arrays(alloc, given, places) {
+    match all_arrays(given, places, numbers_room, words_room, codes_room) {
         Ok(rows) => copy_out_arrays(
             &rows,
             sizes,
@@ -152,10 +157,12 @@ pub extern "C" fn wkt_column_arrays(
 
 /// Writes the canonical texts of a column of arrays, which are as `wkt_column_arrays` gives them, to the front of `out`,
 /// their length to `needed`, where each begins in `out`, with the end of the last, to `out_offsets`, and of each row to
-/// `statuses` why it has none, or 0. `valid` has a bit for each row, which is 0 where the row is null, or no byte.
+/// `statuses` why it has none, or 0. `valid` has a bit for each row, which is 0 where the row is null, or no byte. The
+/// texts are made in the rooms first, and the status is 22 where these are too small; so that it never is, the first has
+/// twice as many bytes as `wkt_from_arrays` needs for all arrays and 74 a row, and the others an offset a row and one more, and
+/// a code a row.
 #[unsafe(no_mangle)]
 pub extern "C" fn wkt_column_from_arrays(
-    alloc: Global,
     kinds: &[u32],
     dimensions: &[u32],
     numbers: &[i64],
@@ -166,6 +173,9 @@ pub extern "C" fn wkt_column_from_arrays(
     polygon_offsets: &[usize],
     valid: &[u8],
     places: u32,
+    room: &mut [u8],
+    ends_room: &mut [usize],
+    codes_room: &mut [u32],
     out: &mut [u8],
     out_offsets: &mut [usize],
     statuses: &mut [u32],
@@ -204,7 +214,7 @@ pub extern "C" fn wkt_column_from_arrays(
     if !is_array_column(given, out_offsets, statuses) {
         return NOT_COLUMN;
     }
-    match texts_at(alloc, given, places) {
+    match texts_at(given, places, room, ends_room, codes_room) {
         Ok(rows) => copy_out_rows(&rows, out, out_offsets, statuses, needed),
         Err(status) => status,
     }

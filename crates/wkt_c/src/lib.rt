@@ -6,7 +6,7 @@
 //! more for the rest. Where it isn't 0, the caller's buffers are as they were.
 #![tactic(auto)]
 
-mod arrays_room;
+mod arrays;
 mod canonical;
 mod column;
 mod column_arrays;
@@ -16,5 +16,6 @@ mod exports_arrays;
 mod exports_explain;
 mod joined;
 mod lines;
+mod list;
 mod sizes;
 mod told;

@@ -1,13 +1,13 @@
 //! The text of flat arrays: they are checked, and their parts go to a pen.
-ghost use Rattle.std.specs.Prelude.{◌≡◌, ◌≤◌, ◌+◌, ◌*◌, length, vec_len, OnOk, IfOk, IfErr, IfSome};
+ghost use Rattle.std.specs.Prelude.{◌≡◌, ◌≤◌, ◌<◌, ◌^◌, length, true, false, IfOk, IfErr, IfSome, IfNone};
 ghost use Rattle.wkt_access.specs.declared.dimensions.Dimension.{Dimension};
 ghost use Rattle.wkt_types.specs.declared.geometry_type.GeometryType.{GeometryType};
 ghost use Rattle.wkt_canonical.specs.PenMaker.{IsWithin, written_of};
 ghost use Rattle.wkt_calls.specs.Answer.{kind_number, dimension_number};
 ghost use Rattle.wkt_c.specs.ColumnArrays.{IsTextOf, AreOfSome};
+ghost use Rattle.wkt_c.specs.Rooms.{text_room};
 ghost use Rattle.wkt_c.specs.Rows.{IsRefused, CopiesOutText};
 
-use std::alloc::Global;
 use wkt_calls::asked::MOST_ASKED;
 use wkt_calls::fill::copy_out;
 use wkt_calls::status::{MEMORY, NO_PLACES, NOT_ARRAYS};
@@ -60,8 +60,8 @@ fn dimension_of(number: u32) -> Result<Dimension, u32>
 /// than its places and 21 bytes; a number takes two more, a ring and a polygon seven each, and the pen 74.
 fn room_of(given: Given<'_>, places: u32) -> Option<usize>
     requires { places ≤ 36 }
-    ensures { IfSome result (λ n. length given.entry.numbers.now * (places + 23) + 7 * length given.entry.rings.now
-        + 7 * length given.entry.polygons.now + 74 ≤ n) }
+    ensures some { IfSome result (λ n. n ≡ text_room places given.entry.numbers.now given.entry.rings.now given.entry.polygons.now) }
+    ensures none { IfNone result (2 ^ 64 ≤ text_room places given.entry.numbers.now given.entry.rings.now given.entry.polygons.now) }
 {
     let numbers = given.numbers.len().checked_mul(places as usize + 23)?;
     let rings = given.rings.len().checked_mul(7)?;
@@ -70,30 +70,29 @@ fn room_of(given: Given<'_>, places: u32) -> Option<usize>
     numbers.checked_add(parts)?.checked_add(74)
 }
 
-/// Makes a room of so many bytes at least.
-fn make_room(room: &mut Vec<u8>, needed: usize) -> Result<(), u32>
-    ensures ok { OnOk result (needed ≤ vec_len room.new) }
-    ensures err { IfErr result (λ s. s ≡ 22) }
+/// Whether a room of so many bytes is enough for a pen.
+fn is_enough(room: usize, given: Given<'_>, places: u32) -> bool
+    requires { places ≤ 36 }
+    ensures yes { result ≡ true → text_room places given.entry.numbers.now given.entry.rings.now given.entry.polygons.now ≤ room }
+    ensures no { result ≡ false → room < text_room places given.entry.numbers.now given.entry.rings.now given.entry.polygons.now }
 {
-    if room.len() >= needed {
-        return Ok(());
-    }
-    match room.resize(needed, 0) {
-        Ok(()) => Ok(()),
-        Err(_) => Err(MEMORY),
+    match room_of(given, places) {
+        Some(needed) => needed <= room,
+        None => false,
     }
 }
 
-/// A pen that has written the text of the geometry of those arrays, in a room that grows as it has to.
+/// A pen that has written the text of the geometry of those arrays, if the room is large enough.
 pub(crate) fn told<'a>(
     given: GivenArrays<'_>,
     places: Places,
-    room: &'a mut Vec<u8>,
+    room: &'a mut [u8],
 ) -> Result<Pen<'a, Places>, u32>
     requires { places ≤ 36 }
     ensures ok { IfOk result (λ pen. IsTextOf places given.entry.kind given.entry.dimension given.entry.numbers.now given.entry.rings.now given.entry.polygons.now (written_of pen).bytes) }
     ensures within { IfOk result IsWithin }
     ensures err { IfErr result (IsRefused (AreOfSome places given.entry.kind given.entry.dimension given.entry.numbers.now given.entry.rings.now given.entry.polygons.now)) }
+    ensures lacks { IfErr result (λ s. s ≡ MEMORY → length room.old < text_room places given.entry.numbers.now given.entry.rings.now given.entry.polygons.now) }
 {
     let arrays = Given {
         kind: kind_of(given.kind)?,
@@ -105,30 +104,28 @@ pub(crate) fn told<'a>(
     if !are_arrays(arrays) {
         return Err(NOT_ARRAYS);
     }
-    let Some(needed) = room_of(arrays, places.places()) else {
+    if !is_enough(room.len(), arrays, places.places()) {
         return Err(MEMORY);
-    };
-    make_room(room, needed)?;
+    }
     // No effect at run time. The proof reads that no number's text is too long.
     texts_are_short();
-    let pen = Pen::new(places, room.as_mut_slice());
+    let pen = Pen::new(places, room);
     Ok(tell::<Pen<'a, Places>>(arrays, pen))
 }
 
 /// Copies out the text of the geometry of those arrays.
 fn copy_out_text(
-    alloc: Global,
     given: GivenArrays<'_>,
     places: Places,
+    room: &mut [u8],
     out: &mut [u8],
     needed: &mut usize,
 ) -> u32
     requires { places ≤ 36 }
     ensures { CopiesOutText places given.entry.kind given.entry.dimension given.entry.numbers.now given.entry.rings.now given.entry.polygons.now
-        out.old out.new needed.old needed.new result }
+        (length room.old) out.old out.new needed.old needed.new result }
 {
-    let mut room = Vec::new(alloc);
-    match told(given, places, &mut room) {
+    match told(given, places, room) {
         Ok(pen) => copy_out(pen.written(), out, needed),
         Err(status) => status,
     }
@@ -136,17 +133,17 @@ fn copy_out_text(
 
 /// Copies out the text of the geometry of those arrays, with decimals of so many places.
 pub(crate) fn copy_out_text_at(
-    alloc: Global,
     given: GivenArrays<'_>,
     places: u32,
+    room: &mut [u8],
     out: &mut [u8],
     needed: &mut usize,
 ) -> u32
     ensures { CopiesOutText places given.entry.kind given.entry.dimension given.entry.numbers.now given.entry.rings.now given.entry.polygons.now
-        out.old out.new needed.old needed.new result }
+        (length room.old) out.old out.new needed.old needed.new result }
 {
     if places > MOST_ASKED {
         return NO_PLACES;
     }
-    copy_out_text(alloc, given, Places::new(places), out, needed)
+    copy_out_text(given, Places::new(places), room, out, needed)
 }

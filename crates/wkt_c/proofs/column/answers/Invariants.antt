@@ -1,11 +1,11 @@
 use Rattle.std.proofs.Common.{◌+◌, ◌*◌, ◌≤◌, length}
 use Rattle.std.specs.List.{slice_index}
 use Rattle.wkt_calls.specs.Answer.{read_at, print_at, places_in, asks_whole}
-use Rattle.wkt_c.specs.Rows.{HoldsAnswers}
+use Rattle.wkt_c.specs.Rows.{HoldsAnswers, items_of}
 use Rattle.wkt_c.proofs.column.answers.Given as goal
 
 abbrev pub invariant-loop-i : goal.invariant-loop-i
 invariant-loop-i l = record {
   holds : HoldsAnswers (asks_whole l.asked) (read_at (places_in l.asked)) (print_at (places_in l.asked)) l.given.texts.now l.given.offsets.now l.given.valid.now l.i l.rows;
-  bound : length l.rows.texts.items.items ≤ 2 * slice_index l.given.offsets.now l.i + l.i;
+  bound : length (items_of l.rows.texts.items) ≤ 2 * slice_index l.given.offsets.now l.i + l.i;
 }

@@ -15,3 +15,6 @@ returns-clause-kept c = c.copy_out_text_at.ensures.kept
 
 pub returns-clause-needed_kept : goal.returns-clause-needed_kept
 returns-clause-needed_kept c = c.copy_out_text_at.ensures.needed_kept
+
+pub returns-clause-memory : goal.returns-clause-memory
+returns-clause-memory c = c.copy_out_text_at.ensures.memory

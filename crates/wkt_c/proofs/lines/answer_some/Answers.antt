@@ -1,5 +1,5 @@
 -- The answers to the lines so far are out, and a line more still fits or doesn't.
-use Rattle.std.proofs.Common.{◌≡◌, ◌+◌, ◌-◌, ◌<◌, ◌++◌, ◌∙◌, inl, inr, refl, length, take, drop, ap, sym, subst, arith, length-drop, length-take, take_all}
+use Rattle.std.proofs.Common.{◌≡◌, ◌+◌, ◌-◌, ◌<◌, ◌++◌, ◌∙◌, inl, inr, refl, length, take, drop, ap, sym, subst, arith, length-drop, length-take, length-take-le, take_all}
 use Rattle.wkt_lines.specs.Laws.{IsWholeLines}
 use Rattle.wkt_lines.specs.Output.{IsOutput}
 use Rattle.wkt_lines.proofs.Outcomes.{parts_make}
@@ -7,10 +7,13 @@ use Rattle.wkt_calls.specs.Answer.{read_at, print_at}
 use Rattle.wkt_calls.specs.Calls.{AreWholeLines, IsFirstLine}
 use Rattle.wkt_calls.proofs.Pieces.{more_output, whole-pick, no-output}
 use Rattle.wkt_c.specs.Chunks.{HasNoLine}
+use Rattle.wkt_c.specs.Rooms.{LackRoom}
 use Rattle.wkt_c.proofs.lines.answer_some.Goals as goal
 
 pub returns-then-done-eq0-clause-answers : goal.returns-then-done-eq0-clause-answers
 returns-then-done-eq0-clause-answers c =
+    let text = take c.in-Ok.size c.answers.new.room in
+    let long : length text ≡ c.in-Ok.size = length-take-le c.in-Ok.size c.answers.new.room c.in-Ok.ensures.within in
     let read = read_at c.args.places in
     let num = print_at c.args.places in
     let input = c.args.input.now in
@@ -25,11 +28,27 @@ returns-then-done-eq0-clause-answers c =
       record {
         taken = line;
         line = elim c.first_line-line.ensures.line [ inl h ↦ subst (λ r. IsFirstLine c.args.last r line) rest_is h | inr z ↦ absurd (omega (arith, z, c.if-line-eq0.false)) ];
-        answers = c.in-Ok.text.items;
-        are = subst (λ r. IsOutput read num (take line r) c.in-Ok.text.items) rest_is c.in-Ok.ensures;
-        small = omega (arith, ap length nothing, length-take done.written c.answer_lines-done.new.out, a.written, a.whole, c.lines.invariant.whole, c.if-len-out.true, c.len.ensures);
+        answers = text;
+        are = subst (λ r. IsOutput read num (take line r) text) rest_is c.in-Ok.ensures.answers;
+        small = omega (arith, ap length nothing, length-take done.written c.answer_lines-done.new.out, a.written, a.whole, c.lines.invariant.whole, c.if-size-out.true, c.len.ensures, long);
       },
     )
+
+pub returns-in-Err-clause-lacks : goal.returns-in-Err-clause-lacks
+returns-in-Err-clause-lacks c _ =
+    let read = read_at c.args.places in
+    let num = print_at c.args.places in
+    let input = c.args.input.now in
+    let done = c.answer_lines-done.result in
+    let line = c.first_line-line.result in
+    let rest_is : take (length input - done.taken) (drop done.taken input) ≡ drop done.taken input = take_all (length input - done.taken) (drop done.taken input) (omega (arith, length-drop done.taken input)) in
+    let lack = subst (λ r. LackRoom read num (take line r) (length c.lines.room)) rest_is c.in-Err.ensures.lacks.1 in
+    record {
+      before = done.taken;
+      size = line;
+      line = elim c.first_line-line.ensures.line [ inl h ↦ subst (λ r. IsFirstLine c.args.last r line) rest_is h | inr z ↦ absurd (omega (arith, z, c.if-line-eq0.false)) ];
+      lack = subst (λ n. LackRoom read num (take line (drop done.taken input)) n) c.lines.invariant.room lack;
+    }
 
 pub returns-then-line-eq0-clause-answers : goal.returns-then-line-eq0-clause-answers
 returns-then-line-eq0-clause-answers c =
@@ -47,8 +66,10 @@ returns-then-line-eq0-clause-answers c =
       full = inl none;
     }
 
-pub returns-then-len-out-clause-answers : goal.returns-then-len-out-clause-answers
-returns-then-len-out-clause-answers c =
+pub returns-then-size-out-clause-answers : goal.returns-then-size-out-clause-answers
+returns-then-size-out-clause-answers c =
+    let text = take c.in-Ok.size c.answers.new.room in
+    let long : length text ≡ c.in-Ok.size = length-take-le c.in-Ok.size c.answers.new.room c.in-Ok.ensures.within in
     let read = read_at c.args.places in
     let num = print_at c.args.places in
     let input = c.args.input.now in
@@ -65,14 +86,16 @@ returns-then-len-out-clause-answers c =
       full = inr (record {
         taken = line;
         line = elim c.first_line-line.ensures.line [ inl h ↦ subst (λ r. IsFirstLine c.args.last r line) rest_is h | inr z ↦ absurd (omega (arith, z, c.if-line-eq0.false)) ];
-        answers = c.in-Ok.text.items;
-        are = subst (λ r. IsOutput read num (take line r) c.in-Ok.text.items) rest_is c.in-Ok.ensures;
-        small = omega (arith, a.written, a.whole, c.lines.invariant.whole, c.if-len-out.true, c.len.ensures);
+        answers = text;
+        are = subst (λ r. IsOutput read num (take line r) text) rest_is c.in-Ok.ensures.answers;
+        small = omega (arith, a.written, a.whole, c.lines.invariant.whole, c.if-size-out.true, c.len.ensures, long);
       });
     }
 
 pub lines-preserved : goal.lines-preserved
 lines-preserved c =
+    let text = take c.in-Ok.size c.answers.new.room in
+    let long : length text ≡ c.in-Ok.size = length-take-le c.in-Ok.size c.answers.new.room c.in-Ok.ensures.within in
     let read = read_at c.args.places in
     let num = print_at c.args.places in
     let input = c.args.input.now in
@@ -83,16 +106,16 @@ lines-preserved c =
     let rest_is : take (length input - done.taken) (drop done.taken input) ≡ drop done.taken input = take_all (length input - done.taken) (drop done.taken input) (omega (arith, length-drop done.taken input)) in
     let less : done.taken < length input = omega (arith, f.within, ap length rest_is, length-drop done.taken input, a.taken, c.if-line-eq0.false) in
     let before : IsWholeLines (take done.taken input) = elim a.lines [ inl h ↦ h | inr e ↦ absurd (omega (arith, e.1, less)) ] in
-    let put : take (done.written + c.len-in-lines.result) c.put_at.new.out ≡ take done.written c.answer_lines-done.new.out ++ c.in-Ok.text.items =
-    ap (λ n. take n c.put_at.new.out) {x = done.written + c.len-in-lines.result} {y = done.written + length c.deref.result.now} (omega (arith, c.len-in-lines.ensures, ap length c.deref.ensures.value))
-    ∙ c.put_at.ensures.put ∙ ap (λ xs. take done.written c.answer_lines-done.new.out ++ xs) c.deref.ensures.value in
+    let put : take (done.written + c.in-Ok.size) c.put_at.new.out ≡ take done.written c.answer_lines-done.new.out ++ text =
+    ap (λ n. take n c.put_at.new.out) {x = done.written + c.in-Ok.size} {y = done.written + length text} (omega (arith, long)) ∙ c.put_at.ensures.put in
     record {
       taken = omega (arith, f.within, ap length rest_is, length-drop done.taken input, a.taken);
-      written = omega (arith, c.put_at.ensures.whole, c.if-len-out.false, a.written, c.len.ensures, c.len-in-lines.ensures);
+      written = omega (arith, c.put_at.ensures.whole, c.if-size-out.false, a.written, c.len.ensures);
       whole = c.put_at.ensures.whole ∙ a.whole ∙ c.lines.invariant.whole;
+      room = c.answers.ensures.whole ∙ c.lines.invariant.room;
       lines = whole-pick c.args.last input done.taken line a.taken less a.lines (subst (λ r. AreWholeLines c.args.last r line) rest_is f.whole);
       answers =
           subst (IsOutput read num (take (done.taken + line) input)) (sym put)
-          (more_output read num (parts_make read num) input done.taken line (take done.written c.answer_lines-done.new.out) c.in-Ok.text.items before a.answers
-          (subst (λ r. IsOutput read num (take line r) c.in-Ok.text.items) rest_is c.in-Ok.ensures));
+          (more_output read num (parts_make read num) input done.taken line (take done.written c.answer_lines-done.new.out) text before a.answers
+          (subst (λ r. IsOutput read num (take line r) text) rest_is c.in-Ok.ensures.answers));
     }

@@ -9,6 +9,7 @@ invariant-lines l = record {
   taken : l.done.taken ≤ length l.input;
   written : l.done.written ≤ length l.out;
   whole : length l.out ≡ length l.initial.out;
+  room : length l.room ≡ length l.initial.room;
   lines : AreWholeLines l.last l.input l.done.taken;
   answers : IsOutput (read_at l.places) (print_at l.places) (take l.done.taken l.input) (take l.done.written l.out);
 }

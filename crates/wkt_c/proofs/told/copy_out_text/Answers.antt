@@ -4,4 +4,4 @@ use Rattle.wkt_c.proofs.told.copy_out_text.Goals as goal
 
 pub returns-in-Ok : goal.returns-in-Ok
 returns-in-Ok c =
-    handed c.args.places _ _ _ _ _ _ c.written.result.now _ _ _ _ _ c.in-Ok.ensures.ok c.written.ensures c.copy_out.ensures.stands c.copy_out.ensures.lacks c.copy_out.ensures.kept c.copy_out.ensures.two
+    handed c.args.places _ _ _ _ _ _ _ c.written.result.now _ _ _ _ _ c.in-Ok.ensures.ok c.written.ensures c.copy_out.ensures.stands c.copy_out.ensures.lacks c.copy_out.ensures.kept c.copy_out.ensures.two

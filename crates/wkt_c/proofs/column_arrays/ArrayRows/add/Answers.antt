@@ -4,11 +4,13 @@ use Rattle.wkt_c.proofs.column_arrays.ArrayRows.add.Goals as goal
 
 pub returns : goal.returns
 returns c =
-    match-map c.push.result
+    match-map c.push-3.result
     (λ x e. record {
       numbers_added = c.in_ok-add.ensures;
       rings_added = c.in_ok-add-2.ensures;
       polygons_added = c.in_ok-add-3.ensures;
-      head_added = e;
+      kind_added = c.in_ok-push.ensures;
+      dimension_added = c.in_ok-push-2.ensures;
+      status_added = e;
     })
-    (λ e h. h) c.push.ensures
+    (λ e h. h) c.push-3.ensures

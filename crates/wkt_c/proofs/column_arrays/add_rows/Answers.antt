@@ -5,13 +5,13 @@ use Rattle.wkt_c.specs.Column.{row_count, row, is_null}
 use Rattle.wkt_c.specs.ColumnArrays.{IsRowArrays}
 use Rattle.wkt_c.specs.Rows.{HoldsArrays}
 use Rattle.wkt_c.proofs.Columns.{below, no-arrays-yet, one-row-more}
-use Rattle.wkt_c.proofs.column_arrays.all_arrays.Goals as goal
+use Rattle.wkt_c.proofs.column_arrays.add_rows.Goals as goal
 
 pub slice_bounds-text-end : goal.slice_bounds-text-end
 slice_bounds-text-end c = below c.args.given.texts.now c.args.given.offsets.now c.requires.offsets (c.loop-i.i + 1) (omega arith)
 
 pub loop-i-init : goal.loop-i-init
-loop-i-init c = no-arrays-yet (places_in c.args.asked) (asks_whole c.args.asked) c.args.given.texts.now c.args.given.offsets.now c.args.given.valid.now c.in_ok-rows.rows c.in_ok-rows.ensures
+loop-i-init c = no-arrays-yet (places_in c.args.asked) (asks_whole c.args.asked) c.args.given.texts.now c.args.given.offsets.now c.args.given.valid.now c.args.none c.requires.none
 
 pub loop-i-preserved : goal.loop-i-preserved
 loop-i-preserved c =
