@@ -22,7 +22,7 @@ def main():
     kit = os.path.dirname(os.path.dirname(os.path.realpath(shutil.which("rt"))))
     uses = lib.uses_of()
     made = {it: f"{TOP}/crates/{it}/out/rlib" for it in lib.below(name, uses)}
-    is_library = name in (lib.CRATE, "wkt_web")
+    is_library = name in (lib.CRATE,)
     system = "unknown-unknown" if processor == "wasm64" else "unknown-linux-gnu"
     words = ["--crate-name", name, *(["src/lib.rt", "--crate-type", "staticlib"] if is_library else ["src/main.rt"])]
     words += [

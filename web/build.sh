@@ -1,5 +1,5 @@
 #!/usr/bin/env bash
-# Makes wkt.wasm, the module for JavaScript, of the proved crate wkt_web.
+# Makes wkt.wasm, the module for JavaScript, of the proved crate wkt_c.
 #
 # build.sh [--twice] FILE: into that file. It proves and builds the crate for WebAssembly with addresses of 64 bits, over the
 # libraries that `rt ci` left in crates/*/out/rlib, links it, and lowers the addresses to 32 bits by binaryen's wasm-opt, since
@@ -19,7 +19,7 @@ trap 'rm -rf "$work"' EXIT
 
 # built FILE: the module
 built() {
-    dist/build.py wkt_web wasm64 "$work/wkt.a" > "$work/said" 2>&1 || { tail -n 20 "$work/said"; stop "wkt_web isn't built"; }
+    dist/build.py wkt_c wasm64 "$work/wkt.a" > "$work/said" 2>&1 || { tail -n 20 "$work/said"; stop "wkt_c isn't built"; }
     "$kit/bin/rattle-link" --target wasm64-unknown-unknown --toolchain "$kit/toolchain" -o "$work/wkt64.wasm" "$work/wkt.a" > "$work/said" 2>&1 ||
         { cat "$work/said"; stop "the module isn't linked"; }
     wasm-opt --enable-memory64 --enable-bulk-memory --enable-sign-ext --enable-mutable-globals --enable-nontrapping-float-to-int \
@@ -29,7 +29,7 @@ built() {
 built "$work/wkt.wasm"
 [ -z "$twice" ] || { built "$work/again.wasm" && cmp "$work/wkt.wasm" "$work/again.wasm" || stop "a second build gave other bytes"; }
 # What stands in it: no import, and the functions that the crate exports.
-mapfile -t names < <(sed -n 's/^pub extern "C" fn \(wkt_[a-z_]*\)(.*/\1/p' crates/wkt_web/src/*.rt)
+mapfile -t names < <(sed -n 's/^pub extern "C" fn \(wkt_[a-z_]*\)(.*/\1/p' crates/wkt_c/src/*.rt)
 node -e '
     const module = new WebAssembly.Module(require("fs").readFileSync(process.argv[1]));
     const names = WebAssembly.Module.exports(module).map((one) => one.name);

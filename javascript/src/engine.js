@@ -6,12 +6,14 @@
 import { STATUS } from './names.js';
 import { WktError } from './errors.js';
 
-const EXPORTS = ['memory', '__heap_base', 'wkt_arrays', 'wkt_canonical', 'wkt_explain', 'wkt_hint', 'wkt_infer', 'wkt_lines_some', 'wkt_same'];
+const EXPORTS = ['memory', '__heap_base', 'wkt_arrays', 'wkt_canonical', 'wkt_explain', 'wkt_hint', 'wkt_infer', 'wkt_lines_some', 'wkt_same_ends'];
 const PAGE = 65536;
 // Results: sixteen words of 64 bits. Behind them stands what a call lays out.
 const CELLS = 16;
 // Of a text that is at most so long the bytes are put, and compared, one by one: that is faster than the conversions.
 const SHORT = 48;
+// A text that is longer is written in a room first, and then to its answer.
+const ROOMLESS = 200;
 // Lengths of short texts as BigInt, made once.
 const SMALL = Array.from({ length: 1024 }, (_, n) => BigInt(n));
 
@@ -217,11 +219,14 @@ export class Engine {
 
   /** A text's canonical text, at `this.answer`; its length is size 0, and the end of the geometry size 1. */
   canonical(at, length, places) {
-    const room = 2 * length + 65;
-    const answer = this.lay(room);
+    const most = 2 * length + 65;
+    const size = length > ROOMLESS ? most : 0;
+    const room = size > 0 ? this.lay(size) : at;
+    const answer = this.lay(most);
     this.answer = answer;
     try {
-      return this.calls.wkt_canonical(big(at), big(length), places, big(answer), big(room), this.cellAt[0], this.cellAt[1]);
+      return this.calls.wkt_canonical(big(at), big(length), places, big(room), big(size), big(answer), big(most),
+        this.cellAt[0], this.cellAt[1]);
     } catch (error) {
       if (error instanceof WebAssembly.RuntimeError) this.start();
       throw error;
@@ -244,7 +249,7 @@ export class Engine {
     const sizes = [2 * length + 65, 2 * otherLength + 65];
     const rooms = sizes.map((size) => this.lay(size));
     const cell = this.cellAt;
-    return this.call('wkt_same', big(one), big(length), big(other), big(otherLength), places,
+    return this.call('wkt_same_ends', big(one), big(length), big(other), big(otherLength), places,
       big(rooms[0]), big(sizes[0]), big(rooms[1]), big(sizes[1]), cell[0], cell[1], cell[2]);
   }
 
@@ -258,13 +263,13 @@ export class Engine {
    * end of the geometry size 6.
    */
   arrays(at, length, places) {
-    // Each of the three is made in a room, and copied from there.
+    // Each of the three is made in a room, the last two in one, and copied from there.
     const [numbers, rings, polygons] = [Math.floor(length / 2) + 2, Math.floor(length / 4) + 2, Math.floor(length / 6) + 2];
-    const [roomN, roomR, roomP] = [this.lay(8 * numbers), this.lay(8 * rings), this.lay(8 * polygons)];
+    const [numbersRoom, wordsRoom] = [this.lay(8 * numbers), this.lay(8 * (rings + polygons))];
     const [outN, outR, outP] = [this.lay(8 * numbers), this.lay(8 * rings), this.lay(8 * polygons)];
     this.arraysAt = [outN, outR, outP];
     return this.call('wkt_arrays', big(at), big(length), places,
-      big(roomN), big(numbers), big(roomR), big(rings), big(roomP), big(polygons), this.cellAt[2],
+      big(numbersRoom), big(numbers), big(wordsRoom), big(rings + polygons), this.cellAt[2],
       big(outN), big(numbers), big(outR), big(rings), big(outP), big(polygons));
   }
 

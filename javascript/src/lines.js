@@ -4,6 +4,8 @@ import { WktError } from './errors.js';
 import { big } from './engine.js';
 
 const BLOCK = 1 << 20;
+// Most lines are no longer than half of these bytes.
+const LINE = 1 << 16;
 const FEED = 10;
 
 /** The answers to lines that come in chunks. What is left of a line is kept here, so other calls may come between. */
@@ -68,23 +70,28 @@ export class LineAnswers {
       engine.bytes.set(piece, to);
       to += piece.length;
     }
-    // Lines of n bytes have a room of 2n + 65 surely; most need no more than their own length.
-    let room = length + (length >> 3) + 4096;
+    // The answers to n bytes mostly have no more than these. A line whose answer may not fit is answered in a room of its own:
+    // one of n bytes surely fits into 2n + 65.
+    let most = length + (length >> 3) + 4096;
+    let room = Math.min(2 * length + 65, LINE);
     let taken = 0;
     while (taken < length) {
       const before = engine.at;
-      const answer = engine.lay(room);
+      const answer = engine.lay(most);
+      const line = engine.lay(room);
       const status = engine.call('wkt_lines_some', big(at + taken), big(length - taken), this.#places, last ? 1 : 0,
-        big(answer), big(room), engine.cellAt[0], engine.cellAt[1]);
-      if (status !== STATUS.OK) throw new WktError(status);
-      const some = engine.size(0);
-      if (engine.size(1) > 0) answers.push(engine.bytes.slice(answer, answer + engine.size(1)));
-      taken += some;
+        big(line), big(room), big(answer), big(most), engine.cellAt[0], engine.cellAt[1]);
       engine.at = before;
-      if (some === 0) {
-        const surely = 2 * (length - taken) + 65;
-        if (room >= surely) throw new WktError(STATUS.TOO_SMALL);
-        room = Math.min(surely, 4 * room);
+      const surely = 2 * (length - taken) + 65;
+      if (status === STATUS.OK && engine.size(0) > 0) {
+        answers.push(engine.bytes.slice(answer, answer + engine.size(1)));
+        taken += engine.size(0);
+      } else if (status === STATUS.TOO_SMALL && most < surely) {
+        most = Math.min(surely, 4 * most);
+      } else if (status === STATUS.NO_MEMORY && room < surely) {
+        room = surely;
+      } else {
+        throw new WktError(status);
       }
     }
   }

@@ -2,10 +2,10 @@
 """Whether the proved functions have the parameters that their callers pass; the status is 1 where one hasn't.
 
 include/wkt.h says which functions there are. Compared with it are the functions that crates/wkt_c exports, which may take
-rooms beside what the header has, and their structs, the functions of capi/functions.h, the declarations of
-rust/src/ffi.rs, and the module's functions, which take other rooms. The calls of javascript/src are compared with these.
-A slice is a pointer and a size. At the end a parameter or a field is changed in each of these files, and each change has
-to be seen.
+rooms beside what the header has, and their structs, the functions of capi/functions.h, which capi/pointers.c and
+dist/c/wkt_portable.c call, and the declarations of rust/src/ffi.rs. The calls of javascript/src are compared with what
+wkt_c exports. A slice is a pointer and a size. At the end a parameter or a field is changed in each of these files, and
+each change has to be seen.
 """
 import os
 import re
@@ -15,9 +15,8 @@ TOP = os.path.dirname(os.path.dirname(os.path.dirname(os.path.abspath(__file__))
 HEADER, LISTS, RUST = "include/wkt.h", "capi/functions.h", "rust/src/ffi.rs"
 ENGINE, LINES = "javascript/src/engine.js", "javascript/src/lines.js"
 EXPORTS = [f"crates/wkt_c/src/exports{part}.rt" for part in ("", "_arrays", "_explain")]
-MODULE = "crates/wkt_web/src/exports.rt"
 SIZES = ["crates/wkt_calls/src/sizes.rt", "crates/wkt_c/src/sizes.rt"]
-FILES = [HEADER, LISTS, RUST, ENGINE, LINES, MODULE, *EXPORTS, *SIZES]
+FILES = [HEADER, LISTS, RUST, ENGINE, LINES, *EXPORTS, *SIZES]
 # Types that C has by two names. Offsets are of 64 bits, as sizes are, and one below 0 is refused as too large.
 ALIKE = {"wkt_status": "u32", "uint32_t": "u32", "uint8_t": "u8", "size_t": "64", "int64_t": "64", "int": "c_int",
          "usize": "64", "i64": "64"}
@@ -25,8 +24,6 @@ EXPORT = r'extern "C" fn (wkt_\w+)\(([^()]*)\)\s*->\s*u32'
 STRUCT = r"#\[repr\(C\)\]\s*#\[derive[^\n]*\s*pub struct (?P<name>\w+) \{(?P<body>.*?)\}"
 # A list in parentheses behind a comma.
 LISTED = r",\s*\(([^()]*)\)"
-# The function of the header that has the results of the module's.
-HEADED = {"wkt_same": "wkt_same_ends"}
 
 
 def parameters(text):
@@ -119,16 +116,10 @@ def passed_by_engine(text, name):
     return ["big(" in one or "cell" in one for one in parameters(text[call.end():end - 1])]
 
 
-def is_part(some, whole):
-    left = iter(whole)
-    return all(one in left for one in some)
-
-
 def differences(texts):
     plain = re.sub(r"/\*.*?\*/", "", texts[HEADER], flags=re.S)
     declared = functions(r"^wkt_status (wkt_\w+)\(([^()]*)\);", plain, of_c)
     exported = functions(EXPORT, "\n".join(texts[one] for one in EXPORTS), of_rattle)
-    module = functions(EXPORT, texts[MODULE], of_rattle)
     in_rust = functions(r"pub fn (wkt_\w+)\(([^()]*)\)\s*->\s*u32;", texts[RUST], of_rust)
     lists = listed(texts[LISTS])
     yield from named("what wkt_c exports and what functions.h has", {name: it[4] for name, it in lists.items()}, exported)
@@ -142,12 +133,9 @@ def differences(texts):
         of_rooms = [it for room, word in rooms for it in ((room, word), (f"{room}_len", "64"))]
         if [it for it in taken if it not in of_rooms] != given or [it for it in taken if it in of_rooms] != of_rooms:
             yield f"{name}: the proved function hasn't the parameters of wkt.h and its rooms"
-    for name, given in module.items():
-        wanted = [word for _, word in declared[HEADED.get(name, name)]]
-        if not is_part(wanted, [word for _, word in given]):
-            yield f"{name}: the module's hasn't the parameters of wkt.h"
-        if passed_by_engine(texts[ENGINE] + texts[LINES], name) != [word != "u32" for _, word in given]:
-            yield f"{name}: javascript/src passes other arguments than the module takes"
+    for name in re.findall(r"'(wkt_\w+)'", re.search(r"const EXPORTS = [^;]*;", texts[ENGINE])[0]):
+        if passed_by_engine(texts[ENGINE] + texts[LINES], name) != [word != "u32" for _, word in exported[name]]:
+            yield f"{name}: javascript/src passes other arguments than it takes"
     c_structs = structs(r"typedef struct \{(?P<body>.*?)\} (?P<name>\w+);", plain, fields_of_c)
     made = {}
     for one in SIZES:
@@ -176,7 +164,6 @@ CHANGES = [
     (RUST, "last: u32,\n", ""),
     (ENGINE, "big(rooms[0]), big(sizes[0]), ", ""),
     (LINES, "last ? 1 : 0,", ""),
-    (MODULE, "kind: &mut u32, dimension: &mut u32", "kind: &mut u32, dimension: &mut usize"),
     (EXPORTS[0], "same: &mut u32,\n    end: &mut usize,", "end: &mut usize,\n    same: &mut u32,"),
     (EXPORTS[1], "numbers: &[i64],", "numbers: &mut [i64],"),
     (EXPORTS[2], "stop: &mut usize,", "stop: &mut u32,"),
