@@ -19,7 +19,7 @@ pub tell-requires-clause-room : goal.tell-requires-clause-room
 tell-requires-clause-room c = λ q v h.
     let a : Given = record { kind = c.in_ok-kind_of.field-0; dimension = c.in_ok-dimension_of.field-0; numbers = c.args.given.numbers; rings = c.args.given.rings; polygons = c.args.given.polygons } in
     let enough = rw c.places.ensures.is at (c.is_enough.ensures.yes c.if-not-is_enough.false) in
-    let large : text_room c.args.places c.args.given.numbers.now c.args.given.rings.now c.args.given.polygons.now ≤ length c.args.room.now = omega (arith, enough, c.len.ensures) in
+    let large : text_room c.args.places c.args.given.numbers.now c.args.given.rings.now c.args.given.polygons.now ≤ length c.args.room.now = omega (arith, enough) in
     let fresh : IsFresh c.args.places c.args.room.now c.new-pen.result = c.new-pen.ensures in
     has-room c.args.places q a c.if-not-are_arrays.ensures.narrow c.args.room.now c.new-pen.result fresh (text_room c.args.places c.args.given.numbers.now c.args.given.rings.now c.args.given.polygons.now) (omega arith) large v h
 
@@ -39,7 +39,7 @@ returns-clause-within c =
     let a : Given = record { kind = c.in_ok-kind_of.field-0; dimension = c.in_ok-dimension_of.field-0; numbers = c.args.given.numbers; rings = c.args.given.rings; polygons = c.args.given.polygons } in
     let some = c.if-not-are_arrays.ensures.some c.args.places c.requires in
     let enough = rw c.places.ensures.is at (c.is_enough.ensures.yes c.if-not-is_enough.false) in
-    let large : text_room c.args.places c.args.given.numbers.now c.args.given.rings.now c.args.given.polygons.now ≤ length c.args.room.now = omega (arith, enough, c.len.ensures) in
+    let large : text_room c.args.places c.args.given.numbers.now c.args.given.rings.now c.args.given.polygons.now ≤ length c.args.room.now = omega (arith, enough) in
     let fresh : IsFresh c.args.places c.args.room.now c.new-pen.result = c.new-pen.ensures in
     let room = has-room c.args.places c.args.places a c.if-not-are_arrays.ensures.narrow c.args.room.now c.new-pen.result fresh (text_room c.args.places c.args.given.numbers.now c.args.given.rings.now c.args.given.polygons.now) (omega arith) large some.0 some.1 in
     is-within c.new-pen.result c.tell.result (events some.0) room (c.tell.ensures c.args.places some.0 some.1)
