@@ -30,7 +30,7 @@ returns-then-done-eq0-clause-answers c =
         line = elim c.first_line-line.ensures.line [ inl h ↦ subst (λ r. IsFirstLine c.args.last r line) rest_is h | inr z ↦ absurd (omega (arith, z, c.if-line-eq0.false)) ];
         answers = text;
         are = subst (λ r. IsOutput read num (take line r) text) rest_is c.in-Ok.ensures.answers;
-        small = omega (arith, ap length nothing, length-take done.written c.answer_lines-done.new.out, a.written, a.whole, c.lines.invariant.whole, c.if-size-out.true, c.len.ensures, long);
+        small = omega (arith, ap length nothing, length-take done.written c.answer_lines-done.new.out, a.written, a.whole, c.lines.invariant.whole, c.if-size-out.true, long);
       },
     )
 
@@ -88,7 +88,7 @@ returns-then-size-out-clause-answers c =
         line = elim c.first_line-line.ensures.line [ inl h ↦ subst (λ r. IsFirstLine c.args.last r line) rest_is h | inr z ↦ absurd (omega (arith, z, c.if-line-eq0.false)) ];
         answers = text;
         are = subst (λ r. IsOutput read num (take line r) text) rest_is c.in-Ok.ensures.answers;
-        small = omega (arith, a.written, a.whole, c.lines.invariant.whole, c.if-size-out.true, c.len.ensures, long);
+        small = omega (arith, a.written, a.whole, c.lines.invariant.whole, c.if-size-out.true, long);
       });
     }
 
@@ -110,7 +110,7 @@ lines-preserved c =
     ap (λ n. take n c.put_at.new.out) {x = done.written + c.in-Ok.size} {y = done.written + length text} (omega (arith, long)) ∙ c.put_at.ensures.put in
     record {
       taken = omega (arith, f.within, ap length rest_is, length-drop done.taken input, a.taken);
-      written = omega (arith, c.put_at.ensures.whole, c.if-size-out.false, a.written, c.len.ensures);
+      written = omega (arith, c.put_at.ensures.whole, c.if-size-out.false, a.written);
       whole = c.put_at.ensures.whole ∙ a.whole ∙ c.lines.invariant.whole;
       room = c.answers.ensures.whole ∙ c.lines.invariant.room;
       lines = whole-pick c.args.last input done.taken line a.taken less a.lines (subst (λ r. AreWholeLines c.args.last r line) rest_is f.whole);
