@@ -4,7 +4,7 @@ use Rattle.wkt_read.specs.Front.{HasNoFront}
 use Rattle.wkt_read.specs.Refusal.{IsRefusedWith}
 use Rattle.wkt_read.specs.declared.messages.Message.{Message}
 use Rattle.wkt_canonical.specs.Canonical.{IsCanonicalTo}
-use Rattle.wkt_calls.specs.Answer.{read_at, print_at, places_in, asks_whole, EndsAsAsked, IsCanonicalOf, HasMore, Compares, RefusesText, IsHandedOut, HasNoRoom}
+use Rattle.wkt_calls.specs.Answer.{read_at, print_at, places_in, asks_whole, EndsAsAsked, IsCanonicalOf, HasMore, IsMore, Compares, RefusesText, RefusesOne, IsHandedOut, HasNoRoom, same_number}
 use Rattle.wkt_calls.specs.declared.compare.Compared.{Compared}
 use Rattle.wkt_lines.specs.Laws.{IsWholeLines}
 use Rattle.wkt_lines.specs.Output.{IsOutput}
@@ -40,6 +40,17 @@ pub record AnswersCanonical (asked : ℕ) (text : List ℕ) (status : ℕ) (out 
   pub bound : (status ≡ 0) ⊎ (status ≡ 21) → needed' ≤ 2 * length text + 65
   pub needed_kept : 1 ≤ status → status ≢ 21 → needed' ≡ needed
   pub end_kept : 1 ≤ status → status ≢ 21 → status ≢ 30 → end' ≡ end
+
+-- By its status, what a comparison says of two texts, and what it has written then.
+pub record AnswersSame (asked : ℕ) (one other : List ℕ) (status same same' end end' other_end other_end' : ℕ) : Type 0 where
+  pub compared : status ≡ 0 → (answer : Bool) × Compares (read_at (places_in asked)) (print_at (places_in asked)) one other end' other_end' answer × (same' ≡ same_number answer)
+  pub as_asked : status ≡ 0 → EndsAsAsked (asks_whole asked) one end' × EndsAsAsked (asks_whole asked) other other_end'
+  pub more : status ≡ 30 → (answer : Bool) × Compares (read_at (places_in asked)) (print_at (places_in asked)) one other end' other_end' answer
+      × (IsMore (asks_whole asked) one end' ⊎ IsMore (asks_whole asked) other other_end')
+  pub memory : status ≡ 22 → (200 < length one) ⊎ (200 < length other)
+  pub others : 1 ≤ status → status ≢ 22 → status ≢ 30 → RefusesOne (read_at (places_in asked)) one other status
+  pub kept : 1 ≤ status → same' ≡ same
+  pub ends_kept : 1 ≤ status → status ≢ 30 → (end' ≡ end) × (other_end' ≡ other_end)
 
 -- Two texts were compared.
 abbrev pub AreCompared : ℕ → List ℕ → List ℕ → Compared → Type 0

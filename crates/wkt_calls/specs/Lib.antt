@@ -2,3 +2,4 @@ pub mod Answer
 pub mod Explained
 pub mod Calls
 pub mod Arrays
+pub mod Dialects

@@ -10,6 +10,7 @@ pub mod arrays_call;
 pub mod asked;
 pub mod canonical;
 pub mod compare;
+pub mod dialects;
 pub mod explain;
 pub mod fill;
 pub mod flat;
