@@ -29,8 +29,9 @@
  * wkt_same_ends take memory for twice the text, and none for texts of up to 200 bytes. So to read one geometry after the
  * other, don't pass all that is left of a large buffer from *end on: pass a piece at a time, or call wkt_lines_some.
  * A call takes its memory at once, by one malloc, for the longest answer that there can be: calls of arrays and columns ask
- * for more than they write. Only wkt_lines and wkt_lines_some may free it and ask for more.
- * A canonical text has at most twice the length of its text and 65 bytes more: a buffer of that size is never too small.
+ * for more than they write. Only wkt_lines and wkt_lines_some, and calls in dialects, may free it and ask for more.
+ * A canonical text has at most twice the length of its text and 65 bytes more: a buffer of that size is never too small,
+ * without dialects.
  *
  * What nothing checks, and the caller has to ensure:
  * - each pointer is aligned as its type asks: 8 bytes for int64_t, size_t, WktSizes and WktColumnSizes, 4 for uint32_t;
@@ -63,6 +64,21 @@ const char *wkt_version(void);
 /* Added to `places`: each text, or each row, has to be one geometry as a whole. A text with more than white space after its
  * geometry gives WKT_NOT_WHOLE; a 0 byte counts as more. For the calls whose comment names it. */
 #define WKT_WHOLE 256u
+
+/* Added to `places`, a bit each: dialects, which other tools write (docs/DIALECTS.md). A text that begins with a geometry
+ * without them is read as it stands; another is read as the text that the dialects make of it, and each place is one of the
+ * text as it was given. For the calls whose comment names them; the others refuse them with WKT_NO_PLACES. With any of them
+ * 22 may come of a text of any length, and a canonical text may have more than 2 * text_len + 65 bytes: 1e40 is 41 digits.
+ * WKT_SRID: `SRID=`, one to nine digits and `;` in front are left out, and wkt_srid reports them.
+ * WKT_UNTAGGED: POINT(1 2 3) is POINT Z(1 2 3), and a first coordinate of four numbers is ZM.
+ * WKT_EXPONENTS: 1e-7 is 0.0000001.
+ * WKT_NAN: POINT(nan nan) is POINT EMPTY. */
+#define WKT_HAS_DIALECTS 1
+#define WKT_SRID 512u
+#define WKT_UNTAGGED 1024u
+#define WKT_EXPONENTS 2048u
+#define WKT_NAN 4096u
+#define WKT_EWKT (WKT_SRID | WKT_UNTAGGED)
 
 typedef uint32_t wkt_status;
 /* names.py: c (tests/gate/names.py --write makes this of docs/names.tsv) */
@@ -208,13 +224,13 @@ const char *wkt_message(wkt_status status);
 /* The canonical text of the geometry that the text begins with. *end: where the geometry ends in the text; what
  * follows may be anything that is UTF-8, or, with WKT_WHOLE, white space. WKT_OK: the text is in out, and *needed is its
  * length, at most 2 * text_len + 65. WKT_TOO_SMALL: *needed is its length, and *end is set too. WKT_NOT_WHOLE: *end is
- * set. 1..14, 20, 23; 22 only for a text of more than 200 bytes. */
+ * set. 1..14, 20, 23; 22 only for a text of more than 200 bytes, or with dialects. Takes WKT_WHOLE and dialects. */
 wkt_status wkt_canonical(const uint8_t *text, size_t text_len, uint32_t places,
                          uint8_t *out, size_t out_len, size_t *needed, size_t *end);
 
 /* Whether two texts begin with one geometry: *same is 1 exactly if their canonical texts are equal, and else 0.
  * 1..14, 20 (of one of the texts), 23, and WKT_NOT_WHOLE of one of the texts, with WKT_WHOLE; 22 only if one has more
- * than 200 bytes. */
+ * than 200 bytes, or with dialects. Takes dialects: a text with SRID=1; is the same as one with SRID=2;. */
 wkt_status wkt_same(const uint8_t *one, size_t one_len, const uint8_t *other, size_t other_len, uint32_t places,
                     uint32_t *same);
 
@@ -226,14 +242,19 @@ wkt_status wkt_same_ends(const uint8_t *one, size_t one_len, const uint8_t *othe
  * that can't stand there; *start is *stop where the text ends too early. *message: the number of the message, 1 to 14;
  * *expected: what could stand there, in WKT_EXPECTED. WKT_ACCEPTED: the text begins with a geometry. With WKT_WHOLE,
  * WKT_NOT_WHOLE: more than white space follows the geometry; *start is the first byte of it that is no white space, and
- * *stop is text_len; *message and *expected are as they were. 20, 23. It takes no memory. */
+ * *stop is text_len; *message and *expected are as they were. 20, 23. It takes no memory without dialects, and with them 22
+ * may come: *message and *expected are then of the text that the text is read as, *start and *stop of the text itself. */
 wkt_status wkt_explain(const uint8_t *text, size_t text_len, uint32_t places, uint32_t *message, size_t *start,
                        size_t *stop, uint32_t *expected);
 
 /* Why a text is refused, in a user's words: *hint is a number in WKT_HINTS, or 0 where nothing is known. It is about the
  * bytes from *start to *stop of wkt_explain. The words of WKT_HINT_PLACES have a %u for the number of places that was
- * asked for. WKT_ACCEPTED, WKT_NOT_WHOLE, 20, 23: as of wkt_explain. It takes no memory. */
+ * asked for. WKT_ACCEPTED, WKT_NOT_WHOLE, 20, 23, dialects: as of wkt_explain. */
 wkt_status wkt_hint(const uint8_t *text, size_t text_len, uint32_t places, uint32_t *hint);
+
+/* The SRID in front of a text, as WKT_SRID leaves it out: *srid is its number, and *end where what stands behind the `;`
+ * begins; both are 0 where none stands there. What stands behind it may be anything. WKT_OK. It takes no memory. */
+wkt_status wkt_srid(const uint8_t *text, size_t text_len, uint32_t *srid, size_t *end);
 
 /* The kind and the dimension that the header of the text names; the rest is not read. 1: it begins with no kind word.
  * 2: EMPTY comes first, with no space before it. 3: there is neither a parenthesis nor EMPTY. 20. It takes no memory. */

@@ -1,5 +1,5 @@
 /* Every function and every status, with values worked by hand. It also refuses each allocation in turn: link it, with
- * texts.c, explain.c, columns.c and pointers.c, with -Wl,--wrap=malloc -Wl,--wrap=realloc. */
+ * texts.c, explain.c, dialects.c, columns.c and pointers.c, with -Wl,--wrap=malloc -Wl,--wrap=realloc. */
 #include "calls.h"
 
 #ifdef __cplusplus
@@ -63,6 +63,11 @@ static wkt_status call(int which) {
     size_t got_rings[3], got_polygons[3];
     uint32_t same;
     WktSizes sizes;
+    uint32_t message, hint;
+    size_t start, stop;
+    /* What a text is read as takes memory, however short it is. */
+    static const char in_dialects[] = "SRID=1;MULTIPOINT(1e1 2 3,nan nan nan)";
+    const uint32_t all = WKT_EWKT | WKT_EXPONENTS | WKT_NAN;
     switch (which) {
     case 0: return wkt_canonical(BYTES(text), 6, out, ROOM, &needed, &end_at);
     case 1: return wkt_same(BYTES(text), BYTES(text), 6, &same);
@@ -88,6 +93,11 @@ static wkt_status call(int which) {
         wkt_status status = wkt_lines_some(BYTES(text), 6, 1, got_some, ROOM, &taken, &written);
         return status;
     }
+    case 9: return wkt_canonical(BYTES(in_dialects), all, out, ROOM, &needed, &end_at);
+    case 10: return wkt_same(BYTES(in_dialects), BYTES(in_dialects), all, &same);
+    case 11: return wkt_arrays(BYTES("SRID=1;LINESTRING(1e1 2 3)"), all, &sizes, got, 16, got_rings, 3, got_polygons, 3);
+    case 12: return wkt_explain(BYTES("SRID=1;POINT(1e1 2 3"), all, &message, &start, &stop, &hint);
+    case 13: return wkt_hint(BYTES("SRID=1;POINT(1e1 2 3"), all, &hint);
     case 6: return wkt_arrays(BYTES(text), 6, &sizes, got, 16, got_rings, 3, got_polygons, 3);
     default: return wkt_from_arrays(1, 0, numbers, 6, rings, 2, polygons, 2, 6, out, ROOM, &needed);
     }
@@ -95,7 +105,7 @@ static wkt_status call(int which) {
 
 static void refusals(void) {
     int which;
-    for (which = 0; which < 9; which++) {
+    for (which = 0; which < 14; which++) {
         long all, n;
         allocations = 0;
         CHECK(call(which) == WKT_OK);
@@ -120,6 +130,7 @@ int main(void) {
     CHECK(wkt_supported() == 1);
     test_texts();
     test_explain();
+    test_dialects();
     test_columns();
     test_pointers();
     refusals();

@@ -35,6 +35,9 @@ void test_processor(void);
 /* explain.c */
 void test_explain(void);
 
+/* dialects.c */
+void test_dialects(void);
+
 /* columns.c */
 void test_columns(void);
 wkt_status fill_of(const char *texts, const int64_t *offsets, const uint8_t *valid, size_t rows, uint32_t places,

@@ -28,6 +28,7 @@ static wkt_status explain(void) {
     return wkt_explain(OF(uint8_t, 0), 6, AT(uint32_t, 1), AT(size_t, 2), AT(size_t, 3), AT(uint32_t, 4));
 }
 static wkt_status hint(void) { return wkt_hint(OF(uint8_t, 0), 6, AT(uint32_t, 1)); }
+static wkt_status srid(void) { return wkt_srid(OF(uint8_t, 0), AT(uint32_t, 1), AT(size_t, 2)); }
 static wkt_status infer(void) { return wkt_infer(OF(uint8_t, 0), AT(uint32_t, 1), AT(uint32_t, 2)); }
 static wkt_status lines(void) { return wkt_lines(OF(uint8_t, 0), 6, OF(uint8_t, 1), AT(size_t, 2)); }
 static wkt_status lines_some(void) {
@@ -60,6 +61,7 @@ static const function functions[] = {
     {same_ends, "11000"},
     {explain, "10000"},
     {hint, "10"},
+    {srid, "100"},
     {infer, "100"},
     {lines, "110"},
     {lines_some, "1100"},

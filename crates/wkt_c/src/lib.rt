@@ -11,6 +11,7 @@ mod canonical;
 mod column;
 mod column_arrays;
 mod column_texts;
+mod dialects;
 mod exports;
 mod exports_arrays;
 mod exports_explain;
@@ -18,4 +19,6 @@ mod joined;
 mod lines;
 mod list;
 mod sizes;
+#[cfg(test)]
+mod tests;
 mod told;
