@@ -1,21 +1,22 @@
 -- What is answered of the text that a text in dialects is read as is the answer of the text.
-use Rattle.std.proofs.Common.{◌≡◌, ◌≢◌, ◌⊎◌, inl, inr, ℕ, ℤ, ◌+◌, ◌-◌, ◌<◌, ◌≤◌, ◌%◌, ◌^◌, Bool, true, false, not, if◌then◌else◌, List, length, drop, length-drop, IsUtf8, refl, sym, ap, subst, ◌∙◌, arith, nat_lt}
+use Rattle.std.proofs.Common.{◌≡◌, ◌≢◌, ◌⊎◌, inl, inr, ℕ, ℤ, ◌+◌, ◌-◌, ◌<◌, ◌≤◌, ◌%◌, ◌^◌, Bool, true, false, not, if◌then◌else◌, List, Option, length, drop, length-drop, IsUtf8, refl, sym, ap, subst, ◌∙◌, arith, nat_lt}
 use borrow.Author.Tests.{lt-ltb}
 use Rattle.std.proofs.lemmas.Bool.{cases_eq}
 use Rattle.wkt_read.specs.Explained.{HasFront}
 use Rattle.wkt_read.specs.Front.{HasNoFront}
-use Rattle.wkt_explain.specs.Problems.{IsAccepted, IsProblem}
+use Rattle.wkt_explain.specs.Problems.{IsProblem}
 use Rattle.wkt_explain.specs.declared.whole.Problem.{Problem}
 use Rattle.wkt_explain.specs.declared.whole.Problem.TheVariants.{Refused, Rest}
 use Rattle.wkt_dialects.specs.Asked.{dialects_in}
 use Rattle.wkt_dialects.specs.Dialects.{IsRest}
 use Rattle.wkt_dialects.specs.Reading.{IsRestAs}
-use Rattle.wkt_calls.specs.Answer.{read_at, places_in, asks_whole, RefusesText, RefusesOne}
+use Rattle.wkt_calls.specs.Answer.{read_at, print_at, places_in, asks_whole, Compares, RefusesText, RefusesOne}
 use Rattle.wkt_calls.specs.Arrays.{AnswersArrays, IsNotFlat}
 use Rattle.wkt_calls.specs.Calls.{AnswersCanonical, AnswersSame}
 use Rattle.wkt_calls.specs.declared.dialects.AsRead.{AsRead}
 use Rattle.wkt_calls.specs.declared.sizes.WktSizes.{WktSizes}
-use Rattle.wkt_calls.specs.Dialects.{AsksDialects, read_plainly, HoldsRest, IsAsRead, IsReadable, SaysEnd, IsAnswer, HasNoAnswer, AnswersCanonicalOf, AnswersCanonicalIn, AnswersSameOf, AnswersSameIn, AnswersArraysOf, AnswersArraysIn}
+use Rattle.wkt_calls.specs.Dialects.{AsksDialects, read_plainly, HoldsRest, IsAsRead, IsReadable, SaysEnd, EndsAt, IsAnswer, HasNoAnswer, AnswersCanonicalOf, AnswersCanonicalIn, AnswersSameOf, AnswersSameIn, AnswersArraysOf, AnswersArraysIn}
+use Rattle.wkt_calls.proofs.Padded.{front-inside}
 
 -- A text behind its SRID, which is read as it stands if it begins with a geometry.
 pub record IsBehind (asked : ℕ) (text : List ℕ) (r : AsRead) : Type 0 where
@@ -82,14 +83,14 @@ module _ (asked : ℕ) (text : List ℕ) (asks : AsksDialects asked) where
 
     canonical-front : Final status → IsAnswer status → HasFront (read_plainly asked) r.text.now
     canonical-front final is = elim (cases_eq status 0) [
-      | inl e ↦ let w = a.written e in (w.1.0.1.value, of.at, w.1.0.1.front)
+      | inl e ↦ let w = a.written e in (w.1.1.value, of.at, w.1.1.front)
       | inr n0 ↦ elim (cases_eq status 21) [
-        | inl e ↦ let w = a.small e in (w.1.0.1.value, of.at, w.1.0.1.front)
+        | inl e ↦ let w = a.small e in (w.1.1.value, of.at, w.1.1.front)
         | inr n21 ↦ elim (cases_eq status 30) [
           | inl e ↦ let w = a.more e in (w.value, of.at, w.front)
           | inr n30 ↦ absurd (elim final [
             | inl z ↦ n0 z
-            | inr most ↦ no-refusal (read_plainly asked) r.text.now status (a.others (omega (arith, most)) n21 is.1.0 n30) most is.0
+            | inr most ↦ no-refusal (read_plainly asked) r.text.now status (a.others (omega (arith, most)) n21 is.1 n30) most is.0
           ])
         ]
       ]
@@ -126,7 +127,7 @@ module _ (asked : ℕ) (text : List ℕ) (asks : AsksDialects asked) where
   pub canonical-none-read : (status : ℕ) (out : List ℕ) (needed end : ℕ) → (status ≡ 22) ⊎ ((status ≡ 20) × (IsUtf8 text → ⊥)) → AnswersCanonicalIn asked text status out out needed needed end end
   canonical-none-read status out needed end why = record {
     none = unanswered status why;
-    answers = λ k. absurd (elim why [ inl is ↦ k.1.0 is | inr is ↦ k.0 is.0 ]);
+    answers = λ k. absurd (elim why [ inl is ↦ k.1 is | inr is ↦ k.0 is.0 ]);
     kept = λ _. refl;
     needed_kept = λ _ _. refl;
     end_kept = λ _. refl;
@@ -139,7 +140,7 @@ module _ (asked : ℕ) (text : List ℕ) (asks : AsksDialects asked) where
 
     -- What has no arrays is refused, or begins with a geometry.
     unflat : IsNotFlat (places_in (asked % 512)) r.text.now status → (HasFront (read_plainly asked) r.text.now × ((status ≡ 24) ⊎ (status ≡ 25))) ⊎ RefusesText (read_plainly asked) r.text.now status
-    unflat (inl h) = absurd (omega (arith, h.1, asks.1.1))
+    unflat (inl h) = absurd (omega (arith, h.1, asks.2))
     unflat (inr (inl h)) = inl ((h.value, h.end, h.front), elim h.why [ inl e ↦ inl e.0 | inr e ↦ inr e.0 ])
     unflat (inr (inr h)) = inr h
 
@@ -165,7 +166,7 @@ module _ (asked : ℕ) (text : List ℕ) (asks : AsksDialects asked) where
           | inl e ↦ let w = (f.more e).reported.arrays in (w.value, of.of_other.end, w.front)
           | inr n30 ↦ elim final [
             | inl z ↦ absurd (n0 z)
-            | inr most ↦ elim (unflat (f.others (omega (arith, most)) n21 is.1.0 n30)) [
+            | inr most ↦ elim (unflat (f.others (omega (arith, most)) n21 is.1 n30)) [
               | inl k ↦ k.0
               | inr k ↦ absurd (no-refusal (read_plainly asked) r.text.now status k most is.0)
             ]
@@ -186,15 +187,15 @@ module _ (asked : ℕ) (text : List ℕ) (asks : AsksDialects asked) where
     pub arrays-after : 1 ≤ status → status < 20 → (P : WktSizes → List ℤ → List ℕ → List ℕ → Type 0) → P sizes' numbers' rings' polygons' → P sizes numbers rings polygons
     arrays-after some few P p =
         let k = f.kept some in
-        subst (λ l. P sizes numbers rings l) k.1.1
-        (subst (λ l. P sizes numbers l polygons') k.1.0
+        subst (λ l. P sizes numbers rings l) k.2
+        (subst (λ l. P sizes numbers l polygons') k.1
         (subst (λ l. P sizes l rings' polygons') k.0
         (subst (λ s. P s numbers' rings' polygons') (of.sizes_kept (not-said status some few)) p)))
 
   pub arrays-none-read : (status : ℕ) (sizes : WktSizes) (numbers : List ℤ) (rings polygons : List ℕ) → (status ≡ 22) ⊎ ((status ≡ 20) × (IsUtf8 text → ⊥)) → AnswersArraysIn asked text status sizes sizes numbers numbers rings rings polygons polygons
   arrays-none-read status sizes numbers rings polygons why = record {
     none = unanswered status why;
-    answers = λ k. absurd (elim why [ inl is ↦ k.1.0 is | inr is ↦ k.0 is.0 ]);
+    answers = λ k. absurd (elim why [ inl is ↦ k.1 is | inr is ↦ k.0 is.0 ]);
     kept = λ _. (refl, refl, refl);
     sizes_kept = λ _. refl;
   }
@@ -219,12 +220,12 @@ module _ (asked : ℕ) (one other : List ℕ) (asks : AsksDialects asked) where
 
     same-fronts : Final status → IsAnswer status → HasFront (read_plainly asked) r.text.now × HasFront (read_plainly asked) q.text.now
     same-fronts final is = elim (cases_eq status 0) [
-      | inl e ↦ let w = (s.compared e).1.0 in ((w.first, of.at, w.front), (w.second, of.other_at, w.other_front))
+      | inl e ↦ let w = (s.compared e).1 in ((w.first, of.at, w.front), (w.second, of.other_at, w.other_front))
       | inr n0 ↦ elim (cases_eq status 30) [
-        | inl e ↦ let w = (s.more e).1.0 in ((w.first, of.at, w.front), (w.second, of.other_at, w.other_front))
+        | inl e ↦ let w = (s.more e).1 in ((w.first, of.at, w.front), (w.second, of.other_at, w.other_front))
         | inr n30 ↦ absurd (elim final [
           | inl z ↦ n0 z
-          | inr most ↦ no-kind (s.others (omega (arith, most)) is.1.0 n30) most is.0
+          | inr most ↦ no-kind (s.others (omega (arith, most)) is.1 n30) most is.0
         ])
       ]
     ]
@@ -255,7 +256,7 @@ module _ (asked : ℕ) (one other : List ℕ) (asks : AsksDialects asked) where
     no_dialects = λ n. absurd (n asks);
     dialects = λ e _. elim why [ inl is ↦ omega (arith, is, e) | inr is ↦ omega (arith, is.0, e) ];
     not_utf8 = λ e u v. elim why [ inl is ↦ omega (arith, is, e) | inr is ↦ is.1 u v ];
-    answers = λ k. absurd (elim why [ inl is ↦ k.1.0 is | inr is ↦ k.0 is.0 ]);
+    answers = λ k. absurd (elim why [ inl is ↦ k.1 is | inr is ↦ k.0 is.0 ]);
     kept = λ _. refl;
     ends_kept = λ _ _. (refl, refl);
   }
@@ -264,7 +265,7 @@ module _ (asked : ℕ) (one other : List ℕ) (asks : AsksDialects asked) where
 pub canonical-unasked : (asked : ℕ) (text out : List ℕ) (needed end : ℕ) → (AsksDialects asked → ⊥) → AnswersCanonicalIn asked text 23 out out needed needed end end
 canonical-unasked asked text out needed end n = record {
   none = record { no_dialects = λ _. refl; dialects = λ _ a. n a; not_utf8 = λ e. cc };
-  answers = λ k. absurd (k.1.1 refl);
+  answers = λ k. absurd (k.2 refl);
   kept = λ _. refl;
   needed_kept = λ _ _. refl;
   end_kept = λ _. refl;
@@ -273,7 +274,7 @@ canonical-unasked asked text out needed end n = record {
 pub arrays-unasked : (asked : ℕ) (text : List ℕ) (sizes : WktSizes) (numbers : List ℤ) (rings polygons : List ℕ) → (AsksDialects asked → ⊥) → AnswersArraysIn asked text 23 sizes sizes numbers numbers rings rings polygons polygons
 arrays-unasked asked text sizes numbers rings polygons n = record {
   none = record { no_dialects = λ _. refl; dialects = λ _ a. n a; not_utf8 = λ e. cc };
-  answers = λ k. absurd (k.1.1 refl);
+  answers = λ k. absurd (k.2 refl);
   kept = λ _. (refl, refl, refl);
   sizes_kept = λ _. refl;
 }
@@ -283,7 +284,7 @@ same-unasked asked one other same end other_end n = record {
   no_dialects = λ _. refl;
   dialects = λ _ a. n a;
   not_utf8 = λ e. cc;
-  answers = λ k. absurd (k.1.1 refl);
+  answers = λ k. absurd (k.2 refl);
   kept = λ _. refl;
   ends_kept = λ _ _. (refl, refl);
 }
@@ -292,17 +293,11 @@ same-unasked asked one other same end other_end n = record {
 places-twice : (n : ℕ) → n ≤ 36 → (places_in n ≡ n) × (asks_whole n ≡ false)
 places-twice n few = let low : nat_lt n 256 ≡ true = lt-ltb n 256 (omega (arith, few)) in (ap (λ b. if b then n else n - 256) low, ap not low)
 
-pub begins-plainly : (asked : ℕ) (text : List ℕ) (r : AsRead) (places : ℕ) → AsksDialects asked → places ≡ places_in (asked % 512) → IsBehind asked text r
-    → (end : ℕ) × IsAccepted (read_at (places_in places)) (asks_whole places) r.text.now end → IsAsRead asked text r
-begins-plainly asked text r places asks is b (end, k) =
-    let same : places_in places ≡ places_in (asked % 512) = (places-twice places (omega (arith, is, asks.1.1))).0 ∙ is in
-    begins asked text r b (subst (λ n. HasFront (read_at n) r.text.now) same (k.front.0, end, k.front.1))
-
 pub reads-other : (asked : ℕ) (text : List ℕ) (b r : AsRead) (places : ℕ) (p : Problem) → AsksDialects asked → places ≡ places_in (asked % 512) → IsBehind asked text b
     → IsProblem (read_at (places_in places)) (asks_whole places) b.text.now p
     → r.dialects ≡ b.dialects → r.from ≡ b.from → r.rest.now ≡ b.rest.now → r.written ≡ true
     → IsRestAs b.dialects b.rest.now r.text.now × (IsUtf8 b.rest.now → IsUtf8 r.text.now) → IsAsRead asked text r
-reads-other asked text b r places p asks is h problem d from rest written as = record {
+reads-other asked text b r places p asks is h problem d from rest written held = record {
   rest = record {
     dialects = d ∙ h.rest.dialects;
     inside = subst (λ n. n ≤ length text) (sym from) h.rest.inside;
@@ -312,14 +307,79 @@ reads-other asked text b r places p asks is h problem d from rest written as = r
   same = λ w. let k : true ≡ false = sym written ∙ w in cc;
   other = λ _. (
     subst (HasNoFront (read_plainly asked)) (h.text_is ∙ sym rest) (none p problem),
-    subst (λ l. IsRestAs (dialects_in asked) l r.text.now) (sym rest) (subst (λ e. IsRestAs e b.rest.now r.text.now) h.rest.dialects as.0),
+    subst (λ l. IsRestAs (dialects_in asked) l r.text.now) (sym rest) (subst (λ e. IsRestAs e b.rest.now r.text.now) h.rest.dialects held.0),
   );
-  utf8 = λ u. as.1 (subst IsUtf8 h.text_is (h.utf8 u));
+  utf8 = λ u. held.1 (subst IsUtf8 h.text_is (h.utf8 u));
 }
   where
     two : (places_in places ≡ places) × (asks_whole places ≡ false)
-    two = places-twice places (omega (arith, is, asks.1.1))
+    two = places-twice places (omega (arith, is, asks.2))
 
     none : (q : Problem) → IsProblem (read_at (places_in places)) (asks_whole places) b.text.now q → HasNoFront (read_plainly asked) b.text.now
     none (Refused w) k = subst (λ n. HasNoFront (read_at n) b.text.now) (two.0 ∙ is) k.none
     none (Rest at) k = let bad : false ≡ true = sym two.1 ∙ k.0 in cc
+
+-- What a call answers of the text that is read, with its ends in the texts as they were given.
+module _ (asked plain : ℕ) (is : plain ≡ asked % 512) (r : AsRead) where
+  pub canonical-of : (status : ℕ) (out out' : List ℕ) (needed needed' end end' at : ℕ) → AnswersCanonical plain r.text.now status out out' needed needed' 0 at
+      → (SaysEnd status → EndsAt r at end') → ((SaysEnd status → ⊥) → end' ≡ end) → AnswersCanonicalOf asked r status out out' needed needed' end end'
+  canonical-of status out out' needed needed' end end' at a ends kept = record {
+    at = at;
+    answers = subst (λ n. AnswersCanonical n r.text.now status out out' needed needed' 0 at) is a;
+    end_is = ends;
+    end_kept = kept;
+  }
+
+  pub arrays-of : (status : ℕ) (sizes mid sizes' : WktSizes) (numbers numbers' : List ℤ) (rings rings' polygons polygons' : List ℕ)
+      → AnswersArrays plain r.text.now (64 < length r.text.now) status sizes mid numbers numbers' rings rings' polygons polygons'
+      → (SaysEnd status → EndsAt r mid.end sizes'.end × (sizes' ≡ record mid { end = sizes'.end })) → ((SaysEnd status → ⊥) → sizes' ≡ mid)
+      → AnswersArraysOf asked r status sizes sizes' numbers numbers' rings rings' polygons polygons'
+  arrays-of status sizes mid sizes' numbers numbers' rings rings' polygons polygons' a ends kept = record {
+    of_other = mid;
+    answers = subst (λ n. AnswersArrays n r.text.now (64 < length r.text.now) status sizes mid numbers numbers' rings rings' polygons polygons') is a;
+    end_is = ends;
+    sizes_kept = λ n. kept n ∙ a.sizes_kept (positive status (λ e. n (inl e))) (λ e. n (inr (inl e))) (λ e. n (inr (inr e)));
+  }
+    where
+      positive : (s : ℕ) → (s ≡ 0 → ⊥) → 1 ≤ s
+      positive s n = elim (cases_eq s 0) [ inl e ↦ absurd (n e) | inr k ↦ omega (arith, k) ]
+
+  pub same-of : (q : AsRead) (status same same' end end' other_end other_end' at other_at : ℕ) → AnswersSame plain r.text.now q.text.now status same same' 0 at 0 other_at
+      → ((status ≡ 0) ⊎ (status ≡ 30) → EndsAt r at end' × EndsAt q other_at other_end') → (1 ≤ status → status ≢ 30 → (end' ≡ end) × (other_end' ≡ other_end))
+      → AnswersSameOf asked r q status same same' end end' other_end other_end'
+  same-of q status same same' end end' other_end other_end' at other_at a ends kept = record {
+    at = at;
+    other_at = other_at;
+    answers = subst (λ n. AnswersSame n r.text.now q.text.now status same same' 0 at 0 other_at) is a;
+    ends = ends;
+    ends_kept = kept;
+  }
+
+-- Where a geometry ends is in the text.
+module _ (plain : ℕ) (text : List ℕ) where
+  pub canonical-inside : (status : ℕ) (out out' : List ℕ) (needed needed' at at' : ℕ) → AnswersCanonical plain text status out out' needed needed' at at' → SaysEnd status → at' ≤ length text
+  canonical-inside status out out' needed needed' at at' h (inl e) = let w = h.written e in front-inside (read_at (places_in plain)) text w.1.1.value at' w.1.1.front
+  canonical-inside status out out' needed needed' at at' h (inr (inl e)) = let w = h.small e in front-inside (read_at (places_in plain)) text w.1.1.value at' w.1.1.front
+  canonical-inside status out out' needed needed' at at' h (inr (inr e)) = let w = h.more e in front-inside (read_at (places_in plain)) text w.value at' w.front
+
+  pub arrays-inside : (Full : Type 0) (status : ℕ) (sizes sizes' : WktSizes) (numbers numbers' : List ℤ) (rings rings' polygons polygons' : List ℕ)
+      → AnswersArrays plain text Full status sizes sizes' numbers numbers' rings rings' polygons polygons' → SaysEnd status → sizes'.end ≤ length text
+  arrays-inside Full status sizes sizes' numbers numbers' rings rings' polygons polygons' h (inl e) = let w = (h.filled e).reported.arrays in front-inside (read_at (places_in plain)) text w.value sizes'.end w.front
+  arrays-inside Full status sizes sizes' numbers numbers' rings rings' polygons polygons' h (inr (inl e)) = let w = (h.small e).reported.arrays in front-inside (read_at (places_in plain)) text w.value sizes'.end w.front
+  arrays-inside Full status sizes sizes' numbers numbers' rings rings' polygons polygons' h (inr (inr e)) = let w = (h.more e).reported.arrays in front-inside (read_at (places_in plain)) text w.value sizes'.end w.front
+
+  module _ (other : List ℕ) (status same same' at at' other_at other_at' : ℕ) (a : AnswersSame plain text other status same same' at at' other_at other_at') where
+    -- A comparison needs no room.
+    pub never-small : status ≢ 21
+    never-small e = elim (a.others (omega (arith, e)) (λ k. omega (arith, e, k)) (λ k. omega (arith, e, k))).which [
+      | inl t ↦ no-refusal (read_at (places_in plain)) text status t (omega (arith, e)) (λ k. omega (arith, e, k))
+      | inr t ↦ no-refusal (read_at (places_in plain)) other status t.0 (omega (arith, e)) (λ k. omega (arith, e, k))
+    ]
+
+    both : (answer : Bool) → Compares (read_at (places_in plain)) (print_at (places_in plain)) text other at' other_at' answer → (at' ≤ length text) × (other_at' ≤ length other)
+    both answer c = (front-inside (read_at (places_in plain)) text c.first at' c.front, front-inside (read_at (places_in plain)) other c.second other_at' c.other_front)
+
+    pub same-inside : SaysEnd status → (at' ≤ length text) × (other_at' ≤ length other)
+    same-inside (inl e) = let w = a.compared e in both w.0 w.1
+    same-inside (inr (inl e)) = absurd (never-small e)
+    same-inside (inr (inr e)) = let w = a.more e in both w.0 w.1
