@@ -4,3 +4,6 @@ pub mod Whole
 pub mod Between
 pub mod Owing
 pub mod Costs
+pub mod EventsTold
+pub mod EventRooms
+pub mod EventsWritten

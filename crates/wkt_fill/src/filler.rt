@@ -54,7 +54,7 @@ fn holds_nothing(kind: GeometryType) -> bool
 
 /// The kind of a whole geometry.
 #[inline(always)]
-fn kind_of(whole: Part) -> GeometryType
+pub(crate) fn kind_of(whole: Part) -> GeometryType
     ensures { result ≡ kind_of_part whole }
 {
     match whole {
