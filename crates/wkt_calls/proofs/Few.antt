@@ -16,7 +16,7 @@ use Rattle.wkt_calls.specs.Arrays.{HasNoPlaceFor}
 
 -- How many bytes lexemes take at least.
 
-abbrev weight : Lexeme → ℕ
+abbrev pub weight : Lexeme → ℕ
 weight Open = 1
 weight Close = 1
 weight Comma = 1
@@ -24,11 +24,11 @@ weight (Word run) = length run
 weight (Num run) = 1
 
 -- a byte stands between two numbers
-abbrev between : Lexeme → List Lexeme → ℕ
+abbrev pub between : Lexeme → List Lexeme → ℕ
 between (Num r) (Num s ∷ ls) = 1
 between l ls = 0
 
-abbrev least : List Lexeme → ℕ
+abbrev pub least : List Lexeme → ℕ
 least [] = 0
 least (l ∷ ls) = weight l + between l ls + least ls
 
@@ -130,7 +130,7 @@ takes_least text (l ∷ ls) rest (gap, body, after, e, white, inr (run, boundary
 
 -- What items take.
 
-abbrev costs : {A : Type 0} → (A → ℕ) → List A → ℕ
+abbrev pub costs : {A : Type 0} → (A → ℕ) → List A → ℕ
 costs c [] = 0
 costs c (x ∷ xs) = c x + costs c xs
 
@@ -152,7 +152,7 @@ none_last Close = refl
 none_last Comma = refl
 none_last (Word s) = refl
 
-least_on : (a b : List Lexeme) → least a + least b ≤ least (a ++ b)
+pub least_on : (a b : List Lexeme) → least a + least b ≤ least (a ++ b)
 least_on [] b = omega arith
 least_on (l ∷ []) b = let none = none_last l in omega (arith, none)
 least_on (l ∷ k ∷ a) b = let more = least_on (k ∷ a) b in let same = next_alone l k a (a ++ b) in omega (arith, more, same)
@@ -176,7 +176,7 @@ module _ {A : Type 0} (P : List Lexeme → A → Type 0) (c : A → ℕ) (each :
       let long : least ls ≡ least (a ++ b) = ap least e in
       omega (arith, first, rest, both, long)
 
-empty_cost : (ls : List Lexeme) → IsEmptyWord ls → 5 ≤ least ls
+pub empty_cost : (ls : List Lexeme) → IsEmptyWord ls → 5 ≤ least ls
 empty_cost ls (run, e, is) =
     let long : length run ≡ 5 = sym (upper-length run) ∙ ap length is in
     let same : least ls ≡ length run + 0 + 0 = ap least e in
@@ -190,17 +190,17 @@ within_cost P n each ls (body, e, is) =
     omega (arith, inner, both, long)
 
 module _ {A : Type 0} (P : List Lexeme → A → Type 0) (c : A → ℕ) (each : (ls : List Lexeme) (x : A) → P ls x → c x ≤ least ls + 1) where
-  listed_cost : (ls : List Lexeme) (xs : List A) → Listed P ls xs → costs c xs + 1 ≤ least ls
+  pub listed_cost : (ls : List Lexeme) (xs : List A) → Listed P ls xs → costs c xs + 1 ≤ least ls
   listed_cost ls [] h = let five = empty_cost ls h in omega (arith, five)
   listed_cost ls (x ∷ xs) h = within_cost (λ body. Many P body (x ∷ xs)) (costs c (x ∷ xs)) (λ body m. many_cost P c each body (x ∷ xs) m) ls h
 
-  perhaps_cost : (ls : List Lexeme) (x : Option A) → Perhaps P ls x → costs c (option_to_list x) + 1 ≤ least ls
+  pub perhaps_cost : (ls : List Lexeme) (x : Option A) → Perhaps P ls x → costs c (option_to_list x) + 1 ≤ least ls
   perhaps_cost ls None h = let five = empty_cost ls h in omega (arith, five)
   perhaps_cost ls (Some x) h = let one = within_cost (λ body. P body x) (c x) (λ body m. each body x m) ls h in omega (arith, one)
 
 -- What the parts of a geometry take: each number two bytes, each ring four, each polygon six.
 
-abbrev numbers_cost : {N : Type 0} → List N → ℕ
+abbrev pub numbers_cost : {N : Type 0} → List N → ℕ
 numbers_cost xs = 2 * length xs
 
 module _ {N : Type 0} (read : List ℕ → Option N) (d : Dimension) where
@@ -213,7 +213,7 @@ module _ {N : Type 0} (read : List ℕ → Option N) (d : Dimension) where
       let long : least ls ≡ 1 + between (Num run) more + least more = ap least e in
       omega (arith, tail, next, long)
 
-  coord_cost : (ls : List Lexeme) (xs : List N) → Coord read d ls xs → numbers_cost xs ≤ least ls + 1
+  pub coord_cost : (ls : List Lexeme) (xs : List N) → Coord read d ls xs → numbers_cost xs ≤ least ls + 1
   coord_cost ls xs h = in_row ls xs h.0
 
   two : (d : Dimension) → 2 ≤ size d
@@ -222,10 +222,10 @@ module _ {N : Type 0} (read : List ℕ → Option N) (d : Dimension) where
   two dim.XYM = omega arith
   two dim.XYZM = omega arith
 
-  coord_four : (ls : List Lexeme) (xs : List N) → Coord read d ls xs → 4 ≤ least ls + 1
+  pub coord_four : (ls : List Lexeme) (xs : List N) → Coord read d ls xs → 4 ≤ least ls + 1
   coord_four ls xs h = let long = h.1 in let some = two d in let cost = in_row ls xs h.0 in omega (arith, long, some, cost)
 
-  ring_cost : (ls : List Lexeme) (cs : List (List N)) → Ring read d ls cs → costs numbers_cost cs ≤ least ls + 1
+  pub ring_cost : (ls : List Lexeme) (cs : List (List N)) → Ring read d ls cs → costs numbers_cost cs ≤ least ls + 1
   ring_cost ls cs h = let one = listed_cost (Coord read d) numbers_cost coord_cost ls cs h in omega (arith, one)
 
   -- a list takes four bytes at least, and with an item of four six
@@ -234,13 +234,13 @@ module _ {N : Type 0} (read : List ℕ → Option N) (d : Dimension) where
   ring_four ls (c ∷ cs) h =
       let one = listed_cost (Coord read d) (λ _. 4) coord_four ls (c ∷ cs) h in omega (arith, one)
 
-  poly_cost : (ls : List Lexeme) (rs : List (List (List N))) → Poly read d ls rs → costs (costs numbers_cost) rs ≤ least ls + 1
+  pub poly_cost : (ls : List Lexeme) (rs : List (List (List N))) → Poly read d ls rs → costs (costs numbers_cost) rs ≤ least ls + 1
   poly_cost ls rs h = let one = listed_cost (Ring read d) (costs numbers_cost) ring_cost ls rs h in omega (arith, one)
 
   poly_rings : (ls : List Lexeme) (rs : List (List (List N))) → Poly read d ls rs → costs (λ _. 4) rs ≤ least ls + 1
   poly_rings ls rs h = let one = listed_cost (Ring read d) (λ _. 4) ring_four ls rs h in omega (arith, one)
 
-  ring_five : (ls : List Lexeme) (cs : List (List N)) → Ring read d ls cs → 5 ≤ least ls
+  pub ring_five : (ls : List Lexeme) (cs : List (List N)) → Ring read d ls cs → 5 ≤ least ls
   ring_five ls [] h = empty_cost ls h
   ring_five ls (c ∷ cs) h = let one = listed_cost (Coord read d) (λ _. 4) coord_four ls (c ∷ cs) h in omega (arith, one)
 
@@ -249,12 +249,12 @@ module _ {N : Type 0} (read : List ℕ → Option N) (d : Dimension) where
   poly_six ls (r ∷ rs) h =
       let one = listed_cost (Ring read d) (λ _. 6) (λ ls cs k. let five = ring_five ls cs k in omega (arith, five)) ls (r ∷ rs) h in omega (arith, one)
 
-  member_cost : (ls : List Lexeme) (m : Option (List N)) → Member read d ls m → costs numbers_cost (option_to_list m) ≤ least ls + 1
+  pub member_cost : (ls : List Lexeme) (m : Option (List N)) → Member read d ls m → costs numbers_cost (option_to_list m) ≤ least ls + 1
   member_cost ls None h = omega arith
   member_cost ls (Some c) (inl h) = let one = coord_cost ls c h in omega (arith, one)
   member_cost ls (Some c) (inr h) = let one = within_cost (λ body. Coord read d body c) (numbers_cost c) (λ body k. coord_cost body c k) ls h in omega (arith, one)
 
-  member_four : (ls : List Lexeme) (m : Option (List N)) → Member read d ls m → 4 ≤ least ls + 1
+  pub member_four : (ls : List Lexeme) (m : Option (List N)) → Member read d ls m → 4 ≤ least ls + 1
   member_four ls None h = let five = empty_cost ls h in omega (arith, five)
   member_four ls (Some c) (inl h) = coord_four ls c h
   member_four ls (Some c) (inr h) = let one = within_cost (λ body. Coord read d body c) 4 (λ body k. coord_four body c k) ls h in omega (arith, one)
@@ -273,18 +273,18 @@ costs-map : {A B : Type 0} (c : B → ℕ) (f : A → B) (xs : List A) → costs
 costs-map c f [] = refl
 costs-map c f (x ∷ xs) = ap (λ n. c (f x) + n) (costs-map c f xs)
 
-costs-length : {A : Type 0} (k : ℕ) (xs : List A) → costs (λ _. k) xs ≡ length xs * k
+pub costs-length : {A : Type 0} (k : ℕ) (xs : List A) → costs (λ _. k) xs ≡ length xs * k
 costs-length k [] = omega arith
 costs-length k (x ∷ xs) = let more = costs-length k xs in omega (arith, more)
 
 costs-lengths : {A : Type 0} (k : ℕ) (xss : List (List A)) → costs (λ xs. costs (λ _. k) xs) xss ≡ length (joined xss) * k
 costs-lengths k xss = sym (costs-joined (λ _. k) xss) ∙ costs-length k (joined xss)
 
-numbers-joined : {N : Type 0} (cs : List (List N)) → numbers_cost (joined cs) ≡ costs numbers_cost cs
+pub numbers-joined : {N : Type 0} (cs : List (List N)) → numbers_cost (joined cs) ≡ costs numbers_cost cs
 numbers-joined [] = refl
 numbers-joined (c ∷ cs) = let more = numbers-joined cs in let long = length-append c (joined cs) in omega (arith, more, long)
 
-numbers-in : {N : Type 0} (rings : List (List (List N))) → numbers_cost (numbers_in rings) ≡ costs (costs numbers_cost) rings
+pub numbers-in : {N : Type 0} (rings : List (List (List N))) → numbers_cost (numbers_in rings) ≡ costs (costs numbers_cost) rings
 numbers-in [] = refl
 numbers-in (r ∷ rs) =
     let more = numbers-in rs in
@@ -314,7 +314,7 @@ by_parts : {N : Type 0} (p parts : List (List (List (List N)))) (bytes : ℕ) �
 by_parts p parts bytes e h = let same : p ≡ parts = cc in subst (λ q. Fit q bytes) same h
 
 module _ {N : Type 0} (read : List ℕ → Option N) where
-  headed : (k : _) (d : Dimension) (P : List Lexeme → Type 0) (n : ℕ) → ((ls : List Lexeme) → P ls → n ≤ least ls) → (ls : List Lexeme) → WithHeader k d P ls → n ≤ least ls
+  pub headed : (k : _) (d : Dimension) (P : List Lexeme → Type 0) (n : ℕ) → ((ls : List Lexeme) → P ls → n ≤ least ls) → (ls : List Lexeme) → WithHeader k d P ls → n ≤ least ls
   headed k d P n each ls (h, b, e, header, is) = let body = each b is in let both = least_on h b in let long : least ls ≡ least (h ++ b) = ap least e in omega (arith, body, both, long)
 
   fit : (v : Value N) (ls : List Lexeme) → StandFor read ls v → (parts : List (List (List (List N)))) → parts_of v ≡ Some parts → Fit parts (least ls)

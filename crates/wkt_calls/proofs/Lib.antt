@@ -1,4 +1,5 @@
 pub mod Pieces
 pub mod Padded
 pub mod Few
+pub mod FewEvents
 pub mod InDialects

@@ -3,3 +3,4 @@ pub mod Explained
 pub mod Calls
 pub mod Arrays
 pub mod Dialects
+pub mod EventCalls

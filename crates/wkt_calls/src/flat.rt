@@ -46,7 +46,7 @@ fn make_flat<'a>(text: &[u8], places: Places, room: Room<'a>) -> Result<Flat<'a>
 
 /// Whether the bytes from there on are UTF-8.
 #[inline(always)]
-fn is_text_from(text: &[u8], end: usize) -> bool
+pub(crate) fn is_text_from(text: &[u8], end: usize) -> bool
     requires { end ≤ length text.now }
     ensures { IsTrue result ↔ IsUtf8 (drop end text.now) }
 {
@@ -76,7 +76,7 @@ fn refusal(places: Places, text: &str) -> u32
 /// Why bytes are refused that have no front.
 #[cold]
 #[inline(never)]
-fn refused(places: Places, text: &[u8]) -> u32
+pub(crate) fn refused(places: Places, text: &[u8]) -> u32
     requires { IsUtf8 text.now → HasNoFront (read_at places) text.now }
     ensures { RefusesText (read_at places) text.now result }
 {

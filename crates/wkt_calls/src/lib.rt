@@ -11,6 +11,7 @@ pub mod asked;
 pub mod canonical;
 pub mod compare;
 pub mod dialects;
+pub mod events_call;
 pub mod explain;
 pub mod fill;
 pub mod flat;
