@@ -8,13 +8,13 @@
  * it. Arrays hold units of 64 bits: see wkt_arrays.
  *
  * Every function except wkt_version, wkt_supported and wkt_message returns a status. After any status but WKT_OK the
- * caller's buffers are unchanged (except by wkt_lines_some), and so are the results (*needed, *end, *same, *sizes ..), unless
- * a comment says that one is set. Texts need no 0 at the end, and may hold any bytes.
+ * caller's buffers are unchanged (except by wkt_lines_some and wkt_read_events), and so are the results (*needed, *end,
+ * *same, *sizes ..), unless a comment says that one is set. Texts need no 0 at the end, and may hold any bytes.
  *
  * Every call refuses, before it reads anything:
  * - with WKT_NOT_SUPPORTED, everything where wkt_supported() is 0;
  * - with WKT_NULL_POINTER, a pointer that is NULL. A buffer or text of size 0 may be NULL;
- * - with WKT_TOO_LONG, a buffer or text of more than PTRDIFF_MAX bytes. A size counts items, of 1, 4 or 8 bytes each.
+ * - with WKT_TOO_LONG, a buffer or text of more than PTRDIFF_MAX bytes. A size counts items, of 1, 4, 8 or 16 bytes each.
  * Of the last two, the first parameter that is wrong decides.
  *
  * If two of the other statuses hold, the call returns the first of 27, 23, 26, 20, 1 to 14, 24, 25, 30, 21. Of two texts, 20
@@ -34,7 +34,7 @@
  * without dialects.
  *
  * What nothing checks, and the caller has to ensure:
- * - each pointer is aligned as its type asks: 8 bytes for int64_t, size_t, WktSizes and WktColumnSizes, 4 for uint32_t;
+ * - each pointer is aligned as its type asks: 8 bytes for int64_t, size_t and the structs, 4 for uint32_t;
  * - no two pointers that are passed overlap, except those that are only read; each size is that of its buffer;
  * - malloc, realloc and free come from one allocator;
  * - no call is made from a signal handler, nor in the forked child of a process with threads. Calls may run on several
@@ -56,10 +56,12 @@ extern "C" {
 /* The version of the linked library; that of this header is WKT_VERSION. */
 const char *wkt_version(void);
 
-/* This version has wkt_explain; no call takes stack for nesting; it has wkt_hint, wkt_supported and wkt_message. */
+/* This version has wkt_explain; no call takes stack for nesting; it has wkt_hint, wkt_supported and wkt_message; it has
+ * wkt_read_events. */
 #define WKT_HAS_EXPLAIN 1
 #define WKT_NO_STACK 1
 #define WKT_HAS_HINT 1
+#define WKT_HAS_EVENTS 1
 
 /* Added to `places`: each text, or each row, has to be one geometry as a whole. A text with more than white space after its
  * geometry gives WKT_NOT_WHOLE; a 0 byte counts as more. For the calls whose comment names it. */
@@ -315,6 +317,37 @@ typedef struct {
 wkt_status wkt_arrays(const uint8_t *text, size_t text_len, uint32_t places, WktSizes *sizes,
                       int64_t *numbers, size_t numbers_len, size_t *rings, size_t rings_len,
                       size_t *polygons, size_t polygons_len);
+
+/* A number of wkt_read_events: low + 2^64 * high units. It lies as an integer of 128 bits does, where the lower half comes
+ * first. */
+typedef struct {
+    uint64_t low;
+    int64_t high;
+} WktUnits;
+
+/* The events of wkt_read_events: WKT_EVENT_BEGIN + 4 * kind + dimension, WKT_EVENT_END, or a number of coordinates, which is
+ * less than both. Of the first the kind is WKT_EVENT_KIND(e), and the dimension WKT_EVENT_DIMENSION(e). */
+#define WKT_EVENT_BEGIN ((size_t)1 << 63)
+#define WKT_EVENT_END SIZE_MAX
+#define WKT_EVENT_KIND(e) ((uint32_t)((e) >> 2 & 7))
+#define WKT_EVENT_DIMENSION(e) ((uint32_t)((e) & 3))
+
+/* A geometry of any kind, collections too, as two lists in the order of its text: events, and all its numbers, in units,
+ * coordinate after coordinate. A geometry begins with WKT_EVENT_BEGIN, which says its kind and its dimension, and ends with
+ * WKT_EVENT_END. Between them is for each point (of none or one coordinate), line string, line and ring how many
+ * coordinates it has, which are the next of the numbers; so one count in a Point and in a LineString. The polygons of a
+ * MultiPolygon and the members of a GeometryCollection begin and end in turn. So MULTIPOLYGON(((1 2,3 4)),EMPTY) is
+ * {begin MultiPolygon, begin Polygon, 2, end, begin Polygon, end, end} with four numbers, and POINT EMPTY is
+ * {begin Point, 0, end} with none. capi/examples/tree.c prints them.
+ * WKT_OK: the lists are at the fronts of events and numbers, whose other items are unchanged; *event_count and
+ * *number_count say how long they are, and *end where the geometry ends in the text. Either list is at most half as long as
+ * the text: buffers of text_len / 2 items are never too small. WKT_TOO_SMALL: all three are set. 1..14, 20, 23, and
+ * WKT_NOT_WHOLE, with WKT_WHOLE: all three are set. After any status but WKT_OK both buffers are unspecified.
+ * Each text that wkt_canonical accepts with as many places has its lists. They are of the value as it is read, as those of
+ * wkt_arrays are. It takes no memory. */
+wkt_status wkt_read_events(const uint8_t *text, size_t text_len, uint32_t places,
+                           size_t *events, size_t events_len, WktUnits *numbers, size_t numbers_len,
+                           size_t *event_count, size_t *number_count, size_t *end);
 
 /* What wkt_column_arrays returns beside the arrays: how many numbers, and how many offsets of rings and of polygons, all
  * rows have. */

@@ -1,5 +1,6 @@
 /* Every function and every status, with values worked by hand. It also refuses each allocation in turn: link it, with
  * texts.c, explain.c, dialects.c, columns.c and pointers.c, with -Wl,--wrap=malloc -Wl,--wrap=realloc. */
+ * texts.c, explain.c, events.c, columns.c and pointers.c, with -Wl,--wrap=malloc -Wl,--wrap=realloc. */
 #include "calls.h"
 
 #ifdef __cplusplus
@@ -131,6 +132,7 @@ int main(void) {
     test_texts();
     test_explain();
     test_dialects();
+    test_events();
     test_columns();
     test_pointers();
     refusals();

@@ -37,6 +37,8 @@ void test_explain(void);
 
 /* dialects.c */
 void test_dialects(void);
+/* events.c */
+void test_events(void);
 
 /* columns.c */
 void test_columns(void);

@@ -17,9 +17,13 @@ ENGINE, LINES = "javascript/src/engine.js", "javascript/src/lines.js"
 EXPORTS = [f"crates/wkt_c/src/exports{part}.rt" for part in ("", "_arrays", "_explain")]
 SIZES = ["crates/wkt_calls/src/sizes.rt", "crates/wkt_c/src/sizes.rt"]
 FILES = [HEADER, LISTS, RUST, ENGINE, LINES, *EXPORTS, *SIZES]
+EXPORTS = [f"crates/wkt_c/src/exports{part}.rt" for part in ("", "_arrays", "_explain", "_events")]
+MODULE = "crates/wkt_web/src/exports.rt"
+SIZES = ["crates/wkt_calls/src/sizes.rt", "crates/wkt_c/src/sizes.rt", "crates/wkt_fill/src/units.rt"]
+FILES = [HEADER, POINTERS, RUST, ENGINE, LINES, MODULE, *EXPORTS, *SIZES]
 # Types that C has by two names. Offsets are of 64 bits, as sizes are, and one below 0 is refused as too large.
 ALIKE = {"wkt_status": "u32", "uint32_t": "u32", "uint8_t": "u8", "size_t": "64", "int64_t": "64", "int": "c_int",
-         "usize": "64", "i64": "64"}
+         "usize": "64", "i64": "64", "uint64_t": "64", "u64": "64"}
 EXPORT = r'extern "C" fn (wkt_\w+)\(([^()]*)\)\s*->\s*u32'
 STRUCT = r"#\[repr\(C\)\]\s*#\[derive[^\n]*\s*pub struct (?P<name>\w+) \{(?P<body>.*?)\}"
 # A list in parentheses behind a comma.
@@ -167,8 +171,10 @@ CHANGES = [
     (EXPORTS[0], "same: &mut u32,\n    end: &mut usize,", "end: &mut usize,\n    same: &mut u32,"),
     (EXPORTS[1], "numbers: &[i64],", "numbers: &mut [i64],"),
     (EXPORTS[2], "stop: &mut usize,", "stop: &mut u32,"),
+    (EXPORTS[3], "number_count: &mut usize,", "number_count: &mut u32,"),
     (SIZES[0], "pub kind: u32,", "pub kind: usize,"),
     (SIZES[1], "pub rings: usize,", "pub ring_count: usize,"),
+    (SIZES[2], "pub low: u64,", "pub low: u32,"),
 ]
 
 

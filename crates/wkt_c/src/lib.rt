@@ -14,6 +14,7 @@ mod column_texts;
 mod dialects;
 mod exports;
 mod exports_arrays;
+mod exports_events;
 mod exports_explain;
 mod joined;
 mod lines;
