@@ -17,36 +17,37 @@ use Rattle.wkt_fill.specs.EventLists.{Told, untold, add, ends, begins, whole, be
 use Rattle.wkt_fill.proofs.EventsToArrays.{point-fits}
 
 -- More of both lists, and so many coordinates of a list that is open.
+abbrev made_of : List ℕ → List ℤ → ℕ → Dimension → Told
+made_of l k n d = record { list = l; numbers = k; coordinates = n; dimension = d }
+
 abbrev told : List ℕ → List ℤ → Told → Told
-told es ns w = record { list = w.list ++ es; numbers = w.numbers ++ ns; coordinates = 0; dimension = w.dimension }
+told es ns w = made_of (w.list ++ es) (w.numbers ++ ns) 0 w.dimension
 
 abbrev numbered : List ℤ → ℕ → Told → Told
-numbered ns n w = record { list = w.list; numbers = w.numbers ++ ns; coordinates = n; dimension = w.dimension }
+numbered ns n w = made_of w.list (w.numbers ++ ns) n w.dimension
 
 told-more : (es fs : List ℕ) (ns ms : List ℤ) (w : Told) → told fs ms (told es ns w) ≡ told (es ++ fs) (ns ++ ms) w
-told-more es fs ns ms w = ap₂ (λ l k. record { list = l; numbers = k; coordinates = 0; dimension = w.dimension }) (append_assoc w.list es fs) (append_assoc w.numbers ns ms)
+told-more es fs ns ms w = ap₂ (λ (l : List ℕ) (k : List ℤ). made_of l k 0 w.dimension) (append_assoc w.list es fs) (append_assoc w.numbers ns ms)
 
 told-none : (w : Told) → w.coordinates ≡ 0 → told [] [] w ≡ w
-told-none w z =
-    ap₂ (λ l k. record { list = l; numbers = k; coordinates = 0; dimension = w.dimension }) (append-nil w.list) (append-nil w.numbers)
-    ∙ ap (λ n. record { list = w.list; numbers = w.numbers; coordinates = n; dimension = w.dimension }) (sym z)
+told-none w z = ap₂ (λ (l : List ℕ) (k : List ℤ). made_of l k 0 w.dimension) (append-nil w.list) (append-nil w.numbers) ∙ ap (λ (n : ℕ). made_of w.list w.numbers n w.dimension) (sym z)
 
 numbered-more : (ns ms : List ℤ) (k n m : ℕ) (w : Told) → n ≡ m → numbered ms n (numbered ns k w) ≡ numbered (ns ++ ms) m w
-numbered-more ns ms k n m w e = ap₂ (λ l c. record { list = w.list; numbers = l; coordinates = c; dimension = w.dimension }) (append_assoc w.numbers ns ms) e
+numbered-more ns ms k n m w e = ap₂ (λ (l : List ℤ) (c : ℕ). made_of w.list l c w.dimension) (append_assoc w.numbers ns ms) e
 
 numbered-none : (n : ℕ) (w : Told) → n ≡ w.coordinates → numbered [] n w ≡ w
-numbered-none n w e = ap₂ (λ l c. record { list = w.list; numbers = l; coordinates = c; dimension = w.dimension }) (append-nil w.numbers) e
+numbered-none n w e = ap₂ (λ (l : List ℤ) (c : ℕ). made_of w.list l c w.dimension) (append-nil w.numbers) e
 
 -- a list of coordinates that ends
 list-ends : (ns : List ℤ) (n : ℕ) (w : Told) → w.coordinates ≡ 0 → end_list (numbered ns (w.coordinates + n) w) ≡ told (n ∷ []) ns w
-list-ends ns n w z = ap (λ k. told (k ∷ []) ns w) {x = w.coordinates + n} {y = n} (omega (arith, z))
+list-ends ns n w z = let same : w.coordinates + n ≡ n = omega (arith, z) in ap (λ (k : ℕ). told (k ∷ []) ns w) same
 
 -- the numbers of a coordinate
 joins : (ns : List ℤ) (c : List ℤ) (x : ℤ) → (ns ++ c) ++ (x ∷ []) ≡ ns ++ (c ++ (x ∷ []))
 joins ns c x = append_assoc ns c (x ∷ [])
 
-same-told : (w : Told) (n : ℕ) (l k : List ℤ) → l ≡ k → record { list = w.list; numbers = l; coordinates = n; dimension = w.dimension } ≡ record { list = w.list; numbers = k; coordinates = n; dimension = w.dimension }
-same-told w n l k e = ap (λ l. record { list = w.list; numbers = l; coordinates = n; dimension = w.dimension }) e
+same-told : (w : Told) (n : ℕ) (l k : List ℤ) → l ≡ k → made_of w.list l n w.dimension ≡ made_of w.list k n w.dimension
+same-told w n l k e = ap (λ (x : List ℤ). made_of w.list x n w.dimension) e
 
 coordinate-told : (d : Dimension) (c : List ℤ) (w : Told) → length c ≡ size d → tell_all (numbers d c) w ≡ numbered c (w.coordinates + 1) w
 coordinate-told XY (x ∷ y ∷ []) w e = same-told w (w.coordinates + 1) _ _ (joins w.numbers (x ∷ []) y)
@@ -110,7 +111,7 @@ pub record Tells (w : Told) (es : List ℕ) (ns : List ℤ) (u : Told) : Type 0 
 closes : (l : List ℕ) (b : ℕ) (es : List ℕ) (e : ℕ) → ((l ++ (b ∷ [])) ++ es) ++ (e ∷ []) ≡ l ++ (b ∷ (es ++ (e ∷ [])))
 closes l b es e = append_assoc (l ++ (b ∷ [])) es (e ∷ []) ∙ append_assoc l (b ∷ []) (es ++ (e ∷ []))
 
-closed : (p : Part) (k : GeometryType) (d : Dimension) (es : List ℕ) (ns : List ℤ) (w u : Told) → begin p d w ≡ record { list = w.list ++ (begins k d ∷ []); numbers = w.numbers; coordinates = w.coordinates; dimension = d } →
+closed : (p : Part) (k : GeometryType) (d : Dimension) (es : List ℕ) (ns : List ℤ) (w u : Told) → begin p d w ≡ made_of (w.list ++ (begins k d ∷ [])) w.numbers w.coordinates d →
     u ≡ add ends (told es ns (begin p d w)) → Tells w (whole k d es) ns u
 closed p k d es ns w u b e = record {
   list = ap (λ (t : Told). t.list) e ∙ ap (λ (t : Told). (t.list ++ es) ++ (ends ∷ [])) b ∙ closes w.list (begins k d) es ends;
@@ -131,9 +132,8 @@ module _ (P : ℤ → Type 0) (d : Dimension) where
       → tell_all (listed part.Area (listed part.AreaRing (numbers d)) rs) w ≡ told (whole kind.Polygon d (map length rs)) (numbers_in rs) w
   area-told rs fit w r =
       items-told d part.Area (listed part.AreaRing (numbers d)) (λ cs. length cs ∷ []) joined (LineStringFits P d) (ring-told part.AreaRing (λ w. refl) (λ w. refl)) rs fit w r
-      ∙ ap₂ (λ l k. record { list = l; numbers = w.numbers ++ numbers_in rs; coordinates = 0; dimension = w.dimension })
+      ∙ ap (λ (l : List ℕ). made_of l (w.numbers ++ numbers_in rs) 0 w.dimension)
       (ap₂ (λ (b : Dimension) (l : List ℕ). ((w.list ++ (begins kind.Polygon b ∷ [])) ++ l) ++ (ends ∷ [])) r.1 (ones length rs) ∙ closes w.list (begins kind.Polygon d) (map length rs) ends)
-      (refl {x = 0})
 
 -- the members of a collection, whose parenthesis tells nothing
 geometries-same : (vs : Values ℤ) (w : Told) → tell_all (geometries vs) w ≡ tell_all (members vs) w
