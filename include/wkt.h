@@ -341,8 +341,8 @@ typedef struct {
  * {begin Point, 0, end} with none. capi/examples/tree.c prints them.
  * WKT_OK: the lists are at the fronts of events and numbers, whose other items are unchanged; *event_count and
  * *number_count say how long they are, and *end where the geometry ends in the text. Either list is at most half as long as
- * the text: buffers of text_len / 2 items are never too small. WKT_TOO_SMALL: all three are set. 1..14, 20, 23, and
- * WKT_NOT_WHOLE, with WKT_WHOLE: all three are set. After any status but WKT_OK both buffers are unspecified.
+ * the text: buffers of text_len / 2 items are never too small. WKT_TOO_SMALL, and WKT_NOT_WHOLE, with WKT_WHOLE: all three
+ * are set. 1..14, 20, 23. After any status but WKT_OK both buffers are unspecified.
  * Each text that wkt_canonical accepts with as many places has its lists. They are of the value as it is read, as those of
  * wkt_arrays are. It takes no memory. */
 wkt_status wkt_read_events(const uint8_t *text, size_t text_len, uint32_t places,
