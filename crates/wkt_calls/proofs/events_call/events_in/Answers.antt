@@ -1,8 +1,11 @@
 -- The lists stand in the rooms, or one of these has no room.
-use Rattle.std.proofs.Common.{◌≡◌, arith, inl, inr, refl}
-use Rattle.wkt_calls.specs.Answer.{with_front}
+use Rattle.std.proofs.Common.{rules, ◌≡◌, ◌∙◌, List, arith, inl, inr}
 use Rattle.wkt_calls.proofs.events_call.events_in.Goals as goal
 use Rattle.wkt_calls.proofs.events_call.events_in.Goals.{then-told-events-via-then-told-events, then-told-events-via-else-told-events+then-read-numbers}
+
+-- what was lent is what came back
+came-back : {A : Type 0} (now back list : List A) → back ≡ list → now ≡ back → now ≡ list
+came-back now back list e is = is ∙ e
 
 pub returns-then-told-events-clause-small : goal.returns-then-told-events-clause-small
 returns-then-told-events-clause-small c = λ _.
@@ -24,4 +27,4 @@ returns-else-read-numbers-clause-written c = λ _.
     let numbers = answers.counted.numbers in
     let e = answers.events_in (omega (arith, events)) in
     let n = answers.numbers_in (omega (arith, numbers)) in
-    record { counted = answers.counted; events_in = cc (e); numbers_in = cc (n) }
+    record { counted = answers.counted; events_in = came-back _ _ _ e (search rules); numbers_in = came-back _ _ _ n (search rules) }
