@@ -8,9 +8,8 @@ use Rattle.wkt_machine.specs.Events.{Event}
 use Rattle.wkt_machine.specs.declared.part.Axis.{Axis}
 use Rattle.wkt_machine.specs.declared.part.Axis.TheVariants as axis
 use Rattle.wkt_machine.specs.declared.part.Part.{Part}
-use Rattle.wkt_machine.specs.declared.part.Part.TheVariants as part
 use Rattle.wkt_fill.specs.Filled.{counted, kind_of_part}
-use Rattle.wkt_fill.specs.EventLists.{Told, IsAtFront, AreFew, HoldsTold, Holds, Becomes, halves, add, begin, begin_part, begins, end_list, push, untold, tell_all}
+use Rattle.wkt_fill.specs.EventLists.{Told, IsAtFront, AreFew, HoldsTold, Holds, Becomes, halves, add, begin, begins, end_list, push, tell_all}
 use Rattle.wkt_fill.specs.declared.units.WktUnits.{WktUnits}
 use Rattle.wkt_fill.specs.declared.event_writer.EventWriter.{EventWriter}
 

@@ -1,19 +1,18 @@
 -- What the events of a value tell is its lists.
-use Rattle.std.proofs.Common.{◌≡◌, ◌+◌, ℕ, ℤ, List, [], ◌∷◌, ◌++◌, length, map, flat_map, refl, sym, ap, ap₂, ◌∙◌, append_assoc, arith, option_to_list, Option, subst}
-use Rattle.std.specs.Prelude.{Some, None}
+use Rattle.std.proofs.Common.{◌≡◌, ◌+◌, ℕ, ℤ, List, [], ◌∷◌, ◌++◌, length, map, flat_map, refl, sym, ap, ap₂, ◌∙◌, append_assoc, arith, option_to_list, Option}
 use Rattle.std.specs.List.{AllByRecursion}
 use Rattle.std.proofs.lemmas.List.{append-nil}
 use Rattle.wkt_access.specs.declared.dimensions.Dimension.{Dimension}
 use Rattle.wkt_access.specs.declared.dimensions.Dimension.TheVariants.{XY, XYZ, XYM, XYZM}
 use Rattle.wkt_access.specs.Values.{size, Value, Values}
-use Rattle.wkt_access.specs.WellFormed.{CoordFits, LineStringFits, PolygonFits, PointFits, IsWellFormed, AreWellFormed}
+use Rattle.wkt_access.specs.WellFormed.{LineStringFits, PolygonFits, PointFits, IsWellFormed, AreWellFormed}
 use Rattle.wkt_types.specs.declared.geometry_type.GeometryType.{GeometryType}
 use Rattle.wkt_types.specs.declared.geometry_type.GeometryType.TheVariants as kind
 use Rattle.wkt_machine.specs.declared.part.Part.{Part}
 use Rattle.wkt_machine.specs.declared.part.Part.TheVariants as part
 use Rattle.wkt_machine.specs.Events.{Event, numbers, further, listed, perhaps, geometries, members, events}
 use Rattle.wkt_fill.specs.Arrays.{joined, numbers_in}
-use Rattle.wkt_fill.specs.EventLists.{Told, untold, add, ends, begins, whole, begin, begin_part, end_part, end_list, tell_all, tell-append, event_list, event_lists, number_list, number_lists}
+use Rattle.wkt_fill.specs.EventLists.{Told, add, ends, begins, whole, begin, begin_part, end_part, end_list, tell_all, tell-append, event_list, event_lists, number_list, number_lists}
 use Rattle.wkt_fill.proofs.EventsToArrays.{point-fits}
 
 -- More of both lists, and so many coordinates of a list that is open.

@@ -1,5 +1,5 @@
 -- The lists of the front of a text are in the rooms.
-use Rattle.std.proofs.Common.{◌≡◌, ◌+◌, ◌-◌, ◌^◌, ◌≤◌, ℕ, ℤ, List, length, refl, sym, ap, ◌∙◌, subst, arith, Option, Some}
+use Rattle.std.proofs.Common.{◌≡◌, ◌-◌, ◌^◌, ◌≤◌, ℕ, ℤ, List, length, refl, sym, ap, subst, arith, Option, Some}
 use Rattle.std.specs.Prelude.{IsUtf8, IfSome}
 use Rattle.wkt_num.specs.Decimal.{read_decimal, IsUnits}
 use Rattle.wkt_num.specs.DecimalLaws.{decimal_reads_values}
@@ -11,7 +11,7 @@ use Rattle.wkt_read.specs.Front.{Front}
 use Rattle.wkt_read.proofs.OneForm.{geometry_fits}
 use Rattle.wkt_events.proofs.Utf8Lines.{text-with-front, text-behind-front}
 use Rattle.wkt_machine.specs.Events.{events}
-use Rattle.wkt_fill.specs.EventLists.{Told, untold, AreFew, HoldsTold, Holds, Becomes, halves, tell_all, event_list, number_list, HasLists, WritesFront}
+use Rattle.wkt_fill.specs.EventLists.{untold, AreFew, HoldsTold, Holds, Becomes, halves, tell_all, event_list, number_list, HasLists, WritesFront}
 use Rattle.wkt_fill.specs.declared.event_writer.EventWriter.{EventWriter}
 use Rattle.wkt_fill.specs.declared.event_writer.EventRoom.{EventRoom}
 use Rattle.wkt_fill.specs.declared.front_events.EventCounts.{EventCounts}

@@ -1,5 +1,5 @@
 -- What was written is of the front, or the text has none.
-use Rattle.std.proofs.Common.{◌≡◌, ap, sym, subst, arith, length, false, refl, IsUtf8, ◌∙◌}
+use Rattle.std.proofs.Common.{ap, sym, subst, arith, length, false, refl, IsUtf8, ◌∙◌}
 use Rattle.wkt_num.specs.Decimal.{read_decimal}
 use Rattle.wkt_read.proofs.OnePlacing.{spanned-few}
 use Rattle.wkt_machine.specs.View.{bytes_view}
