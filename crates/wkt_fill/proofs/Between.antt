@@ -75,10 +75,10 @@ module _ {A : Type 0} (item : ℕ → A) (offs : List ℕ) (up : Ascend offs) wh
 
 -- ---- the other way round: lists that have these offsets are those between them
 
-same-front : {A : Type 0} (xs ys us vs : List A) → length xs ≡ length us → xs ++ ys ≡ us ++ vs → xs ≡ us
+pub same-front : {A : Type 0} (xs ys us vs : List A) → length xs ≡ length us → xs ++ ys ≡ us ++ vs → xs ≡ us
 same-front xs ys us vs long e = sym (take_at xs ys (length xs) refl) ∙ ap (λ l. take (length xs) l) e ∙ take_at us vs (length xs) (sym long)
 
-same-back : {A : Type 0} (xs ys us vs : List A) → length xs ≡ length us → xs ++ ys ≡ us ++ vs → ys ≡ vs
+pub same-back : {A : Type 0} (xs ys us vs : List A) → length xs ≡ length us → xs ++ ys ≡ us ++ vs → ys ≡ vs
 same-back xs ys us vs long e = sym (drop_at xs ys (length xs) refl) ∙ ap (λ l. drop (length xs) l) e ∙ drop_at us vs (length xs) (sym long)
 
 head-of : (offs : List ℕ) (i m : ℕ) (ms : List ℕ) → drop i offs ≡ m ∷ ms → (slice_index offs i ≡ m) × (drop (i + 1) offs ≡ ms)
@@ -229,7 +229,7 @@ all-joined P [] h = tt
 all-joined P (xs ∷ xss) h = all-append P xs (joined xss) h.0 (all-joined P xss h.1)
 
 module _ (is_value : ℤ → Type 0) (d : Dimension) where
-  sizes : (cs : List (List ℤ)) → LineStringFits is_value d cs → AllByRecursion (HasSize d) cs
+  pub sizes : (cs : List (List ℤ)) → LineStringFits is_value d cs → AllByRecursion (HasSize d) cs
   sizes [] h = tt
   sizes (c ∷ cs) h = (h.0.1, sizes cs h.1)
 

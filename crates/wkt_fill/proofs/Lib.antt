@@ -7,3 +7,4 @@ pub mod Costs
 pub mod EventsTold
 pub mod EventRooms
 pub mod EventsWritten
+pub mod ListsBack
