@@ -1,8 +1,10 @@
 //! Why a call has no answer.
 use crate::excerpt::Excerpt;
 use crate::ffi;
+use crate::kinds::GeometryType;
 use crate::names::{self, EXPECTED, HEADER_MESSAGES, HINTS};
 use crate::text::own_text;
+use std::convert::Infallible;
 use std::fmt;
 
 /// Why a call has no answer.
@@ -29,8 +31,17 @@ pub enum Error {
     TooLong,
     /// The library is built for another processor ([`is_supported`](crate::is_supported)).
     NotSupported,
-    /// The geometry has no form in the types of another crate; the words say why.
+    /// The geometry has no form in the types that are asked for; the words say why.
     NoForm(&'static str),
+    /// The geometry is of another kind than was asked for.
+    MismatchedGeometry {
+        /// The kind that was asked for.
+        expected: GeometryType,
+        /// The kind that it is of.
+        found: GeometryType,
+    },
+    /// A reader failed.
+    Reader(std::io::ErrorKind),
     /// Another status of `include/wkt.h`, as a later library may have. It is shown by that library's words.
     Other(u32),
 }
@@ -75,6 +86,10 @@ impl fmt::Display for Error {
         let status = match self {
             Error::Refused(refusal) => return refusal.fmt(f),
             Error::NoForm(words) => return f.write_str(words),
+            Error::MismatchedGeometry { expected, found } => {
+                return write!(f, "A {expected} was expected, and not a {found}")
+            }
+            Error::Reader(kind) => return write!(f, "The reader failed: {kind}"),
             Error::NotUtf8 => names::NOT_UTF8,
             Error::NoMemory => names::NO_MEMORY,
             Error::NoPlaces => names::NO_PLACES,
@@ -95,6 +110,12 @@ impl fmt::Display for Error {
 
 impl std::error::Error for Error {}
 
+impl From<Infallible> for Error {
+    fn from(never: Infallible) -> Error {
+        match never {}
+    }
+}
+
 impl From<Error> for std::io::Error {
     fn from(error: Error) -> std::io::Error {
         let kind = match error {
@@ -102,6 +123,7 @@ impl From<Error> for std::io::Error {
             Error::NoPlaces => std::io::ErrorKind::InvalidInput,
             Error::NotSupported => std::io::ErrorKind::Unsupported,
             Error::Other(_) => std::io::ErrorKind::Other,
+            Error::Reader(kind) => kind,
             _ => std::io::ErrorKind::InvalidData,
         };
         std::io::Error::new(kind, error)

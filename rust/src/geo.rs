@@ -1,17 +1,33 @@
-//! Conversions from and to the types of the crate `geo-types`, over `f64`.
+//! Conversions from and to the types of the crate `geo-types`, over `f64` and `i64`.
+//!
+//! As in the crate `wkt`, z and m are left out, and an empty point is an empty `MultiPoint`, since a point of geo-types has
+//! coordinates.
+//!
+//! ```
+//! use geo_types::{point, Geometry, Point};
+//! use wkt_proved::{ToWkt, TryFromWkt};
+//!
+//! let point = Point::try_from_wkt_str("POINT(1 2.50)")?;
+//! assert_eq!(point, point!(x: 1.0, y: 2.5));
+//! assert_eq!(Geometry::from(point).wkt_string(), "POINT(1 2.5)");
+//! # Ok::<(), wkt_proved::Error>(())
+//! ```
+use crate::convert::{text_of, ToWkt, TryFromWkt};
 use crate::error::Error;
+use crate::kinds::Dimension::XY;
+use crate::number::WktNum;
+use crate::read::read;
 use crate::text::canonical;
-use geo_types::{
-    Geometry, GeometryCollection, LineString, MultiLineString, MultiPoint, MultiPolygon, Point,
+use crate::types::{
+    Coord, GeometryCollection, LineString, MultiLineString, MultiPoint, MultiPolygon, Point,
     Polygon,
 };
-use std::fmt::Write;
+use crate::wkt::Wkt;
+use crate::write::{ascii, Written};
+use geo_types::{CoordNum, Geometry};
+use std::io::Read;
 
-// How deep collections may stand in one another: writing, reading and dropping them take stack for each level.
-const MOST_LEVELS: usize = 200;
-const TOO_DEEP: Error = Error::NoForm("Collections stand in one another more than 200 deep");
-const EMPTY_POINT: Error = Error::NoForm("A member of a MultiPoint of geo-types can't be empty");
-const NO_FORM: Error = Error::NoForm("The text has no form in geo-types");
+const EMPTY_POINT: Error = Error::NoForm("A point of geo-types can't be empty");
 
 /// The canonical text of a geometry. A Line is written as a line string, a Rect and a Triangle as polygons.
 ///
@@ -28,100 +44,12 @@ const NO_FORM: Error = Error::NoForm("The text has no form in geo-types");
 ///
 /// # Errors
 /// [`Refused`](Error::Refused), with the place in the text that it writes first: a coordinate is NaN or infinite, has more
-/// than `places` digits after the point, or is too large. `NoForm`: more than 200 collections stand in one another.
-/// `NoPlaces`, `NoMemory`.
+/// than `places` digits after the point, or is too large. `NoPlaces`, `NoMemory`.
 pub fn to_text(geometry: &Geometry<f64>, places: u32) -> Result<String, Error> {
-    let mut text = String::new();
-    write_geometry(&mut text, geometry, 0)?;
-    canonical(&text, places)
+    canonical(ascii(&geometry.to_wkt().written()), places)
 }
 
-/// Writes members in parentheses, or EMPTY.
-fn write_list<T>(
-    text: &mut String,
-    members: impl IntoIterator<Item = T>,
-    mut write_one: impl FnMut(&mut String, T) -> Result<(), Error>,
-) -> Result<(), Error> {
-    let mut begin = '(';
-    for member in members {
-        text.push(begin);
-        write_one(text, member)?;
-        begin = ',';
-    }
-    text.push_str(if begin == '(' { " EMPTY" } else { ")" });
-    Ok(())
-}
-
-fn write_point(text: &mut String, at: Point<f64>) -> Result<(), Error> {
-    write!(text, "{} {}", at.x(), at.y()).map_err(|_| Error::NoMemory)
-}
-
-fn write_line(text: &mut String, line: &LineString<f64>) -> Result<(), Error> {
-    write_list(text, line.points(), write_point)
-}
-
-fn write_polygon(text: &mut String, polygon: &Polygon<f64>) -> Result<(), Error> {
-    let exterior = Some(polygon.exterior()).filter(|ring| !ring.0.is_empty());
-    let rings = exterior.into_iter().chain(
-        exterior
-            .and(Some(polygon.interiors()))
-            .into_iter()
-            .flatten(),
-    );
-    write_list(text, rings, write_line)
-}
-
-fn write_geometry(text: &mut String, geometry: &Geometry<f64>, level: usize) -> Result<(), Error> {
-    let mut begin = |word| text.push_str(word);
-    match geometry {
-        Geometry::Point(point) => {
-            begin("POINT");
-            write_list(text, [*point], write_point)
-        }
-        Geometry::Line(line) => {
-            begin("LINESTRING");
-            write_list(text, [line.start_point(), line.end_point()], write_point)
-        }
-        Geometry::LineString(line) => {
-            begin("LINESTRING");
-            write_line(text, line)
-        }
-        Geometry::Polygon(polygon) => {
-            begin("POLYGON");
-            write_polygon(text, polygon)
-        }
-        Geometry::Rect(rect) => {
-            begin("POLYGON");
-            write_polygon(text, &rect.to_polygon())
-        }
-        Geometry::Triangle(triangle) => {
-            begin("POLYGON");
-            write_polygon(text, &triangle.to_polygon())
-        }
-        Geometry::MultiPoint(points) => {
-            begin("MULTIPOINT");
-            write_list(text, points.0.iter().copied(), write_point)
-        }
-        Geometry::MultiLineString(lines) => {
-            begin("MULTILINESTRING");
-            write_list(text, &lines.0, write_line)
-        }
-        Geometry::MultiPolygon(polygons) => {
-            begin("MULTIPOLYGON");
-            write_list(text, &polygons.0, write_polygon)
-        }
-        Geometry::GeometryCollection(_) if level == MOST_LEVELS => Err(TOO_DEEP),
-        Geometry::GeometryCollection(members) => {
-            begin("GEOMETRYCOLLECTION");
-            write_list(text, &members.0, |text, member| {
-                write_geometry(text, member, level + 1)
-            })
-        }
-    }
-}
-
-/// The geometry that a text is. Each number becomes the nearest `f64`. As in the crate `wkt`, z and m are left out, and an
-/// empty point is an empty `MultiPoint`, since a point of geo-types has coordinates.
+/// The geometry that a text is, whose numbers have up to `places` digits after the point. Each becomes the nearest `f64`.
 ///
 /// ```
 /// use geo_types::{point, Geometry};
@@ -135,108 +63,203 @@ fn write_geometry(text: &mut String, geometry: &Geometry<f64>, level: usize) -> 
 /// [`Refused`](Error::Refused), as of [`canonical`]. `NoForm`: a member of a multipoint is empty, or more than 200 collections
 /// stand in one another. `NoPlaces`, `NoMemory`.
 pub fn from_text(text: &str, places: u32) -> Result<Geometry<f64>, Error> {
-    let canonical = canonical(text, places)?;
-    Reader { rest: &canonical }.geometry(0)
+    read::<f64>(text, places)?.try_into()
 }
 
-/// Reads a canonical text, which the library wrote.
-struct Reader<'a> {
-    rest: &'a str,
+impl<T: CoordNum> TryFrom<Point<T>> for geo_types::Point<T> {
+    type Error = Error;
+
+    fn try_from(point: Point<T>) -> Result<Self, Error> {
+        let coord = point.coord().ok_or(EMPTY_POINT)?;
+        Ok(Self::new(coord.x, coord.y))
+    }
 }
 
-impl<'a> Reader<'a> {
-    /// Takes these characters, if they come next.
-    fn takes(&mut self, text: &str) -> bool {
-        match self.rest.strip_prefix(text) {
-            Some(rest) => {
-                self.rest = rest;
-                true
+impl<T: CoordNum> From<LineString<T>> for geo_types::LineString<T> {
+    fn from(line: LineString<T>) -> Self {
+        line.coords().iter().map(|at| (at.x, at.y)).collect()
+    }
+}
+
+impl<T: CoordNum> From<Polygon<T>> for geo_types::Polygon<T> {
+    fn from(polygon: Polygon<T>) -> Self {
+        let mut rings = polygon.into_inner().0.into_iter().map(Into::into);
+        let exterior = rings
+            .next()
+            .unwrap_or_else(|| geo_types::LineString(Vec::new()));
+        Self::new(exterior, rings.collect())
+    }
+}
+
+impl<T: CoordNum> TryFrom<MultiPoint<T>> for geo_types::MultiPoint<T> {
+    type Error = Error;
+
+    fn try_from(points: MultiPoint<T>) -> Result<Self, Error> {
+        let points = points.into_inner().0.into_iter().map(TryInto::try_into);
+        Ok(Self(points.collect::<Result<_, _>>()?))
+    }
+}
+
+impl<T: CoordNum> From<MultiLineString<T>> for geo_types::MultiLineString<T> {
+    fn from(lines: MultiLineString<T>) -> Self {
+        Self(lines.into_inner().0.into_iter().map(Into::into).collect())
+    }
+}
+
+impl<T: CoordNum> From<MultiPolygon<T>> for geo_types::MultiPolygon<T> {
+    fn from(polygons: MultiPolygon<T>) -> Self {
+        Self(
+            polygons
+                .into_inner()
+                .0
+                .into_iter()
+                .map(Into::into)
+                .collect(),
+        )
+    }
+}
+
+impl<T: CoordNum> TryFrom<GeometryCollection<T>> for geo_types::GeometryCollection<T> {
+    type Error = Error;
+
+    fn try_from(members: GeometryCollection<T>) -> Result<Self, Error> {
+        let members = members.into_inner().0.into_iter().map(TryInto::try_into);
+        Ok(Self(members.collect::<Result<_, _>>()?))
+    }
+}
+
+impl<T: CoordNum> TryFrom<Wkt<T>> for Geometry<T> {
+    type Error = Error;
+
+    fn try_from(wkt: Wkt<T>) -> Result<Self, Error> {
+        Ok(match wkt {
+            Wkt::Point(point) if point.coord().is_none() => {
+                Self::MultiPoint(geo_types::MultiPoint(Vec::new()))
             }
-            None => false,
-        }
-    }
-
-    /// The characters up to one of these ends, which stays.
-    fn until(&mut self, ends: &[char]) -> &'a str {
-        let at = self.rest.find(ends).unwrap_or(self.rest.len());
-        let (front, rest) = self.rest.split_at(at);
-        self.rest = rest;
-        front
-    }
-
-    /// A number, and the space before it.
-    fn number(&mut self) -> Result<f64, Error> {
-        self.takes(" ");
-        self.until(&[' ', ',', ')']).parse().map_err(|_| NO_FORM)
-    }
-
-    /// The numbers x and y; what follows them in the coordinate is left out.
-    fn coord(&mut self) -> Result<(f64, f64), Error> {
-        let at = (self.number()?, self.number()?);
-        self.until(&[',', ')']);
-        Ok(at)
-    }
-
-    /// The members in parentheses, or none of EMPTY.
-    fn list<T>(
-        &mut self,
-        mut one: impl FnMut(&mut Self) -> Result<T, Error>,
-    ) -> Result<Vec<T>, Error> {
-        let mut members = Vec::new();
-        if self.takes("EMPTY") {
-            return Ok(members);
-        }
-        while self.takes("(") || self.takes(",") {
-            members.push(one(self)?);
-        }
-        if self.takes(")") {
-            Ok(members)
-        } else {
-            Err(NO_FORM)
-        }
-    }
-
-    fn line(&mut self) -> Result<LineString<f64>, Error> {
-        self.list(Self::coord).map(LineString::from)
-    }
-
-    fn polygon(&mut self) -> Result<Polygon<f64>, Error> {
-        let mut rings = self.list(Self::line)?.into_iter();
-        let exterior = rings.next().unwrap_or_else(|| LineString(Vec::new()));
-        Ok(Polygon::new(exterior, rings.collect()))
-    }
-
-    /// A point, none where it is EMPTY; a member of a multipoint stands in parentheses.
-    fn point(&mut self) -> Result<Option<Point<f64>>, Error> {
-        let mut coords = self.list(Self::coord)?.into_iter();
-        Ok(coords.next().map(Point::from))
-    }
-
-    /// A member of a multipoint.
-    fn member(&mut self) -> Result<Point<f64>, Error> {
-        self.point()?.ok_or(EMPTY_POINT)
-    }
-
-    fn geometry(&mut self, level: usize) -> Result<Geometry<f64>, Error> {
-        let word = self.until(&[' ', '(']);
-        let _ = self.takes(" ZM") || self.takes(" Z") || self.takes(" M");
-        self.takes(" ");
-        Ok(match word {
-            "POINT" => match self.point()? {
-                Some(point) => point.into(),
-                None => MultiPoint(Vec::new()).into(),
-            },
-            "LINESTRING" => self.line()?.into(),
-            "POLYGON" => self.polygon()?.into(),
-            "MULTIPOINT" => MultiPoint(self.list(Self::member)?).into(),
-            "MULTILINESTRING" => MultiLineString(self.list(Self::line)?).into(),
-            "MULTIPOLYGON" => MultiPolygon(self.list(Self::polygon)?).into(),
-            "GEOMETRYCOLLECTION" if level == MOST_LEVELS => return Err(TOO_DEEP),
-            "GEOMETRYCOLLECTION" => {
-                let members = self.list(|reader| reader.geometry(level + 1))?;
-                Geometry::GeometryCollection(GeometryCollection(members))
-            }
-            _ => return Err(NO_FORM),
+            Wkt::Point(point) => Self::Point(point.try_into()?),
+            Wkt::LineString(line) => Self::LineString(line.into()),
+            Wkt::Polygon(polygon) => Self::Polygon(polygon.into()),
+            Wkt::MultiPoint(points) => Self::MultiPoint(points.try_into()?),
+            Wkt::MultiLineString(lines) => Self::MultiLineString(lines.into()),
+            Wkt::MultiPolygon(polygons) => Self::MultiPolygon(polygons.into()),
+            Wkt::GeometryCollection(members) => Self::GeometryCollection(members.try_into()?),
         })
+    }
+}
+
+/// What each of the types is made of.
+macro_rules! of_texts {
+    ($($name:ident),*) => { $(
+        impl<T: CoordNum + WktNum> TryFromWkt<T> for geo_types::$name<T> {
+            type Error = Error;
+
+            fn try_from_wkt_str(wkt_str: &str) -> Result<Self, Error> {
+                wkt_str.parse::<Wkt<T>>()?.try_into()
+            }
+
+            fn try_from_wkt_reader(wkt_reader: impl Read) -> Result<Self, Error> {
+                Self::try_from_wkt_str(&text_of(wkt_reader)?)
+            }
+        }
+    )* };
+}
+macro_rules! of_geometries {
+    ($($name:ident),*) => { $(
+        /// [`MismatchedGeometry`](Error::MismatchedGeometry) where it is of another kind.
+        impl<T: CoordNum> TryFrom<Wkt<T>> for geo_types::$name<T> {
+            type Error = Error;
+
+            fn try_from(wkt: Wkt<T>) -> Result<Self, Error> {
+                $name::try_from(wkt)?.try_into().map_err(Into::into)
+            }
+        }
+    )* };
+}
+of_geometries!(
+    Point,
+    LineString,
+    Polygon,
+    MultiPoint,
+    MultiLineString,
+    MultiPolygon,
+    GeometryCollection
+);
+of_texts!(
+    Geometry,
+    Point,
+    LineString,
+    Polygon,
+    MultiPoint,
+    MultiLineString,
+    MultiPolygon,
+    GeometryCollection
+);
+
+fn coord<T: CoordNum>((x, y): (T, T)) -> Coord<T> {
+    Coord {
+        x,
+        y,
+        z: None,
+        m: None,
+    }
+}
+
+fn point<T: CoordNum>(point: &geo_types::Point<T>) -> Point<T> {
+    Point::from_coord(coord(point.x_y()))
+}
+
+fn line<T: CoordNum>(line: &geo_types::LineString<T>) -> LineString<T> {
+    LineString::new(line.0.iter().map(|at| coord(at.x_y())).collect(), XY)
+}
+
+fn polygon<T: CoordNum>(polygon: &geo_types::Polygon<T>) -> Polygon<T> {
+    if polygon.exterior().0.is_empty() {
+        return Polygon::empty(XY);
+    }
+    let rings = std::iter::once(polygon.exterior()).chain(polygon.interiors());
+    Polygon::new(rings.map(line).collect(), XY)
+}
+
+/// How each of the types is a geometry of this crate.
+macro_rules! to_wkt {
+    ($($name:ident: $given:ident => $made:expr),* $(,)?) => { $(
+        impl<T: CoordNum + WktNum> ToWkt<T> for geo_types::$name<T> {
+            fn to_wkt(&self) -> Wkt<T> {
+                let $given = self;
+                $made.into()
+            }
+        }
+    )* };
+}
+to_wkt! {
+    Point: at => point(at),
+    Line: ends => LineString::new([ends.start, ends.end].map(|at| coord(at.x_y())).into(), XY),
+    LineString: coords => line(coords),
+    Polygon: rings => polygon(rings),
+    Rect: corners => polygon(&corners.to_polygon()),
+    Triangle: corners => polygon(&corners.to_polygon()),
+    MultiPoint: points => MultiPoint::new(points.0.iter().map(point).collect(), XY),
+    MultiLineString: lines => MultiLineString::new(lines.0.iter().map(line).collect(), XY),
+    MultiPolygon: polygons => MultiPolygon::new(polygons.0.iter().map(polygon).collect(), XY),
+    GeometryCollection: members => {
+        GeometryCollection::new(members.0.iter().map(ToWkt::to_wkt).collect(), XY)
+    },
+}
+
+/// A Line is a line string, a Rect and a Triangle are polygons.
+impl<T: CoordNum + WktNum> ToWkt<T> for Geometry<T> {
+    fn to_wkt(&self) -> Wkt<T> {
+        match self {
+            Geometry::Point(it) => it.to_wkt(),
+            Geometry::Line(it) => it.to_wkt(),
+            Geometry::LineString(it) => it.to_wkt(),
+            Geometry::Polygon(it) => it.to_wkt(),
+            Geometry::Rect(it) => it.to_wkt(),
+            Geometry::Triangle(it) => it.to_wkt(),
+            Geometry::MultiPoint(it) => it.to_wkt(),
+            Geometry::MultiLineString(it) => it.to_wkt(),
+            Geometry::MultiPolygon(it) => it.to_wkt(),
+            Geometry::GeometryCollection(it) => it.to_wkt(),
+        }
     }
 }

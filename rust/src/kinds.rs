@@ -47,11 +47,12 @@ impl fmt::Display for GeometryType {
     }
 }
 
-/// The numbers of a coordinate. Its number is that of `include/wkt.h`.
-#[derive(Debug, Clone, Copy, PartialEq, Eq, Hash)]
+/// The numbers of a coordinate; by default x and y. Its number is that of `include/wkt.h`.
+#[derive(Debug, Clone, Copy, Default, PartialEq, Eq, Hash)]
 #[non_exhaustive]
 pub enum Dimension {
     /// x and y.
+    #[default]
     XY,
     /// x, y and z.
     XYZ,
@@ -78,13 +79,18 @@ impl Dimension {
     /// How many numbers a coordinate has.
     #[must_use]
     pub fn size(self) -> usize {
-        2 + DIMENSION_WORDS[self as usize].len()
+        2 + self.word().len()
+    }
+
+    /// What stands after a kind word.
+    pub(crate) fn word(self) -> &'static str {
+        DIMENSION_WORDS[self as usize]
     }
 }
 
 /// What stands after a kind word: nothing, `Z`, `M` or `ZM`.
 impl fmt::Display for Dimension {
     fn fmt(&self, f: &mut fmt::Formatter<'_>) -> fmt::Result {
-        f.write_str(DIMENSION_WORDS[*self as usize])
+        f.write_str(self.word())
     }
 }

@@ -6,7 +6,7 @@ use std::ffi::CStr;
 use std::os::raw::c_char;
 
 /// Added to `places` for the C library: a text is to be one geometry as a whole.
-const WHOLE: u32 = 256;
+pub(crate) const WHOLE: u32 = 256;
 /// The most places that numbers have.
 const MOST_PLACES: u32 = 36;
 
@@ -49,11 +49,16 @@ pub(crate) fn written(
     }
 }
 
-/// The canonical text and where the geometry ends, or the status.
-pub(crate) fn canonical_at(text: &str, places: u32) -> Result<(String, usize), u32> {
-    let mut end = 0;
+/// Writes the canonical text, how much room it needs, and where the geometry ends; the status.
+pub(crate) fn canonical_into(
+    text: &[u8],
+    places: u32,
+    out: &mut [u8],
+    needed: &mut usize,
+    end: &mut usize,
+) -> u32 {
     // SAFETY: each pointer goes with the length of its slice, and nothing that is written is borrowed elsewhere.
-    let out = written(text.len() + 32, |out, needed| unsafe {
+    unsafe {
         ffi::wkt_canonical(
             text.as_ptr(),
             text.len(),
@@ -61,8 +66,16 @@ pub(crate) fn canonical_at(text: &str, places: u32) -> Result<(String, usize), u
             out.as_mut_ptr(),
             out.len(),
             needed,
-            &mut end,
+            end,
         )
+    }
+}
+
+/// The canonical text and where the geometry ends, or the status.
+pub(crate) fn canonical_at(text: &str, places: u32) -> Result<(String, usize), u32> {
+    let mut end = 0;
+    let out = written(text.len() + 32, |out, needed| {
+        canonical_into(text.as_bytes(), places, out, needed, &mut end)
     })?;
     Ok((out, end))
 }
@@ -186,7 +199,7 @@ pub fn explain(text: &str, places: u32) -> Result<Option<Refusal>, Error> {
 ///
 /// # Errors
 /// Each variant of [`InferError`] says when it comes.
-pub fn infer(text: &str) -> Result<(GeometryType, Dimension), InferError> {
+pub fn infer_type(text: &str) -> Result<(GeometryType, Dimension), InferError> {
     let (mut kind, mut dimension) = (0, 0);
     // SAFETY: the pointer goes with the length of its text, and nothing that is written is borrowed elsewhere.
     let status = unsafe { ffi::wkt_infer(text.as_ptr(), text.len(), &mut kind, &mut dimension) };

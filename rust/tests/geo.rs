@@ -2,10 +2,11 @@
 #![cfg(feature = "geo-types")]
 use geo_types::{
     coord, line_string, point, polygon, Geometry, GeometryCollection, Line, LineString,
-    MultiLineString, MultiPoint, MultiPolygon, Polygon, Rect, Triangle,
+    MultiLineString, MultiPoint, MultiPolygon, Point, Polygon, Rect, Triangle,
 };
 use wkt_proved::geo::{from_text, to_text};
-use wkt_proved::{Error, Hint};
+use wkt_proved::types::GeometryType;
+use wkt_proved::{Error, Hint, ToWkt, TryFromWkt, Wkt};
 
 fn each() -> Vec<(Geometry<f64>, &'static str)> {
     let square = polygon![
@@ -48,6 +49,9 @@ fn each() -> Vec<(Geometry<f64>, &'static str)> {
 fn both_ways() {
     for (geometry, text) in each() {
         assert_eq!(to_text(&geometry, 6).as_deref(), Ok(text));
+        assert_eq!(geometry.wkt_string(), text);
+        assert_eq!(Geometry::try_from_wkt_str(text).as_ref(), Ok(&geometry));
+        assert_eq!(geometry.to_wkt().try_into().as_ref(), Ok(&geometry));
         assert_eq!(from_text(text, 6), Ok(geometry), "{text}");
     }
 }
@@ -138,10 +142,37 @@ fn collections_in_one_another() {
     let deep = from_text(&nested(200), 6).unwrap();
     assert_eq!(to_text(&deep, 6), Ok(nested(200)));
     let deeper = Geometry::GeometryCollection(GeometryCollection(vec![deep]));
-    assert!(matches!(to_text(&deeper, 6), Err(Error::NoForm(_))));
+    assert_eq!(to_text(&deeper, 6), Ok(nested(201)));
     assert!(matches!(from_text(&nested(201), 6), Err(Error::NoForm(_))));
     assert!(matches!(
         from_text(&nested(100_000), 6),
         Err(Error::NoForm(_))
     ));
+}
+
+/// A type of its own for each kind, and numbers of both types.
+#[test]
+fn types() {
+    let line = line_string![(x: 1, y: 2), (x: 3, y: 4)];
+    let text = "LINESTRING(1 2,3 4)";
+    assert_eq!(LineString::try_from_wkt_str(text).as_ref(), Ok(&line));
+    assert_eq!(
+        LineString::try_from_wkt_reader(text.as_bytes()).as_ref(),
+        Ok(&line)
+    );
+    assert_eq!(line.wkt_string(), text);
+    let wkt: Wkt<i64> = line.to_wkt();
+    let error = Point::try_from(wkt).unwrap_err();
+    let (expected, found) = (GeometryType::Point, GeometryType::LineString);
+    assert_eq!(error, Error::MismatchedGeometry { expected, found });
+    let error = Point::<f64>::try_from_wkt_str("POINT EMPTY").unwrap_err();
+    assert!(matches!(error, Error::NoForm(_)));
+    let members = GeometryCollection::<i64>::try_from_wkt_str("GEOMETRYCOLLECTION(POINT(1 2))");
+    assert_eq!(
+        members,
+        Ok(GeometryCollection(vec![point!(x: 1, y: 2).into()]))
+    );
+    // A polygon without an exterior has no rings.
+    let empty = Polygon::new(LineString(vec![]), vec![line_string![(x: 1., y: 2.)]]);
+    assert_eq!(empty.wkt_string(), "POLYGON EMPTY");
 }

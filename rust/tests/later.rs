@@ -1,5 +1,5 @@
 //! What a later library may say that this crate has no name for. `rust/test.sh` runs it over one, by `later.c`.
-use wkt_proved::{canonical, explain, infer, message, Error, Expected, Hint, InferError};
+use wkt_proved::{canonical, explain, infer_type, message, Error, Expected, Hint, InferError};
 
 #[test]
 #[ignore = "it needs the library of later.c"]
@@ -18,8 +18,8 @@ fn a_later_library() {
         assert_eq!(error, Error::Other(status));
         assert_eq!(error.to_string(), shown);
     }
-    assert_eq!(infer("?"), Err(InferError::Call(Error::Other(34))));
-    let error = infer("!").unwrap_err();
+    assert_eq!(infer_type("?"), Err(InferError::Call(Error::Other(34))));
+    let error = infer_type("!").unwrap_err();
     assert!(matches!(error, InferError::Call(Error::NoForm(_))));
     assert_eq!((message(34), message(35)), ("A later status", ""));
     assert_eq!(canonical("POINT(1 2)", 6).as_deref(), Ok("POINT(1 2)"));

@@ -1,0 +1,266 @@
+//! Exact decimals.
+use crate::error::{Error, Hint};
+use crate::wkt::Wkt;
+use std::fmt;
+use std::str::FromStr;
+
+/// A decimal with up to `PLACES` digits after the point: a whole number of units of ten to the minus `PLACES`. Nothing is
+/// ever rounded.
+///
+/// ```
+/// use wkt_proved::Decimal;
+///
+/// let number: Decimal<6> = "+02.50".parse()?;
+/// assert_eq!(number.units(), 2_500_000);
+/// assert_eq!(number.to_string(), "2.5");
+/// assert_eq!(number.to_f64(), 2.5);
+/// # Ok::<(), wkt_proved::DecimalError>(())
+/// ```
+#[derive(Clone, Copy, Default, PartialEq, Eq, PartialOrd, Ord, Hash)]
+pub struct Decimal<const PLACES: u8> {
+    units: i128,
+}
+
+impl<const PLACES: u8> Decimal<PLACES> {
+    /// How many places: `PLACES`. Those of the library are at most 36, so a decimal of more isn't compiled.
+    pub const PLACES: u32 = {
+        assert!(PLACES <= 36, "decimals have at most 36 places");
+        PLACES as u32
+    };
+
+    /// The decimal of so many units.
+    #[must_use]
+    pub const fn from_units(units: i128) -> Self {
+        Decimal { units }
+    }
+
+    /// How many units it has.
+    #[must_use]
+    pub const fn units(self) -> i128 {
+        self.units
+    }
+
+    /// The nearest `f64`. If two are equally near, it is the one whose last bit is 0.
+    #[must_use]
+    pub fn to_f64(self) -> f64 {
+        nearest(self.units, Self::PLACES)
+    }
+}
+
+/// The nearest `f64` to so many units of ten to the minus `places`.
+#[allow(clippy::cast_precision_loss)]
+pub(crate) fn nearest(units: i128, places: u32) -> f64 {
+    let size = units.unsigned_abs();
+    let zeros = size.leading_zeros();
+    if places > 21 || size == 0 {
+        return units_text(units, places).parse().unwrap_or(f64::NAN);
+    }
+    // The quotient has 55 bits or more. Its last one says whether there is a remainder, too, so it is rounded as the exact
+    // quotient would be.
+    let shifted = size << zeros;
+    let unit = POWERS[places as usize];
+    let quotient = shifted / unit;
+    let rest = u128::from(quotient * unit != shifted);
+    let rounded = (quotient | rest) as f64 * f64::from_bits(u64::from(1023 - zeros) << 52);
+    if units < 0 {
+        -rounded
+    } else {
+        rounded
+    }
+}
+
+const POWERS: [u128; 37] = {
+    let mut powers = [1; 37];
+    let mut at = 1;
+    while at < powers.len() {
+        powers[at] = 10 * powers[at - 1];
+        at += 1;
+    }
+    powers
+};
+
+// A sign, a point and all digits.
+const MOST_DIGITS: usize = 41;
+
+/// Adds so many units of ten to the minus `places` as a decimal.
+#[inline]
+pub(crate) fn push_units(text: &mut Vec<u8>, units: i128, places: u32) {
+    let unit = POWERS[places as usize];
+    let size = units.unsigned_abs();
+    // Ten is two times five, and a division of 64 bits is faster.
+    let whole = match u64::try_from(size >> places) {
+        Ok(half) if places <= 27 => u128::from(half / 5_u64.pow(places)),
+        _ => size / unit,
+    };
+    // From the last digit on.
+    let mut digits = [b'0'; MOST_DIGITS];
+    let mut begin = MOST_DIGITS;
+    if size != whole * unit {
+        let (fraction, places) = without_zeros(size - whole * unit, places as usize);
+        begin = put_digits(&mut digits, begin, fraction, places) - 1;
+        digits[begin] = b'.';
+    }
+    begin = put_digits(&mut digits, begin, whole, 1);
+    if units < 0 {
+        begin -= 1;
+        digits[begin] = b'-';
+    }
+    text.extend_from_slice(&digits[begin..]);
+}
+
+/// A fraction without the zeros at its end, and how many places it then has.
+fn without_zeros(fraction: u128, places: usize) -> (u128, usize) {
+    let (mut fraction, mut places) = (fraction, places);
+    while fraction > u64::MAX.into() && fraction % 10 == 0 {
+        fraction /= 10;
+        places -= 1;
+    }
+    let mut rest = match u64::try_from(fraction) {
+        Ok(rest) => rest,
+        Err(_) => return (fraction, places),
+    };
+    for (zeros, power) in [
+        (8, 100_000_000),
+        (8, 100_000_000),
+        (4, 10_000),
+        (2, 100),
+        (1, 10),
+    ] {
+        if rest % power == 0 {
+            rest /= power;
+            places -= zeros;
+        }
+    }
+    (rest.into(), places)
+}
+
+/// Puts the digits of a number before `end`, so many at least, and returns where they begin. Zeros stand there already.
+#[allow(clippy::cast_possible_truncation)]
+fn put_digits(digits: &mut [u8], end: usize, number: u128, least: usize) -> usize {
+    let (mut begin, mut number) = (end, number);
+    while number > u64::MAX.into() {
+        begin -= 1;
+        digits[begin] = b'0' + (number % 10) as u8;
+        number /= 10;
+    }
+    let mut rest = number as u64;
+    while rest >= 10 {
+        begin -= 2;
+        digits[begin..begin + 2].copy_from_slice(&PAIRS[(rest % 100) as usize]);
+        rest /= 100;
+    }
+    if rest > 0 {
+        begin -= 1;
+        digits[begin] = b'0' + rest as u8;
+    }
+    begin.min(end - least)
+}
+
+/// The two digits of each number below a hundred.
+#[allow(clippy::cast_possible_truncation)]
+const PAIRS: [[u8; 2]; 100] = {
+    let mut pairs = [[b'0'; 2]; 100];
+    let mut at = 0;
+    while at < pairs.len() {
+        pairs[at] = [b'0' + (at / 10) as u8, b'0' + (at % 10) as u8];
+        at += 1;
+    }
+    pairs
+};
+
+fn units_text(units: i128, places: u32) -> String {
+    let mut text = Vec::new();
+    push_units(&mut text, units, places);
+    String::from_utf8(text).unwrap_or_default()
+}
+
+impl<const PLACES: u8> fmt::Display for Decimal<PLACES> {
+    fn fmt(&self, f: &mut fmt::Formatter<'_>) -> fmt::Result {
+        let text = units_text(self.units, Self::PLACES);
+        f.pad_integral(self.units >= 0, "", text.trim_start_matches('-'))
+    }
+}
+
+impl<const PLACES: u8> fmt::Debug for Decimal<PLACES> {
+    fn fmt(&self, f: &mut fmt::Formatter<'_>) -> fmt::Result {
+        fmt::Display::fmt(self, f)
+    }
+}
+
+/// Why a text or an `f64` is no decimal of so many places.
+#[derive(Debug, Clone, Copy, PartialEq, Eq)]
+#[non_exhaustive]
+pub enum DecimalError {
+    /// It is no number in decimal digits: as an `f64` it is NaN or infinite.
+    NoNumber,
+    /// It has more digits after the point.
+    Places,
+    /// It is too large.
+    Large,
+}
+
+impl fmt::Display for DecimalError {
+    fn fmt(&self, f: &mut fmt::Formatter<'_>) -> fmt::Result {
+        f.write_str(match self {
+            DecimalError::NoNumber => "No number in decimal digits",
+            DecimalError::Places => "The number has more digits after the point",
+            DecimalError::Large => "The number is too large",
+        })
+    }
+}
+
+impl std::error::Error for DecimalError {}
+
+/// Reads a number as the library reads it in a geometry, with nothing around it.
+impl<const PLACES: u8> FromStr for Decimal<PLACES> {
+    type Err = DecimalError;
+
+    fn from_str(text: &str) -> Result<Self, DecimalError> {
+        let is_of_number = |byte: u8| byte.is_ascii_digit() || b"+-.".contains(&byte);
+        if !text.bytes().all(is_of_number) {
+            return Err(DecimalError::NoNumber);
+        }
+        match format!("POINT(0 {text})").parse() {
+            Ok(Wkt::Point(point)) => point
+                .coord()
+                .map(|coord| coord.y)
+                .ok_or(DecimalError::NoNumber),
+            Err(Error::Refused(why)) => Err(match why.hint {
+                Some(Hint::Places(_)) => DecimalError::Places,
+                Some(Hint::Large | Hint::Fewer) => DecimalError::Large,
+                _ => DecimalError::NoNumber,
+            }),
+            _ => Err(DecimalError::NoNumber),
+        }
+    }
+}
+
+/// The decimal that an `f64` is, with all digits of its value. So 0.5 is one of one place; 0.1 is none, since no decimal of
+/// up to 36 places has its value, 0.1000000000000000055511151231257827.. The shortest decimal that is read as the same
+/// `f64` is that of its text: `0.1_f64.to_string().parse()`.
+impl<const PLACES: u8> TryFrom<f64> for Decimal<PLACES> {
+    type Error = DecimalError;
+
+    #[allow(clippy::cast_precision_loss, clippy::cast_possible_truncation)]
+    fn try_from(number: f64) -> Result<Self, DecimalError> {
+        if !number.is_finite() {
+            return Err(DecimalError::NoNumber);
+        }
+        // A fraction of so many places times ten to their number is whole exactly if it is whole times two to it.
+        let fraction = number.fract() * (1_u64 << Self::PLACES) as f64;
+        if fraction.fract() != 0.0 {
+            return Err(DecimalError::Places);
+        }
+        let most = 2_f64.powi(127);
+        let whole = number.trunc();
+        if whole < -most || whole >= most {
+            return Err(DecimalError::Large);
+        }
+        let fraction = fraction as i128 * 5_i128.pow(Self::PLACES);
+        (whole as i128)
+            .checked_mul(10_i128.pow(Self::PLACES))
+            .and_then(|units| units.checked_add(fraction))
+            .map(Self::from_units)
+            .ok_or(DecimalError::Large)
+    }
+}

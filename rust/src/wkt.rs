@@ -1,0 +1,114 @@
+//! A geometry as a value.
+use crate::error::Error;
+use crate::kinds::{Dimension, GeometryType};
+use crate::number::{by_places, WktNum};
+use crate::read::read;
+use crate::text::canonical;
+use crate::types::{
+    GeometryCollection, LineString, MultiLineString, MultiPoint, MultiPolygon, Point, Polygon,
+};
+use crate::write::{ascii, Written};
+use std::fmt;
+use std::str::FromStr;
+
+/// A geometry, as the crate `wkt` has it. Its numbers are `f64`, `i64` or [`Decimal`](crate::Decimal).
+///
+/// ```
+/// use wkt_proved::{Decimal, Wkt};
+///
+/// let geometry: Wkt<Decimal<6>> = "linestring ( 1 2.50, 0.1 -3 )".parse()?;
+/// assert_eq!(geometry.to_string(), "LINESTRING(1 2.5,0.1 -3)");
+/// if let Wkt::LineString(line) = &geometry {
+///     assert_eq!(line.coords()[0].y.units(), 2_500_000);
+/// }
+/// # Ok::<(), wkt_proved::Error>(())
+/// ```
+///
+/// Two are equal if they have the same parts. Two that are written in other ways may have one canonical text, as
+/// `POLYGON(EMPTY,(1 2))` and `POLYGON EMPTY`.
+#[derive(Debug, Clone, PartialEq, Eq, Hash)]
+pub enum Wkt<T = f64> {
+    /// A point, or an empty one.
+    Point(Point<T>),
+    /// A line string.
+    LineString(LineString<T>),
+    /// A polygon.
+    Polygon(Polygon<T>),
+    /// Several points.
+    MultiPoint(MultiPoint<T>),
+    /// Several line strings.
+    MultiLineString(MultiLineString<T>),
+    /// Several polygons.
+    MultiPolygon(MultiPolygon<T>),
+    /// Several geometries.
+    GeometryCollection(GeometryCollection<T>),
+}
+
+/// What this is of a geometry of any kind.
+macro_rules! of_each {
+    ($wkt:expr, $geometry:ident => $what:expr) => {
+        match $wkt {
+            Wkt::Point($geometry) => $what,
+            Wkt::LineString($geometry) => $what,
+            Wkt::Polygon($geometry) => $what,
+            Wkt::MultiPoint($geometry) => $what,
+            Wkt::MultiLineString($geometry) => $what,
+            Wkt::MultiPolygon($geometry) => $what,
+            Wkt::GeometryCollection($geometry) => $what,
+        }
+    };
+}
+pub(crate) use of_each;
+
+impl<T> Wkt<T> {
+    /// Its dimension.
+    pub fn dimension(&self) -> Dimension {
+        of_each!(self, geometry => geometry.dimension())
+    }
+
+    /// Its kind.
+    pub fn kind(&self) -> GeometryType {
+        match self {
+            Wkt::Point(_) => GeometryType::Point,
+            Wkt::LineString(_) => GeometryType::LineString,
+            Wkt::Polygon(_) => GeometryType::Polygon,
+            Wkt::MultiPoint(_) => GeometryType::MultiPoint,
+            Wkt::MultiLineString(_) => GeometryType::MultiLineString,
+            Wkt::MultiPolygon(_) => GeometryType::MultiPolygon,
+            Wkt::GeometryCollection(_) => GeometryType::GeometryCollection,
+        }
+    }
+}
+
+impl<T: WktNum> Wkt<T> {
+    /// The canonical text.
+    ///
+    /// # Errors
+    /// [`Refused`](Error::Refused), with the place in what [`Display`](fmt::Display) shows: a number is NaN or infinite, has
+    /// too many digits, or is missing. `NoMemory`.
+    pub fn text(&self) -> Result<String, Error> {
+        let text = self.written();
+        by_places::<T, _>(|places| canonical(ascii(&text), places))
+    }
+}
+
+/// The geometry that a text is as a whole. A number that its type doesn't hold is refused, or is [`TooLarge`](Error::TooLarge)
+/// for an `i64`; that of an `f64` is the nearest to the decimal, which may have 18 digits after the point, or 30 where no
+/// number is larger than 170 millions.
+///
+/// Collections may stand in one another 200 deep; more are [`NoForm`](Error::NoForm), since to compare, to copy and to drop
+/// such a value takes stack for each level.
+impl<T: WktNum> FromStr for Wkt<T> {
+    type Err = Error;
+
+    fn from_str(text: &str) -> Result<Self, Error> {
+        by_places::<T, _>(|places| read(text, places))
+    }
+}
+
+/// The canonical text. It never fails: of what has none, as of NaN, it shows what [`text`](Wkt::text) refuses.
+impl<T: WktNum> fmt::Display for Wkt<T> {
+    fn fmt(&self, f: &mut fmt::Formatter<'_>) -> fmt::Result {
+        self.show(f)
+    }
+}
