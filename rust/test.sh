@@ -1,7 +1,8 @@
 #!/usr/bin/env bash
-# Tests the Rust crate over the library in capi/out: by the cargo that is found, and with the feature geo-types by Debian's
+# Tests the Rust crate over the library in capi/out: by the cargo that is found, and with all features by Debian's
 # cargo and rustc, the oldest that the crate promises; over a library with numbers of later versions; its package; its
-# documentation without a library; the example of README.md; and clippy and rustfmt, where the cargo that is found has them.
+# documentation without a library; the example of README.md and the program of FROM_WKT.md; and clippy and rustfmt, where
+# the cargo that is found has them.
 # The crates come from Debian's registry (librust-geo-types-dev), so no network is needed.
 set -u
 cd "$(dirname "$0")" || exit 1
@@ -20,7 +21,7 @@ run() {
 }
 run "$(cargo --version)" cargo test --offline --target-dir "$dir/found"
 [ -x /usr/bin/cargo ] || fail "no Debian cargo: tests/needs.sh installs it"
-run "$(/usr/bin/cargo --version), geo-types" env PATH="/usr/bin:$PATH" cargo test --offline --all-features --target-dir "$dir/debian"
+run "$(/usr/bin/cargo --version), geo-types, serde" env PATH="/usr/bin:$PATH" cargo test --offline --all-features --target-dir "$dir/debian"
 
 # A later library, of other names and with later.c in their place.
 renamed=()
@@ -52,6 +53,12 @@ wanted=$(sed -nE 's,^let .*; +// (.*)$,\1,p' <<< "$example" | tr -d '"')
 said=$(cd "$dir" && cargo run --offline -q --example readme --target-dir "$dir/found") || fail "the example of README.md"
 [ "$said" = "$wanted" ] || { echo "$said"; fail "the example of README.md: other answers"; }
 echo "rust: README.md: $(wc -l <<< "$wanted") answers, each as it says"
+# The program of FROM_WKT.md, and what the page says that it prints.
+block() { awk -v fence='```' -v kind="$1" '$0 == fence && on { exit } on { print } $0 == fence kind { on = 1 }' FROM_WKT.md; }
+block rust > "$dir/examples/from_wkt.rs"
+said=$(cd "$dir" && cargo run --offline -q --example from_wkt --target-dir "$dir/found") || fail "the program of FROM_WKT.md"
+[ -n "$said" ] && [ "$said" = "$(block text)" ] || { echo "$said"; fail "the program of FROM_WKT.md: other answers"; }
+echo "rust: FROM_WKT.md: its program prints what it says"
 if cargo clippy --version > /dev/null 2>&1; then
     cargo clippy --offline -q --all-targets --target-dir "$dir/found" -- -D warnings -W clippy::pedantic || fail "clippy"
     cargo fmt --check || fail "rustfmt"
