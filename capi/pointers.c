@@ -24,14 +24,6 @@ static int64_t nothing;
 #define MAY_BE_WRONG(LIST) \
     ((intptr_t)(unseen LIST(BYTES, BYTES, NONE, NONE) LIST(MISSES, MISSES, MISSES, MISSES)) < 0 || \
      ((size_t)0 LIST(ITEMS, ITEMS, NONE, NONE)) >> HIGH_BITS)
-/* Whether something may be wrong, at little cost: a pointer is NULL, the highest bit of `unseen` or of a size is set, or there
- * are 2^59 items of 4, 8 or 16 bytes. */
-#define MISSES(at) || !(at)
-#define BYTES(at) | (sizeof *(at) == 1 ? at##_len : 0)
-#define ITEMS(at) | (sizeof *(at) == 1 ? 0 : at##_len)
-#define NONE(at)
-#define MAY_BE_WRONG(LIST) \
-    ((intptr_t)(unseen LIST(BYTES, NONE)) < 0 || ((size_t)0 LIST(ITEMS, NONE)) >> 59 LIST(MISSES, MISSES))
 
 /* What is wrong. */
 #define CHECK_BUFFER(at, ...) \
@@ -107,97 +99,5 @@ static int64_t nothing;
         return unchecked_##name passed; \
     }
 #endif
-#define CANONICAL(BUFFER, RESULT) BUFFER(text) BUFFER(out) RESULT(needed) RESULT(end)
-FUNCTION(wkt_canonical, CANONICAL,
-         (const uint8_t *text, size_t text_len, uint32_t places, uint8_t *out, size_t out_len, size_t *needed,
-          size_t *end),
-         (text, text_len, places, out, out_len, needed, end))
-
-#define SAME(BUFFER, RESULT) BUFFER(one) BUFFER(other) RESULT(same)
-FUNCTION(wkt_same, SAME,
-         (const uint8_t *one, size_t one_len, const uint8_t *other, size_t other_len, uint32_t places, uint32_t *same),
-         (one, one_len, other, other_len, places, same))
-
-#define SAME_ENDS(BUFFER, RESULT) BUFFER(one) BUFFER(other) RESULT(same) RESULT(end) RESULT(other_end)
-FUNCTION(wkt_same_ends, SAME_ENDS,
-         (const uint8_t *one, size_t one_len, const uint8_t *other, size_t other_len, uint32_t places, uint32_t *same,
-          size_t *end, size_t *other_end),
-         (one, one_len, other, other_len, places, same, end, other_end))
-
-#define EXPLAIN(BUFFER, RESULT) BUFFER(text) RESULT(message) RESULT(start) RESULT(stop) RESULT(expected)
-FUNCTION(wkt_explain, EXPLAIN,
-         (const uint8_t *text, size_t text_len, uint32_t places, uint32_t *message, size_t *start, size_t *stop,
-          uint32_t *expected),
-         (text, text_len, places, message, start, stop, expected))
-
-#define HINT(BUFFER, RESULT) BUFFER(text) RESULT(hint)
-FUNCTION(wkt_hint, HINT, (const uint8_t *text, size_t text_len, uint32_t places, uint32_t *hint),
-         (text, text_len, places, hint))
-
-#define INFER(BUFFER, RESULT) BUFFER(text) RESULT(kind) RESULT(dimension)
-FUNCTION(wkt_infer, INFER, (const uint8_t *text, size_t text_len, uint32_t *kind, uint32_t *dimension),
-         (text, text_len, kind, dimension))
-
-#define LINES(BUFFER, RESULT) BUFFER(input) BUFFER(out) RESULT(needed)
-FUNCTION(wkt_lines, LINES,
-         (const uint8_t *input, size_t input_len, uint32_t places, uint8_t *out, size_t out_len, size_t *needed),
-         (input, input_len, places, out, out_len, needed))
-
-#define LINES_SOME(BUFFER, RESULT) BUFFER(input) BUFFER(out) RESULT(taken) RESULT(written)
-FUNCTION(wkt_lines_some, LINES_SOME,
-         (const uint8_t *input, size_t input_len, uint32_t places, uint32_t last, uint8_t *out, size_t out_len,
-          size_t *taken, size_t *written),
-         (input, input_len, places, last, out, out_len, taken, written))
-
-/* clang-format would indent each line of these lists further. */
-/* clang-format off */
-#define COLUMN_CANONICAL(BUFFER, RESULT) BUFFER(texts) BUFFER(offsets) BUFFER(valid) BUFFER(out) BUFFER(out_offsets) \
-    BUFFER(statuses) RESULT(needed)
-/* clang-format on */
-FUNCTION(wkt_column_canonical, COLUMN_CANONICAL,
-         (const uint8_t *texts, size_t texts_len, const int64_t *offsets, size_t offsets_len, const uint8_t *valid,
-          size_t valid_len, uint32_t places, uint8_t *out, size_t out_len, int64_t *out_offsets, size_t out_offsets_len,
-          wkt_status *statuses, size_t statuses_len, size_t *needed),
-         (texts, texts_len, offsets, offsets_len, valid, valid_len, places, out, out_len, out_offsets, out_offsets_len,
-          statuses, statuses_len, needed))
-
-#define ARRAYS(BUFFER, RESULT) BUFFER(text) RESULT(sizes) BUFFER(numbers) BUFFER(rings) BUFFER(polygons)
-FUNCTION(wkt_arrays, ARRAYS,
-         (const uint8_t *text, size_t text_len, uint32_t places, WktSizes *sizes, int64_t *numbers, size_t numbers_len,
-          size_t *rings, size_t rings_len, size_t *polygons, size_t polygons_len),
-         (text, text_len, places, sizes, numbers, numbers_len, rings, rings_len, polygons, polygons_len))
-
-/* clang-format off */
-#define READ_EVENTS(BUFFER, RESULT) BUFFER(text) BUFFER(events) BUFFER(numbers) RESULT(event_count) \
-    RESULT(number_count) RESULT(end)
-/* clang-format on */
-FUNCTION(wkt_read_events, READ_EVENTS,
-         (const uint8_t *text, size_t text_len, uint32_t places, size_t *events, size_t events_len, WktUnits *numbers,
-          size_t numbers_len, size_t *event_count, size_t *number_count, size_t *end),
-         (text, text_len, places, events, events_len, numbers, numbers_len, event_count, number_count, end))
-
-/* clang-format off */
-#define COLUMN_ARRAYS(BUFFER, RESULT) BUFFER(texts) BUFFER(offsets) BUFFER(valid) RESULT(sizes) BUFFER(kinds) \
-    BUFFER(dimensions) BUFFER(numbers) BUFFER(number_offsets) BUFFER(rings) BUFFER(ring_offsets) BUFFER(polygons) \
-    BUFFER(polygon_offsets) BUFFER(statuses)
-/* clang-format on */
-FUNCTION(wkt_column_arrays, COLUMN_ARRAYS,
-         (const uint8_t *texts, size_t texts_len, const int64_t *offsets, size_t offsets_len, const uint8_t *valid,
-          size_t valid_len, uint32_t places, WktColumnSizes *sizes, uint32_t *kinds, size_t kinds_len,
-          uint32_t *dimensions, size_t dimensions_len, int64_t *numbers, size_t numbers_len, int64_t *number_offsets,
-          size_t number_offsets_len, size_t *rings, size_t rings_len, int64_t *ring_offsets, size_t ring_offsets_len,
-          size_t *polygons, size_t polygons_len, int64_t *polygon_offsets, size_t polygon_offsets_len,
-          wkt_status *statuses, size_t statuses_len),
-         (texts, texts_len, offsets, offsets_len, valid, valid_len, places, sizes, kinds, kinds_len, dimensions,
-          dimensions_len, numbers, numbers_len, number_offsets, number_offsets_len, rings, rings_len, ring_offsets,
-          ring_offsets_len, polygons, polygons_len, polygon_offsets, polygon_offsets_len, statuses, statuses_len))
-
-#define FROM_ARRAYS(BUFFER, RESULT) BUFFER(numbers) BUFFER(rings) BUFFER(polygons) BUFFER(out) RESULT(needed)
-FUNCTION(wkt_from_arrays, FROM_ARRAYS,
-         (uint32_t kind, uint32_t dimension, const int64_t *numbers, size_t numbers_len, const size_t *rings,
-          size_t rings_len, const size_t *polygons, size_t polygons_len, uint32_t places, uint8_t *out, size_t out_len,
-          size_t *needed),
-         (kind, dimension, numbers, numbers_len, rings, rings_len, polygons, polygons_len, places, out, out_len,
-          needed))
 
 #include "functions.h"

@@ -1,6 +1,5 @@
 /* Every function and every status, with values worked by hand. It also refuses each allocation in turn: link it, with
- * texts.c, explain.c, dialects.c, columns.c and pointers.c, with -Wl,--wrap=malloc -Wl,--wrap=realloc. */
- * texts.c, explain.c, events.c, columns.c and pointers.c, with -Wl,--wrap=malloc -Wl,--wrap=realloc. */
+ * the other files of this folder, with -Wl,--wrap=malloc -Wl,--wrap=realloc. */
 #include "calls.h"
 
 #ifdef __cplusplus

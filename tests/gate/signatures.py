@@ -14,13 +14,9 @@ import sys
 TOP = os.path.dirname(os.path.dirname(os.path.dirname(os.path.abspath(__file__))))
 HEADER, LISTS, RUST = "include/wkt.h", "capi/functions.h", "rust/src/ffi.rs"
 ENGINE, LINES = "javascript/src/engine.js", "javascript/src/lines.js"
-EXPORTS = [f"crates/wkt_c/src/exports{part}.rt" for part in ("", "_arrays", "_explain")]
-SIZES = ["crates/wkt_calls/src/sizes.rt", "crates/wkt_c/src/sizes.rt"]
-FILES = [HEADER, LISTS, RUST, ENGINE, LINES, *EXPORTS, *SIZES]
 EXPORTS = [f"crates/wkt_c/src/exports{part}.rt" for part in ("", "_arrays", "_explain", "_events")]
-MODULE = "crates/wkt_web/src/exports.rt"
 SIZES = ["crates/wkt_calls/src/sizes.rt", "crates/wkt_c/src/sizes.rt", "crates/wkt_fill/src/units.rt"]
-FILES = [HEADER, POINTERS, RUST, ENGINE, LINES, MODULE, *EXPORTS, *SIZES]
+FILES = [HEADER, LISTS, RUST, ENGINE, LINES, *EXPORTS, *SIZES]
 # Types that C has by two names. Offsets are of 64 bits, as sizes are, and one below 0 is refused as too large.
 ALIKE = {"wkt_status": "u32", "uint32_t": "u32", "uint8_t": "u8", "size_t": "64", "int64_t": "64", "int": "c_int",
          "usize": "64", "i64": "64", "uint64_t": "64", "u64": "64"}
