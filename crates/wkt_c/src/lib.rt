@@ -13,6 +13,7 @@ mod column_arrays;
 mod column_texts;
 mod exports;
 mod exports_arrays;
+mod exports_events;
 mod exports_explain;
 mod joined;
 mod lines;
