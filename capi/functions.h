@@ -6,14 +6,26 @@
  * FUNCTION(name, LIST, parameters, passed). FUNCTION_IN_ROOMS(name, LIST, ROOMS, parameters, passed, proved, call): the proved
  * function has the parameters `proved`, rooms to work in beside those of wkt.h. ROOM(name, type, count): they are large enough,
  * and none where short texts need none; or the function is called again with those of the next `turn`. A size may be anything
- * that a caller says: more than any memory holds is counted as so many, so that no sum wraps. */
+ * that a caller says: more than any memory holds is counted as so many, so that no sum wraps.
+ *
+ * FUNCTION_IN_DIALECTS(name, LIST, ROOMS, parameters, passed, proved, call, ITS_ROOMS, its_proved, its_call): with dialects added
+ * to `places`, which are more than MOST_PLAIN then, the proved function is name_in, which has the last three. */
 #include "../include/wkt.h"
 
+/* All that can be asked for without a dialect is less. */
+#define MOST_PLAIN 511
+
+#define NO_ROOMS(ROOM)
+
 static inline uint64_t least_of(uint64_t one, uint64_t other) { return one < other ? one : other; }
-static inline uint64_t counted(size_t size) { return least_of(size, (uint64_t)1 << 48); }
+static inline uint64_t counted(uint64_t size) { return least_of(size, (uint64_t)1 << 48); }
 
 /* A canonical text, and what may stand behind it while it is written. */
-static inline uint64_t text_room(size_t size) { return 2 * counted(size) + 65; }
+static inline uint64_t text_room(uint64_t size) { return 2 * counted(size) + 65; }
+/* The text that a text in dialects is read as has no more than twelve bytes for one of that: 1e99 is a digit, forty zeros, a
+ * point and a space. At the first turn it isn't written, and a text that begins with a geometry as it stands is answered. */
+static inline uint64_t read_size(size_t size, unsigned turn) { return turn ? 12 * counted(size) + 1 : counted(size); }
+static inline uint64_t read_room_of(size_t size, unsigned turn) { return turn ? read_size(size, turn) : 0; }
 /* The answers to lines: mostly not longer than these, and at most eight bytes for each of theirs. */
 static inline uint64_t lines_room(size_t size, unsigned turn) {
     return least_of((counted(size) + counted(size) / 8 + 4096) << turn, 8 * counted(size) + 65);
@@ -34,6 +46,7 @@ static inline uint64_t arrays_room(size_t numbers, uint32_t places, size_t rings
 #define EXPLAIN(GIVEN, ANSWER, RESULT, RESULTS) \
     GIVEN(text, 1) RESULT(message, 4) RESULT(start, 8) RESULT(stop, 8) RESULT(expected, 4)
 #define HINT(GIVEN, ANSWER, RESULT, RESULTS) GIVEN(text, 1) RESULT(hint, 4)
+#define SRID(GIVEN, ANSWER, RESULT, RESULTS) GIVEN(text, 1) RESULT(srid, 4) RESULT(end, 8)
 #define INFER(GIVEN, ANSWER, RESULT, RESULTS) GIVEN(text, 1) RESULT(kind, 4) RESULT(dimension, 4)
 #define LINES(GIVEN, ANSWER, RESULT, RESULTS) \
     GIVEN(input, 1) ANSWER(out, 1, *needed, 8 * counted(input_len)) RESULT(needed, 8)
@@ -48,6 +61,9 @@ static inline uint64_t arrays_room(size_t numbers, uint32_t places, size_t rings
     ANSWER(numbers, 8, sizes->numbers, counted(text_len) / 2 + 2) \
     ANSWER(rings, 8, sizes->rings, counted(text_len) / 4 + 2) \
     ANSWER(polygons, 8, sizes->polygons, counted(text_len) / 6 + 2)
+#define READ_EVENTS(GIVEN, ANSWER, RESULT, RESULTS) GIVEN(text, 1) \
+    ANSWER(events, 8, *event_count, counted(text_len) / 2) ANSWER(numbers, 16, *number_count, counted(text_len) / 2) \
+    RESULT(event_count, 8) RESULT(number_count, 8) RESULT(end, 8)
 #define COLUMN_ARRAYS(GIVEN, ANSWER, RESULT, RESULTS) GIVEN(texts, 1) GIVEN(offsets, 8) GIVEN(valid, 1) RESULTS(sizes) \
     ANSWER(kinds, 4, kinds_len, kinds_len) ANSWER(dimensions, 4, dimensions_len, dimensions_len) \
     ANSWER(numbers, 8, sizes->numbers, counted(texts_len) / 2 + 2 * counted(statuses_len)) \
@@ -69,6 +85,21 @@ static inline uint64_t arrays_room(size_t numbers, uint32_t places, size_t rings
 #define SAME_ROOMS(ROOM) \
     ROOM(room, uint8_t, IS_SHORT(one_len) && IS_SHORT(other_len) ? 0 : text_room(one_len)) \
     ROOM(other_room, uint8_t, IS_SHORT(one_len) && IS_SHORT(other_len) ? 0 : text_room(other_len))
+#define CANONICAL_IN_ROOMS(ROOM) \
+    ROOM(read_room, uint8_t, read_room_of(text_len, turn)) \
+    ROOM(room, uint8_t, !turn && IS_SHORT(text_len) ? 0 : text_room(read_size(text_len, turn)))
+#define SAME_IN_ROOMS(ROOM) \
+    ROOM(read_room, uint8_t, read_room_of(one_len, turn)) \
+    ROOM(other_read_room, uint8_t, read_room_of(other_len, turn)) \
+    ROOM(room, uint8_t, !turn && IS_SHORT(one_len) && IS_SHORT(other_len) ? 0 : text_room(read_size(one_len, turn))) \
+    ROOM(other_room, uint8_t, \
+         !turn && IS_SHORT(one_len) && IS_SHORT(other_len) ? 0 : text_room(read_size(other_len, turn)))
+#define READ_ROOMS(ROOM) ROOM(read_room, uint8_t, read_room_of(text_len, turn))
+#define ARRAYS_IN_ROOMS(ROOM) \
+    ROOM(read_room, uint8_t, read_room_of(text_len, turn)) \
+    ROOM(numbers_room, int64_t, !turn && text_len <= 64 ? 0 : read_size(text_len, turn) / 2 + 2) \
+    ROOM(words_room, size_t, \
+         !turn && text_len <= 64 ? 0 : read_size(text_len, turn) / 4 + read_size(text_len, turn) / 6 + 4)
 #define LINES_ROOMS(ROOM) ROOM(room, uint8_t, lines_room(input_len, turn))
 /* A line is seldom longer. */
 #define LINES_SOME_ROOMS(ROOM) ROOM(room, uint8_t, least_of(text_room(input_len), turn ? UINT64_MAX : 65536))
@@ -90,39 +121,69 @@ static inline uint64_t arrays_room(size_t numbers, uint32_t places, size_t rings
     ROOM(codes_room, uint32_t, counted(statuses_len))
 /* clang-format on */
 
-FUNCTION_IN_ROOMS(wkt_canonical, CANONICAL, CANONICAL_ROOMS,
-                  (const uint8_t *text, size_t text_len, uint32_t places, uint8_t *out, size_t out_len, size_t *needed,
-                   size_t *end),
-                  (text, text_len, places, out, out_len, needed, end),
-                  (const uint8_t *text, size_t text_len, uint32_t places, uint8_t *room, size_t room_len, uint8_t *out,
-                   size_t out_len, size_t *needed, size_t *end),
-                  (text, text_len, places, room, room_len, out, out_len, needed, end))
+FUNCTION_IN_DIALECTS(wkt_canonical, CANONICAL, CANONICAL_ROOMS,
+                     (const uint8_t *text, size_t text_len, uint32_t places, uint8_t *out, size_t out_len,
+                      size_t *needed, size_t *end),
+                     (text, text_len, places, out, out_len, needed, end),
+                     (const uint8_t *text, size_t text_len, uint32_t places, uint8_t *room, size_t room_len,
+                      uint8_t *out, size_t out_len, size_t *needed, size_t *end),
+                     (text, text_len, places, room, room_len, out, out_len, needed, end), CANONICAL_IN_ROOMS,
+                     (const uint8_t *text, size_t text_len, uint32_t places, uint8_t *read_room, size_t read_room_len,
+                      uint8_t *room, size_t room_len, uint8_t *out, size_t out_len, size_t *needed, size_t *end),
+                     (text, text_len, places, read_room, read_room_len, room, room_len, out, out_len, needed, end))
 
-FUNCTION_IN_ROOMS(wkt_same, SAME, SAME_ROOMS,
-                  (const uint8_t *one, size_t one_len, const uint8_t *other, size_t other_len, uint32_t places,
-                   uint32_t *same),
-                  (one, one_len, other, other_len, places, same),
-                  (const uint8_t *one, size_t one_len, const uint8_t *other, size_t other_len, uint32_t places,
-                   uint8_t *room, size_t room_len, uint8_t *other_room, size_t other_room_len, uint32_t *same),
-                  (one, one_len, other, other_len, places, room, room_len, other_room, other_room_len, same))
+FUNCTION_IN_DIALECTS(wkt_same, SAME, SAME_ROOMS,
+                     (const uint8_t *one, size_t one_len, const uint8_t *other, size_t other_len, uint32_t places,
+                      uint32_t *same),
+                     (one, one_len, other, other_len, places, same),
+                     (const uint8_t *one, size_t one_len, const uint8_t *other, size_t other_len, uint32_t places,
+                      uint8_t *room, size_t room_len, uint8_t *other_room, size_t other_room_len, uint32_t *same),
+                     (one, one_len, other, other_len, places, room, room_len, other_room, other_room_len, same),
+                     SAME_IN_ROOMS,
+                     (const uint8_t *one, size_t one_len, const uint8_t *other, size_t other_len, uint32_t places,
+                      uint8_t *read_room, size_t read_room_len, uint8_t *other_read_room, size_t other_read_room_len,
+                      uint8_t *room, size_t room_len, uint8_t *other_room, size_t other_room_len, uint32_t *same),
+                     (one, one_len, other, other_len, places, read_room, read_room_len, other_read_room,
+                      other_read_room_len, room, room_len, other_room, other_room_len, same))
 
-FUNCTION_IN_ROOMS(wkt_same_ends, SAME_ENDS, SAME_ROOMS,
-                  (const uint8_t *one, size_t one_len, const uint8_t *other, size_t other_len, uint32_t places,
-                   uint32_t *same, size_t *end, size_t *other_end),
-                  (one, one_len, other, other_len, places, same, end, other_end),
-                  (const uint8_t *one, size_t one_len, const uint8_t *other, size_t other_len, uint32_t places,
-                   uint8_t *room, size_t room_len, uint8_t *other_room, size_t other_room_len, uint32_t *same,
-                   size_t *end, size_t *other_end),
-                  (one, one_len, other, other_len, places, room, room_len, other_room, other_room_len, same, end,
-                   other_end))
+FUNCTION_IN_DIALECTS(wkt_same_ends, SAME_ENDS, SAME_ROOMS,
+                     (const uint8_t *one, size_t one_len, const uint8_t *other, size_t other_len, uint32_t places,
+                      uint32_t *same, size_t *end, size_t *other_end),
+                     (one, one_len, other, other_len, places, same, end, other_end),
+                     (const uint8_t *one, size_t one_len, const uint8_t *other, size_t other_len, uint32_t places,
+                      uint8_t *room, size_t room_len, uint8_t *other_room, size_t other_room_len, uint32_t *same,
+                      size_t *end, size_t *other_end),
+                     (one, one_len, other, other_len, places, room, room_len, other_room, other_room_len, same, end,
+                      other_end),
+                     SAME_IN_ROOMS,
+                     (const uint8_t *one, size_t one_len, const uint8_t *other, size_t other_len, uint32_t places,
+                      uint8_t *read_room, size_t read_room_len, uint8_t *other_read_room, size_t other_read_room_len,
+                      uint8_t *room, size_t room_len, uint8_t *other_room, size_t other_room_len, uint32_t *same,
+                      size_t *end, size_t *other_end),
+                     (one, one_len, other, other_len, places, read_room, read_room_len, other_read_room,
+                      other_read_room_len, room, room_len, other_room, other_room_len, same, end, other_end))
 
-FUNCTION(wkt_explain, EXPLAIN,
-         (const uint8_t *text, size_t text_len, uint32_t places, uint32_t *message, size_t *start, size_t *stop,
-          uint32_t *expected),
-         (text, text_len, places, message, start, stop, expected))
+FUNCTION_IN_DIALECTS(wkt_explain, EXPLAIN, NO_ROOMS,
+                     (const uint8_t *text, size_t text_len, uint32_t places, uint32_t *message, size_t *start,
+                      size_t *stop, uint32_t *expected),
+                     (text, text_len, places, message, start, stop, expected),
+                     (const uint8_t *text, size_t text_len, uint32_t places, uint32_t *message, size_t *start,
+                      size_t *stop, uint32_t *expected),
+                     (text, text_len, places, message, start, stop, expected), READ_ROOMS,
+                     (const uint8_t *text, size_t text_len, uint32_t places, uint8_t *read_room, size_t read_room_len,
+                      uint32_t *message, size_t *start, size_t *stop, uint32_t *expected),
+                     (text, text_len, places, read_room, read_room_len, message, start, stop, expected))
 
-FUNCTION(wkt_hint, HINT, (const uint8_t *text, size_t text_len, uint32_t places, uint32_t *hint),
-         (text, text_len, places, hint))
+FUNCTION_IN_DIALECTS(wkt_hint, HINT, NO_ROOMS, (const uint8_t *text, size_t text_len, uint32_t places, uint32_t *hint),
+                     (text, text_len, places, hint),
+                     (const uint8_t *text, size_t text_len, uint32_t places, uint32_t *hint),
+                     (text, text_len, places, hint), READ_ROOMS,
+                     (const uint8_t *text, size_t text_len, uint32_t places, uint8_t *read_room, size_t read_room_len,
+                      uint32_t *hint),
+                     (text, text_len, places, read_room, read_room_len, hint))
+
+FUNCTION(wkt_srid, SRID, (const uint8_t *text, size_t text_len, uint32_t *srid, size_t *end),
+         (text, text_len, srid, end))
 
 FUNCTION(wkt_infer, INFER, (const uint8_t *text, size_t text_len, uint32_t *kind, uint32_t *dimension),
          (text, text_len, kind, dimension))
@@ -157,16 +218,28 @@ FUNCTION_IN_ROOMS(
     (texts, texts_len, offsets, offsets_len, valid, valid_len, places, room, room_len, ends_room, ends_room_len,
      codes_room, codes_room_len, out, out_len, out_offsets, out_offsets_len, statuses, statuses_len, needed))
 
-FUNCTION_IN_ROOMS(wkt_arrays, ARRAYS, ARRAYS_ROOMS,
-                  (const uint8_t *text, size_t text_len, uint32_t places, WktSizes *sizes, int64_t *numbers,
-                   size_t numbers_len, size_t *rings, size_t rings_len, size_t *polygons, size_t polygons_len),
-                  (text, text_len, places, sizes, numbers, numbers_len, rings, rings_len, polygons, polygons_len),
-                  (const uint8_t *text, size_t text_len, uint32_t places, int64_t *numbers_room,
-                   size_t numbers_room_len, size_t *words_room, size_t words_room_len, WktSizes *sizes,
-                   int64_t *numbers, size_t numbers_len, size_t *rings, size_t rings_len, size_t *polygons,
-                   size_t polygons_len),
-                  (text, text_len, places, numbers_room, numbers_room_len, words_room, words_room_len, sizes, numbers,
-                   numbers_len, rings, rings_len, polygons, polygons_len))
+FUNCTION_IN_DIALECTS(wkt_arrays, ARRAYS, ARRAYS_ROOMS,
+                     (const uint8_t *text, size_t text_len, uint32_t places, WktSizes *sizes, int64_t *numbers,
+                      size_t numbers_len, size_t *rings, size_t rings_len, size_t *polygons, size_t polygons_len),
+                     (text, text_len, places, sizes, numbers, numbers_len, rings, rings_len, polygons, polygons_len),
+                     (const uint8_t *text, size_t text_len, uint32_t places, int64_t *numbers_room,
+                      size_t numbers_room_len, size_t *words_room, size_t words_room_len, WktSizes *sizes,
+                      int64_t *numbers, size_t numbers_len, size_t *rings, size_t rings_len, size_t *polygons,
+                      size_t polygons_len),
+                     (text, text_len, places, numbers_room, numbers_room_len, words_room, words_room_len, sizes,
+                      numbers, numbers_len, rings, rings_len, polygons, polygons_len),
+                     ARRAYS_IN_ROOMS,
+                     (const uint8_t *text, size_t text_len, uint32_t places, uint8_t *read_room, size_t read_room_len,
+                      int64_t *numbers_room, size_t numbers_room_len, size_t *words_room, size_t words_room_len,
+                      WktSizes *sizes, int64_t *numbers, size_t numbers_len, size_t *rings, size_t rings_len,
+                      size_t *polygons, size_t polygons_len),
+                     (text, text_len, places, read_room, read_room_len, numbers_room, numbers_room_len, words_room,
+                      words_room_len, sizes, numbers, numbers_len, rings, rings_len, polygons, polygons_len))
+
+FUNCTION(wkt_read_events, READ_EVENTS,
+         (const uint8_t *text, size_t text_len, uint32_t places, size_t *events, size_t events_len, WktUnits *numbers,
+          size_t numbers_len, size_t *event_count, size_t *number_count, size_t *end),
+         (text, text_len, places, events, events_len, numbers, numbers_len, event_count, number_count, end))
 
 FUNCTION_IN_ROOMS(
     wkt_column_arrays, COLUMN_ARRAYS, COLUMN_ARRAYS_ROOMS,

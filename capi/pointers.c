@@ -15,12 +15,12 @@ __attribute__((constructor)) static void see(void) {
 static int64_t nothing;
 
 /* Whether something may be wrong, at little cost: the highest bit of `unseen`, of a size or of a pointer less 1 is set, as it is
- * where the pointer is NULL; or one of the four highest of a number of items of 4 or 8 bytes. */
+ * where the pointer is NULL; or one of the five highest of a number of items of 4, 8 or 16 bytes. */
 #define MISSES(at, ...) | ((uintptr_t)(at)-1)
 #define BYTES(at, ...) | (sizeof *(at) == 1 ? at##_len : 0)
 #define ITEMS(at, ...) | (sizeof *(at) == 1 ? 0 : at##_len)
 #define NONE(...)
-#define HIGH_BITS (8 * sizeof(size_t) - 4)
+#define HIGH_BITS (8 * sizeof(size_t) - 5)
 #define MAY_BE_WRONG(LIST) \
     ((intptr_t)(unseen LIST(BYTES, BYTES, NONE, NONE) LIST(MISSES, MISSES, MISSES, MISSES)) < 0 || \
      ((size_t)0 LIST(ITEMS, ITEMS, NONE, NONE)) >> HIGH_BITS)
@@ -33,18 +33,23 @@ static int64_t nothing;
 #define CHECK_RESULT(at, ...) \
     if (!(at)) return WKT_NULL_POINTER;
 
-/* A function without rooms. */
-#define FUNCTION(name, LIST, parameters, passed) \
-    extern __typeof__(name) proved_##name; \
+/* A function whose proved one is called by `unchecked`; or by `in_dialects`, if dialects are asked for. */
+#define CHECKED(name, LIST, parameters, passed, unchecked, ASKS, in_dialects) \
     static __attribute__((noinline, cold)) wkt_status checked_##name parameters { \
         if (unseen && !wkt_supported()) return WKT_NOT_SUPPORTED; \
         LIST(CHECK_BUFFER, CHECK_BUFFER, CHECK_RESULT, CHECK_RESULT) \
-        return proved_##name passed; \
+        if (ASKS) return in_dialects passed; \
+        return unchecked passed; \
     } \
     wkt_status name parameters { \
-        if (__builtin_expect(MAY_BE_WRONG(LIST), 0)) return checked_##name passed; \
-        return proved_##name passed; \
+        if (__builtin_expect(MAY_BE_WRONG(LIST) || ASKS, 0)) return checked_##name passed; \
+        return unchecked passed; \
     }
+#define ASKS_DIALECTS (places > MOST_PLAIN)
+
+#define FUNCTION(name, LIST, parameters, passed) \
+    extern __typeof__(name) proved_##name; \
+    CHECKED(name, LIST, parameters, passed, proved_##name, 0, proved_##name)
 
 /* A function that works in rooms: ROOMS has them, their types and how many items each has, `call` what the proved function is
  * passed. All rooms of a call are one block, in which each begins at a multiple of 8; short texts need none. Where it answers
@@ -53,6 +58,9 @@ static int64_t nothing;
 #ifdef WKT_NO_ROOMS
 #define FUNCTION_IN_ROOMS(name, LIST, ROOMS, parameters, passed, proved_parameters, call) \
     FUNCTION(name, LIST, parameters, passed)
+#define FUNCTION_IN_DIALECTS(name, LIST, ROOMS, parameters, passed, proved_parameters, call, ITS_ROOMS, its_parameters, its_call) \
+    extern __typeof__(name) proved_##name, proved_##name##_in; \
+    CHECKED(name, LIST, parameters, passed, proved_##name, ASKS_DIALECTS, proved_##name##_in)
 #else
 #define SIZE_OF(it, type, count) size_t it##_len = (size_t)(count);
 #define SUM_OF(it, type, count) +((it##_len * sizeof(type) + 7) & ~(size_t)7)
@@ -61,26 +69,28 @@ static int64_t nothing;
 #define PLACED(it, type, count) \
     type *it = (type *)(void *)at; \
     at += (it##_len * sizeof(type) + 7) & ~(size_t)7;
-#define FUNCTION_IN_ROOMS(name, LIST, ROOMS, parameters, passed, proved_parameters, call) \
+#define ROOMY(name, ROOMS, parameters, proved_parameters, call) \
     extern wkt_status proved_##name proved_parameters; \
     static __attribute__((noinline)) wkt_status roomy_##name parameters { \
-        size_t before = 0; \
+        size_t before = SIZE_MAX; \
         for (unsigned turn = 0;; turn++) { \
             ROOMS(SIZE_OF) \
             const size_t sum = (size_t)0 ROOMS(SUM_OF); \
             wkt_status status = WKT_NO_MEMORY; \
             if (sum == before) return status; \
-            uint8_t *block = malloc(sum), *at = block ? block : (uint8_t *)&nothing; \
+            uint8_t *block = sum ? malloc(sum) : NULL, *at = block ? block : (uint8_t *)&nothing; \
             if (!block) { \
                 ROOMS(NO_ITEM) \
             } \
             ROOMS(PLACED) \
+            (void)at; \
             status = proved_##name call; \
             free(block); \
-            if (status != WKT_NO_MEMORY || !block) return status; \
+            if (status != WKT_NO_MEMORY || (sum && !block)) return status; \
             before = sum; \
         } \
-    } \
+    }
+#define UNCHECKED(name, ROOMS, parameters, passed, call) \
     static inline wkt_status unchecked_##name parameters { \
         const unsigned turn = 0; \
         ROOMS(SIZE_OF) \
@@ -88,16 +98,16 @@ static int64_t nothing;
         (void)turn; \
         if (__builtin_expect(((size_t)0 ROOMS(SUM_OF)) != 0, 0)) return roomy_##name passed; \
         return proved_##name call; \
-    } \
-    static __attribute__((noinline, cold)) wkt_status checked_##name parameters { \
-        if (unseen && !wkt_supported()) return WKT_NOT_SUPPORTED; \
-        LIST(CHECK_BUFFER, CHECK_BUFFER, CHECK_RESULT, CHECK_RESULT) \
-        return unchecked_##name passed; \
-    } \
-    wkt_status name parameters { \
-        if (__builtin_expect(MAY_BE_WRONG(LIST), 0)) return checked_##name passed; \
-        return unchecked_##name passed; \
     }
+#define FUNCTION_IN_ROOMS(name, LIST, ROOMS, parameters, passed, proved_parameters, call) \
+    ROOMY(name, ROOMS, parameters, proved_parameters, call) \
+    UNCHECKED(name, ROOMS, parameters, passed, call) \
+    CHECKED(name, LIST, parameters, passed, unchecked_##name, 0, unchecked_##name)
+#define FUNCTION_IN_DIALECTS(name, LIST, ROOMS, parameters, passed, proved_parameters, call, ITS_ROOMS, its_parameters, its_call) \
+    ROOMY(name, ROOMS, parameters, proved_parameters, call) \
+    UNCHECKED(name, ROOMS, parameters, passed, call) \
+    ROOMY(name##_in, ITS_ROOMS, parameters, its_parameters, its_call) \
+    CHECKED(name, LIST, parameters, passed, unchecked_##name, ASKS_DIALECTS, roomy_##name##_in)
 #endif
 
 #include "functions.h"

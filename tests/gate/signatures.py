@@ -14,7 +14,7 @@ import sys
 TOP = os.path.dirname(os.path.dirname(os.path.dirname(os.path.abspath(__file__))))
 HEADER, LISTS, RUST = "include/wkt.h", "capi/functions.h", "rust/src/ffi.rs"
 ENGINE, LINES = "javascript/src/engine.js", "javascript/src/lines.js"
-EXPORTS = [f"crates/wkt_c/src/exports{part}.rt" for part in ("", "_arrays", "_explain", "_events")]
+EXPORTS = [f"crates/wkt_c/src/exports{part}.rt" for part in ("", "_arrays", "_explain", "_events", "_dialects")]
 SIZES = ["crates/wkt_calls/src/sizes.rt", "crates/wkt_c/src/sizes.rt", "crates/wkt_fill/src/units.rt"]
 FILES = [HEADER, LISTS, RUST, ENGINE, LINES, *EXPORTS, *SIZES]
 # Types that C has by two names. Offsets are of 64 bits, as sizes are, and one below 0 is refused as too large.
@@ -22,6 +22,8 @@ ALIKE = {"wkt_status": "u32", "uint32_t": "u32", "uint8_t": "u8", "size_t": "64"
          "usize": "64", "i64": "64", "uint64_t": "64", "u64": "64"}
 EXPORT = r'extern "C" fn (wkt_\w+)\(([^()]*)\)\s*->\s*u32'
 STRUCT = r"#\[repr\(C\)\]\s*#\[derive[^\n]*\s*pub struct (?P<name>\w+) \{(?P<body>.*?)\}"
+# Behind the name of a proved function that is called where dialects are asked for.
+IN = "_in"
 # A list in parentheses behind a comma.
 LISTED = r",\s*\(([^()]*)\)"
 
@@ -80,17 +82,22 @@ def fields_of_c(body):
 
 def listed(text):
     """Of each function of functions.h: its parameters, what is passed on, its buffers and results in their order, with the
-    width of each, its rooms, and the parameters of the proved function with what it is passed."""
-    has = {name: re.findall(r"(GIVEN|ANSWER|RESULTS?)\((\w+)(?:, (\d))?", body)
+    width of each, its rooms, and the parameters of the proved function with what it is passed. The one in dialects is a
+    function, too."""
+    has = {name: re.findall(r"(GIVEN|ANSWER|RESULTS?)\((\w+)(?:, (\d+))?", body)
            for name, body in re.findall(r"#define (\w+)\(GIVEN, ANSWER, RESULT, RESULTS\) ((?:[^\n]*\\\n)*[^\n]*)", text)}
     rooms = {name: [(room, "*" + ALIKE[word]) for room, word in re.findall(r"\bROOM\((\w+), (\w+),", body)]
-             for name, body in re.findall(r"#define (\w+)\(ROOM\) ((?:[^\n]*\\\n)*[^\n]*)", text)}
+             for name, body in re.findall(r"#define (\w+)\(ROOM\) ?((?:[^\n]*\\\n)*[^\n]*)", text)}
     found = {}
     for name, its, given, passed in re.findall(rf"^FUNCTION\(\s*(\w+), (\w+){LISTED * 2}\)", text, re.S | re.M):
         found[name] = (of_c(given), parameters(passed), has[its], [], of_c(given), parameters(passed))
     roomy = rf"^FUNCTION_IN_ROOMS\(\s*(\w+), (\w+), (\w+){LISTED * 4}\)"
     for name, its, within, given, passed, taken, call in re.findall(roomy, text, re.S | re.M):
         found[name] = (of_c(given), parameters(passed), has[its], rooms[within], of_c(taken), parameters(call))
+    both = rf"^FUNCTION_IN_DIALECTS\(\s*(\w+), (\w+), (\w+){LISTED * 4},\s*(\w+){LISTED * 2}\)"
+    for name, its, within, given, passed, *proved in re.findall(both, text, re.S | re.M):
+        for end, at, (taken, call) in ("", within, proved[:2]), (IN, proved[2], proved[3:]):
+            found[name + end] = (of_c(given), parameters(passed), has[its], rooms[at], of_c(taken), parameters(call))
     return found
 
 
@@ -99,7 +106,7 @@ def list_of(declared):
     names = {name for name, _ in declared}
     found = []
     for name, word in declared:
-        width = {"u8": "1", "u32": "4", "64": "8"}.get(word.split("*")[-1], "")
+        width = {"u8": "1", "u32": "4", "64": "8", "WktUnits": "16"}.get(word.split("*")[-1], "")
         kind = "RESULT" if f"{name}_len" not in names else "GIVEN" if word.startswith("const") else "ANSWER"
         if "*" in word:
             found.append((kind if width else "RESULTS", name, width))
@@ -123,7 +130,7 @@ def differences(texts):
     in_rust = functions(r"pub fn (wkt_\w+)\(([^()]*)\)\s*->\s*u32;", texts[RUST], of_rust)
     lists = listed(texts[LISTS])
     yield from named("what wkt_c exports and what functions.h has", {name: it[4] for name, it in lists.items()}, exported)
-    called = {name: one[0] for name, one in lists.items()}
+    called = {name: one[0] for name, one in lists.items() if not name.endswith(IN)}
     yield from named("what functions.h has and what wkt.h declares", declared, called)
     here = {name: declared.get(name) for name in in_rust}
     yield from named("what ffi.rs declares and what wkt.h declares", here, in_rust)
@@ -142,7 +149,9 @@ def differences(texts):
         made.update(structs(STRUCT, texts[one], of_rust))
     rust = structs(STRUCT, texts[RUST], of_rust)
     yield from named("the structs of the crates and of wkt.h", c_structs, made)
-    yield from named("the structs of ffi.rs and of wkt.h", c_structs, rust)
+    # ffi.rs has a number of wkt_read_events as an array.
+    listed_there = {name: fields for name, fields in c_structs.items() if name != "WktUnits"}
+    yield from named("the structs of ffi.rs and of wkt.h", listed_there, rust)
 
 
 def named(what, wanted, found):
@@ -155,11 +164,12 @@ def named(what, wanted, found):
 CHANGES = [
     (HEADER, "size_t out_len, size_t *needed, size_t *end)", "size_t out_len, size_t *end, size_t *needed)"),
     (HEADER, "size_t numbers, rings, polygons; /*", "uint32_t numbers, rings, polygons; /*"),
-    (LISTS, "(text, text_len, places, hint))", "(text, places, text_len, hint))"),
+    (LISTS, "(text, text_len, srid, end))", "(text, srid, text_len, end))"),
     (LISTS, "GIVEN(text, 1) RESULT(hint, 4)", "RESULT(hint, 4)"),
     (LISTS, "GIVEN(offsets, 8)", "GIVEN(offsets, 4)"),
     (LISTS, "room, room_len, out, out_len, needed, end))", "out, out_len, room, room_len, needed, end))"),
     (LISTS, "ROOM(words_room, size_t,", "ROOM(words_room, uint32_t,"),
+    (LISTS, "(text, text_len, places, read_room, read_room_len, hint))", "(text, text_len, places, hint))"),
     (RUST, "pub rings: usize,\n    pub polygons: usize,", "pub polygons: usize,\n    pub rings: usize,"),
     (RUST, "last: u32,\n", ""),
     (ENGINE, "big(rooms[0]), big(sizes[0]), ", ""),
@@ -168,6 +178,7 @@ CHANGES = [
     (EXPORTS[1], "numbers: &[i64],", "numbers: &mut [i64],"),
     (EXPORTS[2], "stop: &mut usize,", "stop: &mut u32,"),
     (EXPORTS[3], "number_count: &mut usize,", "number_count: &mut u32,"),
+    (EXPORTS[4], "read_room: &mut [u8],\n    numbers_room: &mut [i64],", "numbers_room: &mut [i64],\n    read_room: &mut [u8],"),
     (SIZES[0], "pub kind: u32,", "pub kind: usize,"),
     (SIZES[1], "pub rings: usize,", "pub ring_count: usize,"),
     (SIZES[2], "pub low: u64,", "pub low: u32,"),

@@ -11,12 +11,16 @@ mod canonical;
 mod column;
 mod column_arrays;
 mod column_texts;
+mod dialects;
 mod exports;
 mod exports_arrays;
+mod exports_dialects;
 mod exports_events;
 mod exports_explain;
 mod joined;
 mod lines;
 mod list;
 mod sizes;
+#[cfg(test)]
+mod tests;
 mod told;

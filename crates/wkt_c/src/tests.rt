@@ -1,10 +1,11 @@
 //! Calls with dialects. The values were written down by hand; where a text is refused, message and what could stand there are
 //! those of the text that it is read as, as the library without dialects gives them.
-use crate::exports::{wkt_arrays, wkt_canonical, wkt_same_ends, wkt_srid};
-use crate::exports_explain::{wkt_explain, wkt_hint};
+use crate::exports_dialects::{
+    wkt_arrays_in, wkt_canonical_in, wkt_explain_in, wkt_hint_in, wkt_same_ends_in, wkt_srid,
+};
 use std::process::Abort;
 use wkt_calls::sizes::WktSizes;
-use wkt_calls::status::{ACCEPTED, DONE, NO_PLACES, NOT_TEXT, NOT_WHOLE, SMALL};
+use wkt_calls::status::{ACCEPTED, DONE, MEMORY, NO_PLACES, NOT_TEXT, NOT_WHOLE, SMALL};
 
 const SRID: u32 = 512;
 
@@ -89,13 +90,16 @@ const CANONICAL: [(&[u8], u32, u32, &[u8], usize); 22] = [
 #[test]
 fn canonical_texts(rt: HostRuntime) {
     for (text, asked, wanted, canonical, wanted_end) in CANONICAL {
+        let mut read_room = [0u8; 400];
+        let mut room = [0u8; 900];
         let mut out = [0u8; 64];
         let mut needed = 99;
         let mut end = 99;
-        let status = wkt_canonical(
-            rt.alloc(),
+        let status = wkt_canonical_in(
             text,
             asked.wrapping_add(18),
+            &mut read_room,
+            &mut room,
             &mut out,
             &mut needed,
             &mut end,
@@ -108,10 +112,11 @@ fn canonical_texts(rt: HostRuntime) {
             assert!(&rt; out.starts_with(canonical), "{text:?}");
         }
         let mut few = [7u8; 3];
-        let status = wkt_canonical(
-            rt.alloc(),
+        let status = wkt_canonical_in(
             text,
             asked.wrapping_add(18),
+            &mut read_room,
+            &mut room,
             &mut few,
             &mut needed,
             &mut end,
@@ -126,16 +131,23 @@ fn canonical_texts(rt: HostRuntime) {
 
 #[test]
 fn same_texts(rt: HostRuntime) {
+    let mut read_room = [0u8; 400];
+    let mut other_read_room = [0u8; 400];
+    let mut room = [0u8; 900];
+    let mut other_room = [0u8; 900];
     let mut same = 9;
     let mut end = 9;
     let mut other_end = 9;
     let one = b"SRID=1;POINT(1 2 3) ";
     let other = b"POINT Z(1e0 2 0.3e1)";
-    let status = wkt_same_ends(
-        rt.alloc(),
+    let status = wkt_same_ends_in(
         one,
         other,
         18 + ALL,
+        &mut read_room,
+        &mut other_read_room,
+        &mut room,
+        &mut other_room,
         &mut same,
         &mut end,
         &mut other_end,
@@ -144,11 +156,14 @@ fn same_texts(rt: HostRuntime) {
         (status, same, end, other_end) == (DONE, 1, 19, 20),
         "{status} {same} {end} {other_end}"
     );
-    let status = wkt_same_ends(
-        rt.alloc(),
+    let status = wkt_same_ends_in(
         one,
         b"POINT(1 2)",
         18 + ALL,
+        &mut read_room,
+        &mut other_read_room,
+        &mut room,
+        &mut other_room,
         &mut same,
         &mut end,
         &mut other_end,
@@ -157,11 +172,14 @@ fn same_texts(rt: HostRuntime) {
         (status, same, end, other_end) == (DONE, 0, 19, 10),
         "{status} {same} {end} {other_end}"
     );
-    let status = wkt_same_ends(
-        rt.alloc(),
+    let status = wkt_same_ends_in(
         b"POINT(1 2)",
         b"POINT(1",
         18 + ALL,
+        &mut read_room,
+        &mut other_read_room,
+        &mut room,
+        &mut other_room,
         &mut same,
         &mut end,
         &mut other_end,
@@ -170,11 +188,14 @@ fn same_texts(rt: HostRuntime) {
         (status, same, end, other_end) == (7, 0, 19, 10),
         "{status} {same} {end} {other_end}"
     );
-    let status = wkt_same_ends(
-        rt.alloc(),
+    let status = wkt_same_ends_in(
         one,
         b"POINT(1 2 3)x",
         18 + ALL + WHOLE,
+        &mut read_room,
+        &mut other_read_room,
+        &mut room,
+        &mut other_room,
         &mut same,
         &mut end,
         &mut other_end,
@@ -220,10 +241,11 @@ fn refused_texts(rt: HostRuntime) {
         let mut start = 99;
         let mut stop = 99;
         let mut expected = 99;
-        let status = wkt_explain(
-            rt.alloc(),
+        let mut read_room = [0u8; 400];
+        let status = wkt_explain_in(
             text,
             asked.wrapping_add(18),
+            &mut read_room,
             &mut message,
             &mut start,
             &mut stop,
@@ -239,9 +261,13 @@ fn refused_texts(rt: HostRuntime) {
             "{text:?}: {start} {stop}"
         );
     }
+    let text = b"SRID=1;POINT(1e-19 2)";
     let mut hint = 99;
-    let status = wkt_hint(rt.alloc(), b"SRID=1;POINT(1e-19 2)", 18 + ALL, &mut hint);
+    let mut read_room = [0u8; 400];
+    let status = wkt_hint_in(text, 18 + ALL, &mut read_room, &mut hint);
     assert!(&rt; (status, hint) == (DONE, 8), "{status} {hint}");
+    let status = wkt_hint_in(text, 18 + ALL, &mut [], &mut hint);
+    assert!(&rt; (status, hint) == (MEMORY, 8), "{status} {hint}");
 }
 
 #[test]
@@ -258,10 +284,15 @@ fn arrays(rt: HostRuntime) {
     let mut rings = [0usize; 2];
     let mut polygons = [0usize; 2];
     let text = b"SRID=1;LINESTRING(1 2 3,4e1 5 6) ";
-    let status = wkt_arrays(
-        rt.alloc(),
+    let mut read_room = [0u8; 400];
+    let mut numbers_room = [0i64; 64];
+    let mut words_room = [0usize; 64];
+    let status = wkt_arrays_in(
         text,
         ALL + WHOLE,
+        &mut read_room,
+        &mut numbers_room,
+        &mut words_room,
         &mut sizes,
         &mut numbers,
         &mut rings,
