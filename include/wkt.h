@@ -34,7 +34,7 @@
  * without dialects.
  *
  * What nothing checks, and the caller has to ensure:
- * - each pointer is aligned as its type asks: 8 bytes for int64_t, size_t and the structs, 4 for uint32_t;
+ * - each pointer is aligned as its type asks: 8 bytes for int64_t, uint64_t, size_t and the structs, 4 for uint32_t;
  * - no two pointers that are passed overlap, except those that are only read; each size is that of its buffer;
  * - malloc, realloc and free come from one allocator;
  * - no call is made from a signal handler, nor in the forked child of a process with threads. Calls may run on several
@@ -318,8 +318,8 @@ wkt_status wkt_arrays(const uint8_t *text, size_t text_len, uint32_t places, Wkt
                       int64_t *numbers, size_t numbers_len, size_t *rings, size_t rings_len,
                       size_t *polygons, size_t polygons_len);
 
-/* A number of wkt_read_events: low + 2^64 * high units. It lies as an integer of 128 bits does, where the lower half comes
- * first. */
+/* A number of wkt_read_events: low + 2^64 * high units. Where the lower half of an integer of 128 bits comes first, it lies as
+ * that does. */
 typedef struct {
     uint64_t low;
     int64_t high;
@@ -327,8 +327,8 @@ typedef struct {
 
 /* The events of wkt_read_events: WKT_EVENT_BEGIN + 4 * kind + dimension, WKT_EVENT_END, or a number of coordinates, which is
  * less than both. Of the first the kind is WKT_EVENT_KIND(e), and the dimension WKT_EVENT_DIMENSION(e). */
-#define WKT_EVENT_BEGIN ((size_t)1 << 63)
-#define WKT_EVENT_END SIZE_MAX
+#define WKT_EVENT_BEGIN ((uint64_t)1 << 63)
+#define WKT_EVENT_END UINT64_MAX
 #define WKT_EVENT_KIND(e) ((uint32_t)((e) >> 2 & 7))
 #define WKT_EVENT_DIMENSION(e) ((uint32_t)((e) & 3))
 
@@ -346,7 +346,7 @@ typedef struct {
  * Each text that wkt_canonical accepts with as many places has its lists. They are of the value as it is read, as those of
  * wkt_arrays are. It takes no memory. */
 wkt_status wkt_read_events(const uint8_t *text, size_t text_len, uint32_t places,
-                           size_t *events, size_t events_len, WktUnits *numbers, size_t numbers_len,
+                           uint64_t *events, size_t events_len, WktUnits *numbers, size_t numbers_len,
                            size_t *event_count, size_t *number_count, size_t *end);
 
 /* What wkt_column_arrays returns beside the arrays: how many numbers, and how many offsets of rings and of polygons, all

@@ -19,13 +19,13 @@ static void print_units(WktUnits n) {
 }
 
 /* Prints the events, each a step further in than the geometry that it is in; how many numbers they take. */
-static size_t print_tree(const size_t *events, size_t count, const WktUnits *numbers) {
+static size_t print_tree(const uint64_t *events, size_t count, const WktUnits *numbers) {
     static const char *const kinds[] = WKT_KINDS, *const dimensions[] = WKT_DIMENSIONS;
     static const size_t sizes[] = {2, 3, 3, 4};
     size_t at = 0, size = 2;
     int depth = 0;
     for (size_t i = 0; i < count; i++) {
-        size_t event = events[i];
+        uint64_t event = events[i];
         if (event == WKT_EVENT_END) {
             depth--;
         } else if (event >= WKT_EVENT_BEGIN) {
@@ -35,8 +35,8 @@ static size_t print_tree(const size_t *events, size_t count, const WktUnits *num
             size = sizes[dimension];
             depth++;
         } else {
-            printf("%*s%zu:", 2 * depth, "", event);
-            for (size_t end = at + event * size; at < end; at++) print_units(numbers[at]);
+            printf("%*s%" PRIu64 ":", 2 * depth, "", event);
+            for (size_t end = at + (size_t)event * size; at < end; at++) print_units(numbers[at]);
             printf("\n");
         }
     }
@@ -47,7 +47,7 @@ static int print_text(const char *text) {
     size_t length = strlen(text), event_count, number_count, end;
     /* No text has more. */
     size_t room = length / 2 + 1;
-    size_t *events = (size_t *)malloc(room * sizeof *events);
+    uint64_t *events = (uint64_t *)malloc(room * sizeof *events);
     WktUnits *numbers = (WktUnits *)malloc(room * sizeof *numbers);
     wkt_status s = WKT_NO_MEMORY;
     if (events && numbers)

@@ -2,7 +2,8 @@
 #include "calls.h"
 
 #define EVENTS 24
-static size_t events[EVENTS], event_count, number_count;
+static uint64_t events[EVENTS];
+static size_t event_count, number_count;
 static WktUnits numbers[EVENTS];
 
 /* A text; its events: the letters of `plgqmac` begin a Point, LineString, .. GeometryCollection, and the digit behind says
@@ -32,13 +33,13 @@ static int are(const char *expected) {
     for (; *expected; expected++) {
         const char *letter = strchr(letters, *expected);
         if (*expected == ' ') continue;
-        size_t event;
+        uint64_t event;
         if (*expected == '.')
             event = WKT_EVENT_END;
         else if (letter)
-            event = WKT_EVENT_BEGIN + 4 * (size_t)(letter - letters) + (size_t)(*++expected - '0');
+            event = WKT_EVENT_BEGIN + 4 * (uint64_t)(letter - letters) + (uint64_t)(*++expected - '0');
         else
-            event = (size_t)(*expected - '0');
+            event = (uint64_t)(*expected - '0');
         if (i == event_count || events[i++] != event) return 0;
     }
     return i == event_count;
@@ -97,8 +98,8 @@ static void test_statuses(void) {
     CHECK(read_events("POINT(1 2)", 37, EVENTS, EVENTS) == WKT_NO_PLACES && unset());
     CHECK(wkt_read_events(BYTES("POINT(1 2)"), 0, NULL, 1, numbers, EVENTS, &event_count, &number_count, &end_at) ==
           WKT_NULL_POINTER);
-    CHECK(wkt_read_events(BYTES("POINT(1 2)"), 0, events, EVENTS, numbers, (size_t)1 << 59, &event_count, &number_count,
-                          &end_at) == WKT_TOO_LONG);
+    CHECK(wkt_read_events(BYTES("POINT(1 2)"), 0, events, EVENTS, numbers, PTRDIFF_MAX / 16 + 1, &event_count,
+                          &number_count, &end_at) == WKT_TOO_LONG);
 }
 
 void test_events(void) {
