@@ -98,6 +98,7 @@ static wkt_status call(int which) {
     case 11: return wkt_arrays(BYTES("SRID=1;LINESTRING(1e1 2 3)"), all, &sizes, got, 16, got_rings, 3, got_polygons, 3);
     case 12: return wkt_explain(BYTES("SRID=1;POINT(1e1 2 3"), all, &message, &start, &stop, &hint);
     case 13: return wkt_hint(BYTES("SRID=1;POINT(1e1 2 3"), all, &hint);
+    case 14: return wkt_canonical(BYTES("POINT(1e1 2)" SPACES SPACES SPACES SPACES), all, out, ROOM, &needed, &end_at);
     case 6: return wkt_arrays(BYTES(text), 6, &sizes, got, 16, got_rings, 3, got_polygons, 3);
     default: return wkt_from_arrays(1, 0, numbers, 6, rings, 2, polygons, 2, 6, out, ROOM, &needed);
     }
@@ -105,7 +106,7 @@ static wkt_status call(int which) {
 
 static void refusals(void) {
     int which;
-    for (which = 0; which < 14; which++) {
+    for (which = 0; which < 15; which++) {
         long all, n;
         allocations = 0;
         CHECK(call(which) == WKT_OK);

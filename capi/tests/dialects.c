@@ -103,8 +103,39 @@ static void others(void) {
     CHECK(wkt_lines(BYTES("POINT(1 2)"), ALL, out, ROOM, &needed) == WKT_NO_PLACES);
 }
 
+/* Long texts, and of all texts those that become longest. */
+static void long_texts(void) {
+    enum { POINTS = 300 };
+    static char text[POINTS * 12 + 64], wanted[POINTS * 83 + 64], zeros[40];
+    static uint8_t long_out[sizeof wanted];
+    static int64_t numbers[2 * POINTS];
+    size_t at = 0, length = 0, rings[2], polygons[2], start = 99, stop = 99, i;
+    uint32_t message = 99, expected = 99, same = 9;
+    WktSizes sizes;
+    memset(zeros, '0', 38);
+    at += (size_t)sprintf(text, "SRID=1;LINESTRING(");
+    length += (size_t)sprintf(wanted, "LINESTRING(");
+    for (i = 0; i < POINTS; i++) {
+        at += (size_t)sprintf(text + at, "1e38 -1e38%c", i + 1 < POINTS ? ',' : ')');
+        length += (size_t)sprintf(wanted + length, "1%s -1%s%c", zeros, zeros, i + 1 < POINTS ? ',' : ')');
+    }
+    CHECK(wkt_canonical((const uint8_t *)text, at, ALL, long_out, sizeof long_out, &needed, &end_at) == WKT_OK);
+    CHECK(needed == length && end_at == at && !memcmp(long_out, wanted, length));
+    CHECK(wkt_same((const uint8_t *)text, at, (const uint8_t *)wanted, length, ALL, &same) == WKT_OK && same == 1);
+    /* A number that no places hold is written with forty zeros. */
+    for (i = 0, at = (size_t)sprintf(text, "POINT("); i < POINTS; i++) at += (size_t)sprintf(text + at, "1e99,");
+    CHECK(wkt_explain((const uint8_t *)text, at, ALL, &message, &start, &stop, &expected) == WKT_OK);
+    CHECK(message == 7 && start == 6 && stop == 10 && expected == WKT_EXPECTED_X);
+    for (i = 0, at = (size_t)sprintf(text, "LINESTRING("); i < POINTS; i++)
+        at += (size_t)sprintf(text + at, "1e18 2e0%c", i + 1 < POINTS ? ',' : ')');
+    CHECK(wkt_arrays((const uint8_t *)text, at, ALL, &sizes, numbers, 2 * POINTS, rings, 2, polygons, 2) == WKT_OK);
+    CHECK(sizes.numbers == 2 * POINTS && sizes.end == at && rings[1] == POINTS && numbers[2 * POINTS - 2] == 1000000000000000000 &&
+          numbers[2 * POINTS - 1] == 2);
+}
+
 void test_dialects(void) {
     canonical();
     places();
     others();
+    long_texts();
 }

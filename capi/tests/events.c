@@ -91,8 +91,8 @@ static void test_statuses(void) {
     CHECK(read_events("POINT(1 2) x", WKT_WHOLE, EVENTS, EVENTS) == WKT_NOT_WHOLE && end_at == 10 && event_count == 3);
     CHECK(read_events("POINT(1 2) x", WKT_WHOLE, 0, 0) == WKT_NOT_WHOLE);
     CHECK(read_events("POINT(1 2) \n", WKT_WHOLE, EVENTS, EVENTS) == WKT_OK);
-    CHECK(read_events("POINT(1)", 0, EVENTS, EVENTS) == 9 && unset());
-    CHECK(read_events("POINT(0.5 1)", 0, EVENTS, EVENTS) == WKT_BAD_NUMBER && unset());
+    CHECK(read_events("POINT(1)", 0, EVENTS, EVENTS) == 7 && unset());
+    CHECK(read_events("POINT(1 0.5)", 0, EVENTS, EVENTS) == WKT_BAD_NUMBER && unset());
     CHECK(read_events("GEOMETRYCOLLECTION(POINT(1 2)", 0, 0, 0) <= WKT_LAST_REFUSAL && unset());
     CHECK(read_events("POINT(1 2)\xff", 0, EVENTS, EVENTS) == WKT_NOT_UTF8 && unset());
     CHECK(read_events("POINT(1 2)", 37, EVENTS, EVENTS) == WKT_NO_PLACES && unset());

@@ -83,7 +83,7 @@ static void whole_texts(void) {
     CHECK(canonical("POINT(1 2)", 18 | WKT_WHOLE, ROOM) == WKT_OK);
     CHECK(canonical("POINT(1 2)", 36 | WKT_WHOLE, ROOM) == WKT_OK);
     CHECK(canonical("POINT(1 2)", 37 | WKT_WHOLE, ROOM) == WKT_NO_PLACES && untouched() && not_set());
-    CHECK(canonical("POINT(1 2)", 255, ROOM) == WKT_NO_PLACES && canonical("POINT(1 2)", 512, ROOM) == WKT_NO_PLACES);
+    CHECK(canonical("POINT(1 2)", 255, ROOM) == WKT_NO_PLACES && canonical("POINT(1 2)", 8192, ROOM) == WKT_NO_PLACES);
     CHECK(canonical("POINT(1 2)", 0xffffffffu, ROOM) == WKT_NO_PLACES);
     memset(out, '#', ROOM);
     needed = end_at = 99;

@@ -1,0 +1,8 @@
+use Rattle.std.proofs.Common.{rules, ◌≡◌, ◌≤◌, ◌≢◌, ℕ, List, length, drop, ◌+◌, ◌-◌, ◌*◌, ◌<◌, ◌/◌, ◌%◌, Bool, true, false, nat_eq, nat_lt, [], ◌∷◌, ◌++◌, slice_index_or, slice_set, bit_and, bit_or, Fits, w8, w32, w64, Bor, MutBor}
+use Rattle.wkt_dialects.specs.Dialects.{HasSrid}
+use Rattle.wkt_calls.specs.Dialects.{AnswersCanonicalIn, AnswersSameIn, AnswersArraysIn, AnswersExplainIn, AnswersHintIn}
+use Rattle.wkt_c.proofs.exports_dialects.wkt_explain_in.Goals as goal
+
+-- src/exports_dialects.rt:186:1
+pub returns-in-Ok-Refused-clause-answers : goal.returns-in-Ok-Refused-clause-answers
+returns-in-Ok-Refused-clause-answers c = ?
