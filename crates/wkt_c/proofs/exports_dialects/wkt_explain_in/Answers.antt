@@ -1,8 +1,43 @@
-use Rattle.std.proofs.Common.{rules, ◌≡◌, ◌≤◌, ◌≢◌, ℕ, List, length, drop, ◌+◌, ◌-◌, ◌*◌, ◌<◌, ◌/◌, ◌%◌, Bool, true, false, nat_eq, nat_lt, [], ◌∷◌, ◌++◌, slice_index_or, slice_set, bit_and, bit_or, Fits, w8, w32, w64, Bor, MutBor}
-use Rattle.wkt_dialects.specs.Dialects.{HasSrid}
-use Rattle.wkt_calls.specs.Dialects.{AnswersCanonicalIn, AnswersSameIn, AnswersArraysIn, AnswersExplainIn, AnswersHintIn}
+-- The problem is that of the text that is read, by places of the text as it was given.
+use Rattle.std.proofs.Common.{arith, ◌≡◌, ◌%◌, ℕ, List, ap, ◌∙◌}
+use Rattle.wkt_read.specs.Messages.{message_number}
+use Rattle.wkt_explain.specs.Problems.{IsProblem}
+use Rattle.wkt_explain.specs.declared.explanation.Refusal.{Refusal}
+use Rattle.wkt_explain.specs.declared.whole.Problem.{Problem}
+use Rattle.wkt_explain.specs.declared.whole.Problem.TheVariants.{Refused, Rest}
+use Rattle.wkt_calls.specs.Answer.{asks_whole}
+use Rattle.wkt_calls.specs.Explained.{IsExplained, expected_number}
+use Rattle.wkt_calls.specs.Dialects.{read_plainly, IsAsRead, IsPlaced, IsPlacedProblem, IsProblemIn}
+use Rattle.wkt_calls.specs.declared.dialects.AsRead.{AsRead}
 use Rattle.wkt_c.proofs.exports_dialects.wkt_explain_in.Goals as goal
 
--- src/exports_dialects.rt:186:1
+abbrev IsRefusedIn : ℕ → List ℕ → Refusal → ℕ → ℕ → Type 0
+IsRefusedIn asked text why message expected = (r : AsRead) × IsAsRead asked text r × (at : ℕ) × (upto : ℕ)
+    × IsExplained (read_plainly asked) r.text.now message at upto expected × (behind : ℕ) × IsPlaced r at behind why.start why.end
+
+module _ (asked : ℕ) (text : List ℕ) (why : Refusal) (p : IsProblemIn asked text (Refused why)) (message expected : ℕ) (said : message ≡ message_number why.message) (wanted : expected ≡ expected_number why.expected) where
+  refused-as : (q : Problem) → IsProblem (read_plainly asked) (asks_whole (asked % 512)) p.read.text.now q → IsPlacedProblem p.read q (Refused why) → IsRefusedIn asked text why message expected
+  refused-as (Refused w) is places = (p.read, p.as_read, w.start, w.end, record {
+    utf8 = p.utf8;
+    no_front = is.none;
+    what = w.expected;
+    refused = is.place;
+    number_is = wanted ∙ ap expected_number places.1;
+    part = is.part;
+    said = (w.message, said ∙ ap message_number places.0, is.message);
+  }, places.2, places.3)
+  refused-as (Rest at) is places = absurd places
+
+  refused-in : IsRefusedIn asked text why message expected
+  refused-in = refused-as p.of_other p.is p.places
+
 pub returns-in-Ok-Refused-clause-answers : goal.returns-in-Ok-Refused-clause-answers
-returns-in-Ok-Refused-clause-answers c = ?
+returns-in-Ok-Refused-clause-answers c =
+    let p = rw c.in-Ok-Refused.field-0-is at c.in-Ok-Refused.ensures in
+    record {
+      no_dialects = λ n. absurd (n (c.has_dialects.ensures.yes c.if-not-has_dialects.false));
+      dialects = λ e _. omega (arith, e);
+      explained = λ _. refused-in c.args.places c.args.text.now c.in-Ok-Refused.why p c.number.result c.number_of_expected.result c.number.ensures.number c.number_of_expected.ensures;
+      more = λ e. absurd (omega (arith, e));
+      others = λ some _ _. absurd (omega (arith, some));
+    }

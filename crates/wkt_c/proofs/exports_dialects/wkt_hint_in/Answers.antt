@@ -1,8 +1,14 @@
-use Rattle.std.proofs.Common.{rules, ◌≡◌, ◌≤◌, ◌≢◌, ℕ, List, length, drop, ◌+◌, ◌-◌, ◌*◌, ◌<◌, ◌/◌, ◌%◌, Bool, true, false, nat_eq, nat_lt, [], ◌∷◌, ◌++◌, slice_index_or, slice_set, bit_and, bit_or, Fits, w8, w32, w64, Bor, MutBor}
-use Rattle.wkt_dialects.specs.Dialects.{HasSrid}
-use Rattle.wkt_calls.specs.Dialects.{AnswersCanonicalIn, AnswersSameIn, AnswersArraysIn, AnswersExplainIn, AnswersHintIn}
+-- The hint is that of the text that is read.
+use Rattle.std.proofs.Common.{arith, refl}
 use Rattle.wkt_c.proofs.exports_dialects.wkt_hint_in.Goals as goal
 
--- src/exports_dialects.rt:222:1
 pub returns-in-Ok-Some-clause-answers : goal.returns-in-Ok-Some-clause-answers
-returns-in-Ok-Some-clause-answers c = ?
+returns-in-Ok-Some-clause-answers c =
+    let h = rw c.in-Ok-Some.field-0-is at c.in-Ok-Some.ensures in
+    record {
+      no_dialects = λ n. absurd (n (c.has_dialects.ensures.yes c.if-not-has_dialects.false));
+      dialects = λ e _. omega (arith, e);
+      hinted = λ _. (h.read, h.as_read, h.some c.in-Ok-Some.number refl);
+      more = λ e. absurd (omega (arith, e));
+      others = λ some _ _. absurd (omega (arith, some));
+    }
