@@ -17,15 +17,23 @@ IsRefusedIn asked text why message expected = (r : AsRead) × IsAsRead asked tex
 
 module _ (asked : ℕ) (text : List ℕ) (why : Refusal) (p : IsProblemIn asked text (Refused why)) (message expected : ℕ) (said : message ≡ message_number why.message) (wanted : expected ≡ expected_number why.expected) where
   refused-as : (q : Problem) → IsProblem (read_plainly asked) (asks_whole (asked % 512)) p.read.text.now q → IsPlacedProblem p.read q (Refused why) → IsRefusedIn asked text why message expected
-  refused-as (Refused w) is places = (p.read, p.as_read, w.start, w.end, record {
-    utf8 = p.utf8;
-    no_front = is.none;
-    what = w.expected;
-    refused = is.place;
-    number_is = wanted ∙ ap expected_number places.1;
-    part = is.part;
-    said = (w.message, said ∙ ap message_number places.0, is.message);
-  }, places.2, places.3)
+  refused-as (Refused w) is places = (
+    p.read,
+    p.as_read,
+    w.start,
+    w.end,
+    record {
+      utf8 = p.utf8;
+      no_front = is.none;
+      what = w.expected;
+      refused = is.place;
+      number_is = wanted ∙ ap expected_number places.1;
+      part = is.part;
+      said = (w.message, said ∙ ap message_number places.0, is.message);
+    },
+    places.2,
+    places.3,
+  )
   refused-as (Rest at) is places = absurd places
 
   refused-in : IsRefusedIn asked text why message expected
