@@ -59,7 +59,8 @@ impl<'a, N: Numbers> Pen<'a, N> {
         }
     }
 
-    #[inline(always)]
+    // Not `always`: LLVM inlines it by itself, and so it doesn't count in the size above which `always` is dropped.
+    #[inline]
     pub(crate) fn put(self, byte: u8) -> Self
         requires { HasBytes self 1 }
         ensures { Extends self.entry (byte ∷ []) result }
@@ -146,7 +147,8 @@ impl<'a, N: Numbers> Pen<'a, N> {
     }
 
     /// A part that is EMPTY.
-    #[inline(always)]
+    // Not `always`: LLVM inlines it by itself, and so it doesn't count in the size above which `always` is dropped.
+    #[inline]
     fn put_empty(self, part: Part) -> Self
         requires { HasBytes self 6 }
         ensures { Extends self.entry (empty_text part) result }
