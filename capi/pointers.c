@@ -58,7 +58,8 @@ static int64_t nothing;
 #ifdef WKT_NO_ROOMS
 #define FUNCTION_IN_ROOMS(name, LIST, ROOMS, parameters, passed, proved_parameters, call) \
     FUNCTION(name, LIST, parameters, passed)
-#define FUNCTION_IN_DIALECTS(name, LIST, ROOMS, parameters, passed, proved_parameters, call, ITS_ROOMS, its_parameters, its_call) \
+#define FUNCTION_IN_DIALECTS(name, LIST, ROOMS, parameters, passed, proved_parameters, call, ITS_ROOMS, \
+                             its_parameters, its_call) \
     extern __typeof__(name) proved_##name, proved_##name##_in; \
     CHECKED(name, LIST, parameters, passed, proved_##name, ASKS_DIALECTS, proved_##name##_in)
 #else
@@ -103,7 +104,8 @@ static int64_t nothing;
     ROOMY(name, ROOMS, parameters, proved_parameters, call) \
     UNCHECKED(name, ROOMS, parameters, passed, call) \
     CHECKED(name, LIST, parameters, passed, unchecked_##name, 0, unchecked_##name)
-#define FUNCTION_IN_DIALECTS(name, LIST, ROOMS, parameters, passed, proved_parameters, call, ITS_ROOMS, its_parameters, its_call) \
+#define FUNCTION_IN_DIALECTS(name, LIST, ROOMS, parameters, passed, proved_parameters, call, ITS_ROOMS, \
+                             its_parameters, its_call) \
     ROOMY(name, ROOMS, parameters, proved_parameters, call) \
     UNCHECKED(name, ROOMS, parameters, passed, call) \
     ROOMY(name##_in, ITS_ROOMS, parameters, its_parameters, its_call) \

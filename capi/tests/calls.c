@@ -95,7 +95,8 @@ static wkt_status call(int which) {
     }
     case 9: return wkt_canonical(BYTES(in_dialects), all, out, ROOM, &needed, &end_at);
     case 10: return wkt_same(BYTES(in_dialects), BYTES(in_dialects), all, &same);
-    case 11: return wkt_arrays(BYTES("SRID=1;LINESTRING(1e1 2 3)"), all, &sizes, got, 16, got_rings, 3, got_polygons, 3);
+    case 11:
+        return wkt_arrays(BYTES("SRID=1;LINESTRING(1e1 2 3)"), all, &sizes, got, 16, got_rings, 3, got_polygons, 3);
     case 12: return wkt_explain(BYTES("SRID=1;POINT(1e1 2 3"), all, &message, &start, &stop, &hint);
     case 13: return wkt_hint(BYTES("SRID=1;POINT(1e1 2 3"), all, &hint);
     case 14: return wkt_canonical(BYTES("POINT(1e1 2)" SPACES SPACES SPACES SPACES), all, out, ROOM, &needed, &end_at);

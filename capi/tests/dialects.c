@@ -90,8 +90,8 @@ static void others(void) {
     const char *text = "SRID=1;LINESTRING(1 2 3,4e1 5 6) ";
     CHECK(wkt_arrays(BYTES(text), ALL | WKT_WHOLE, &sizes, numbers, 6, rings, 2, polygons, 2) == WKT_OK);
     CHECK(sizes.kind == 1 && sizes.dimension == WKT_XYZ && sizes.end == 32 && numbers[3] == 40 && numbers[5] == 6);
-    CHECK(wkt_same_ends(BYTES("SRID=1;POINT(1 2 3) "), BYTES("POINT Z(1e0 2 0.3e1)"), ALL, &same, &end_at, &other_end) ==
-              WKT_OK &&
+    CHECK(wkt_same_ends(BYTES("SRID=1;POINT(1 2 3) "), BYTES("POINT Z(1e0 2 0.3e1)"), ALL, &same, &end_at,
+                        &other_end) == WKT_OK &&
           same == 1 && end_at == 19 && other_end == 20);
     CHECK(wkt_same(BYTES("SRID=1;POINT(1 2)"), BYTES("SRID=2;POINT(1 2)"), ALL, &same) == WKT_OK && same == 1);
     CHECK(wkt_same(BYTES("SRID=1;POINT(1 2)"), BYTES("POINT(1"), ALL, &same) == 7);
@@ -129,8 +129,8 @@ static void long_texts(void) {
     for (i = 0, at = (size_t)sprintf(text, "LINESTRING("); i < POINTS; i++)
         at += (size_t)sprintf(text + at, "1e18 2e0%c", i + 1 < POINTS ? ',' : ')');
     CHECK(wkt_arrays((const uint8_t *)text, at, ALL, &sizes, numbers, 2 * POINTS, rings, 2, polygons, 2) == WKT_OK);
-    CHECK(sizes.numbers == 2 * POINTS && sizes.end == at && rings[1] == POINTS && numbers[2 * POINTS - 2] == 1000000000000000000 &&
-          numbers[2 * POINTS - 1] == 2);
+    CHECK(sizes.numbers == 2 * POINTS && sizes.end == at && rings[1] == POINTS &&
+          numbers[2 * POINTS - 2] == 1000000000000000000 && numbers[2 * POINTS - 1] == 2);
 }
 
 void test_dialects(void) {

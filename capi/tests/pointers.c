@@ -56,20 +56,13 @@ static wkt_status column_from_arrays(void) {
 }
 
 static const function functions[] = {
-    {canonical, "1100"},
-    {same, "110"},
-    {same_ends, "11000"},
-    {explain, "10000"},
-    {hint, "10"},
-    {srid, "100"},
-    {infer, "100"},
-    {lines, "110"},
-    {lines_some, "1100"},
-    {column_canonical, "1811840"},
-    {arrays, "10888"},
-    {column_arrays, "1810448888884"},
-    {from_arrays, "88810"},
-    {column_from_arrays, "4488888811840"},
+    {canonical, "1100"},    {same, "110"},
+    {same_ends, "11000"},   {explain, "10000"},
+    {hint, "10"},           {srid, "100"},
+    {infer, "100"},         {lines, "110"},
+    {lines_some, "1100"},   {column_canonical, "1811840"},
+    {arrays, "10888"},      {column_arrays, "1810448888884"},
+    {from_arrays, "88810"}, {column_from_arrays, "4488888811840"},
 };
 #define FUNCTIONS (sizeof functions / sizeof *functions)
 

@@ -1,8 +1,8 @@
 #!/usr/bin/env python3
 """Whether the proved functions have the parameters that their callers pass; the status is 1 where one hasn't.
 
-include/wkt.h says which functions there are. Compared with it are the functions that crates/wkt_c exports, which may take
-rooms beside what the header has, and their structs, the functions of capi/functions.h, which capi/pointers.c and
+include/wkt.h says which functions there are. Compared with it are the functions that crates/wkt_c exports, which may
+take rooms beside what the header has, and their structs, the functions of capi/functions.h, which capi/pointers.c and
 dist/c/wkt_portable.c call, and the declarations of rust/src/ffi.rs. The calls of javascript/src are compared with what
 wkt_c exports. A slice is a pointer and a size. At the end a parameter or a field is changed in each of these files, and
 each change has to be seen.
@@ -81,13 +81,14 @@ def fields_of_c(body):
 
 
 def listed(text):
-    """Of each function of functions.h: its parameters, what is passed on, its buffers and results in their order, with the
-    width of each, its rooms, and the parameters of the proved function with what it is passed. The one in dialects is a
-    function, too."""
-    has = {name: re.findall(r"(GIVEN|ANSWER|RESULTS?)\((\w+)(?:, (\d+))?", body)
-           for name, body in re.findall(r"#define (\w+)\(GIVEN, ANSWER, RESULT, RESULTS\) ((?:[^\n]*\\\n)*[^\n]*)", text)}
-    rooms = {name: [(room, "*" + ALIKE[word]) for room, word in re.findall(r"\bROOM\((\w+), (\w+),", body)]
-             for name, body in re.findall(r"#define (\w+)\(ROOM\) ?((?:[^\n]*\\\n)*[^\n]*)", text)}
+    """Of each function of functions.h: its parameters, what is passed on, its buffers and results in their order, with
+    the width of each, its rooms, and the parameters of the proved function with what it is passed. The one in dialects is
+    a function, too."""
+    body = r"((?:[^\n]*\\\n)*[^\n]*)"
+    has = {name: re.findall(r"(GIVEN|ANSWER|RESULTS?)\((\w+)(?:, (\d+))?", it)
+           for name, it in re.findall(rf"#define (\w+)\(GIVEN, ANSWER, RESULT, RESULTS\) {body}", text)}
+    rooms = {name: [(room, "*" + ALIKE[word]) for room, word in re.findall(r"\bROOM\((\w+), (\w+),", it)]
+             for name, it in re.findall(rf"#define (\w+)\(ROOM\) ?{body}", text)}
     found = {}
     for name, its, given, passed in re.findall(rf"^FUNCTION\(\s*(\w+), (\w+){LISTED * 2}\)", text, re.S | re.M):
         found[name] = (of_c(given), parameters(passed), has[its], [], of_c(given), parameters(passed))
@@ -129,7 +130,8 @@ def differences(texts):
     exported = functions(EXPORT, "\n".join(texts[one] for one in EXPORTS), of_rattle)
     in_rust = functions(r"pub fn (wkt_\w+)\(([^()]*)\)\s*->\s*u32;", texts[RUST], of_rust)
     lists = listed(texts[LISTS])
-    yield from named("what wkt_c exports and what functions.h has", {name: it[4] for name, it in lists.items()}, exported)
+    proved = {name: it[4] for name, it in lists.items()}
+    yield from named("what wkt_c exports and what functions.h has", proved, exported)
     called = {name: one[0] for name, one in lists.items() if not name.endswith(IN)}
     yield from named("what functions.h has and what wkt.h declares", declared, called)
     here = {name: declared.get(name) for name in in_rust}
@@ -178,7 +180,7 @@ CHANGES = [
     (EXPORTS[1], "numbers: &[i64],", "numbers: &mut [i64],"),
     (EXPORTS[2], "stop: &mut usize,", "stop: &mut u32,"),
     (EXPORTS[3], "number_count: &mut usize,", "number_count: &mut u32,"),
-    (EXPORTS[4], "read_room: &mut [u8],\n    numbers_room: &mut [i64],", "numbers_room: &mut [i64],\n    read_room: &mut [u8],"),
+    (EXPORTS[4], "    read_room: &mut [u8],\n    numbers_room: &mut [i64],", "    numbers_room: &mut [i64],"),
     (SIZES[0], "pub kind: u32,", "pub kind: usize,"),
     (SIZES[1], "pub rings: usize,", "pub ring_count: usize,"),
     (SIZES[2], "pub low: u64,", "pub low: u32,"),
