@@ -82,8 +82,8 @@ def fields_of_c(body):
 
 def listed(text):
     """Of each function of functions.h: its parameters, what is passed on, its buffers and results in their order, with
-    the width of each, its rooms, and the parameters of the proved function with what it is passed. The one in dialects is
-    a function, too."""
+    the width of each, its rooms, and the parameters of the proved function with what it is passed. The one in dialects
+    is a function, too."""
     body = r"((?:[^\n]*\\\n)*[^\n]*)"
     has = {name: re.findall(r"(GIVEN|ANSWER|RESULTS?)\((\w+)(?:, (\d+))?", it)
            for name, it in re.findall(rf"#define (\w+)\(GIVEN, ANSWER, RESULT, RESULTS\) {body}", text)}
