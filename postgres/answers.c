@@ -1,6 +1,7 @@
 /* Calls of libwkt on whole texts of the database. */
 #include "wkt_pg.h"
 
+#include "dialects.h"
 #include "mb/pg_wchar.h"
 #include "utils/builtins.h"
 #include "utils/memutils.h"
@@ -10,6 +11,36 @@ static const char *const dimensions[] = WKT_DIMENSION_WORDS;
 
 void fail_with_places(int32 most) {
     ereport(ERROR, (errcode(ERRCODE_INVALID_PARAMETER_VALUE), errmsg("places must be between 0 and %d", most)));
+}
+
+static void fail_with_dialect(const char *name, size_t length) {
+    int shown = pg_mbcliplen(name, (int)length, 60);
+    const char *hint = DIALECT_HINT, *more = (size_t)shown < length ? ".." : "";
+    ereport(ERROR, (errcode(ERRCODE_INVALID_PARAMETER_VALUE),
+                    errmsg("unknown dialect: \"%.*s%s\"", shown, name, more),
+                    errhint("%c%s.", pg_toupper((unsigned char)hint[0]), hint + 1)));
+}
+
+/* The dialects of a list; an empty one has none. */
+static uint32_t dialects_of(const text *list) {
+    const char *at = VARDATA_ANY(list), *end = at + VARSIZE_ANY_EXHDR(list);
+    uint32_t dialects = 0;
+    if (at == end) return 0;
+    for (size_t length;; at += length + 1) {
+        uint32_t added;
+        CHECK_FOR_INTERRUPTS();
+        length = dialect_length(at, end);
+        added = dialect_named(at, length);
+        if (added == 0) fail_with_dialect(at, length);
+        dialects |= added;
+        if (at + length == end) return dialects;
+    }
+}
+
+/* The arguments from `at` on: places, and dialects where the function takes them. */
+uint32_t asked_of(FunctionCallInfo fcinfo, int at, int32 most) {
+    uint32_t places = places_of(PG_GETARG_INT32(at), most);
+    return PG_NARGS() > at + 1 ? places | dialects_of(PG_GETARG_TEXT_PP(at + 1)) : places;
 }
 
 /* A cancel ends these two between two parts of a long text. */
@@ -56,30 +87,43 @@ static bool is_refusal(wkt_status status) {
     return (status != WKT_OK && status <= WKT_LAST_REFUSAL) || status == WKT_NOT_UTF8 || status == WKT_NOT_WHOLE;
 }
 
-/* Room in which nearly every answer fits: a text of n bytes is answered in some 2n + 8. Room that isn't filled costs
- * nothing, and an answer that doesn't fit would be made twice. */
-static size_t room_for(size_t length) { return Min(2 * length + 16, MaxAllocSize - VARHDRSZ); }
+/* The longest text of the database. */
+#define MOST_BYTES (MaxAllocSize - VARHDRSZ)
+
+/* Room in which nearly every answer fits: a text of n bytes is answered in some 2n + 8 without exponents. Room that isn't
+ * filled costs nothing, and an answer that doesn't fit is made twice. */
+static size_t room_for(size_t length) { return Min(2 * length + 16, MOST_BYTES); }
 
 static inline wkt_status call_canonical(Call *call) {
     const Question *asked = call->asked;
     uint8_t *out = call->made ? (uint8_t *)VARDATA(call->made) : NULL;
-    size_t room = out ? room_for(asked->length) : 0, end;
-    return wkt_canonical(asked->utf8, asked->length, asked->places | WKT_WHOLE, out, room, &call->needed, &end);
+    size_t end;
+    return wkt_canonical(asked->utf8, asked->length, asked->places | WKT_WHOLE, out, call->room, &call->needed, &end);
+}
+
+/* The status of a call with so much room for its answer, which is left to be freed where it is one. */
+static wkt_status canonical_in(Call *call, size_t room) {
+    wkt_status status;
+    call->room = room;
+    call->made = palloc(VARHDRSZ + room);
+    status = make_call(call_canonical, call, call->asked->length);
+    if (status != WKT_OK) pfree(call->made);
+    return status;
 }
 
 /* The canonical text of a whole text, if `answer` is asked for; false where it is refused. */
 bool canonical_of(const Question *asked, text **answer) {
-    text *made = answer ? palloc(VARHDRSZ + room_for(asked->length)) : NULL;
-    Call call = {.asked = asked, .made = made};
-    wkt_status status = make_call(call_canonical, &call, asked->length);
+    Call call = {.asked = asked};
+    wkt_status status = answer ? canonical_in(&call, room_for(asked->length))
+                               : make_call(call_canonical, &call, asked->length);
 
     if (status == WKT_TOO_SMALL && !answer) return true; /* there was no room, and nothing else was wrong */
+    if (status == WKT_TOO_SMALL && call.needed <= MOST_BYTES) status = canonical_in(&call, call.needed);
     if (status == WKT_OK && answer) {
-        SET_VARSIZE(made, VARHDRSZ + call.needed);
-        *answer = made;
+        SET_VARSIZE(call.made, VARHDRSZ + call.needed);
+        *answer = call.made;
         return true;
     }
-    if (made) pfree(made);
     if (status == WKT_TOO_SMALL)
         ereport(ERROR, (errcode(ERRCODE_PROGRAM_LIMIT_EXCEEDED),
                         errmsg("the canonical text is too long: it has %zu bytes", call.needed)));
@@ -118,19 +162,35 @@ static inline wkt_status call_infer(Call *call) {
     return wkt_infer(call->asked->utf8, call->asked->length, &call->kind, &call->dimension);
 }
 
-/* The kind and the dimension that the header of a text names; false where it names none. The header ends at the first
- * parenthesis, so a text that has one in its front is read no further. */
-bool header_from(Datum given, uint32_t *kind, uint32_t *dimension) {
+static inline wkt_status call_srid(Call *call) {
+    return wkt_srid(call->asked->utf8, call->asked->length, &call->srid, &call->end);
+}
+
+/* A text up to its first parenthesis, before which header and SRID end. If its front has one no more is fetched. */
+static Question question_of_front(Datum given) {
     text *front = front_of(given, LONGEST_FRONT);
     const char *opening = memchr(VARDATA_ANY(front), '(', VARSIZE_ANY_EXHDR(front));
-    Question asked;
+    if (opening == NULL) return question_of_text(DatumGetTextPP(given), 0);
+    return question_of(VARDATA_ANY(front), opening + 1 - VARDATA_ANY(front), 0);
+}
+
+/* The kind and the dimension that the header of a text names; false where it names none. */
+bool header_from(Datum given, uint32_t *kind, uint32_t *dimension) {
+    Question asked = question_of_front(given);
     Call call = {.asked = &asked};
-    wkt_status status;
-    if (opening == NULL) front = DatumGetTextPP(given);
-    asked = question_of(VARDATA_ANY(front), opening ? opening + 1 - VARDATA_ANY(front) : VARSIZE_ANY_EXHDR(front), 0);
-    status = make_call(call_infer, &call, asked.length);
+    wkt_status status = make_call(call_infer, &call, asked.length);
     if (status == WKT_NO_MEMORY) fail_with(status);
     *kind = call.kind;
     *dimension = call.dimension;
     return status == WKT_OK;
+}
+
+/* The SRID in front of a text; false where there is none. */
+bool srid_from(Datum given, uint32_t *srid) {
+    Question asked = question_of_front(given);
+    Call call = {.asked = &asked};
+    wkt_status status = make_call(call_srid, &call, asked.length);
+    if (status != WKT_OK) fail_with(status);
+    *srid = call.srid;
+    return call.end != 0;
 }

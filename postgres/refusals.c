@@ -30,7 +30,7 @@ static void add_hint(Refusal *refusal, const Question *asked) {
     Call call = {.asked = asked};
     char *said;
     if (make_call(call_hint, &call, asked->length) != WKT_OK || call.hint == WKT_HINT_NONE) return;
-    said = psprintf(hints[call.hint], asked->places);
+    said = psprintf(hints[call.hint], asked->places % WKT_WHOLE);
     said[0] = (char)pg_toupper((unsigned char)said[0]);
     refusal->hint = psprintf("%s.", said);
     refusal->cause = words[call.hint];
@@ -96,7 +96,7 @@ static void put_refusal(const Refusal *refusal, Datum *row, bool *nulls) {
 /* The value of a text, or why there is none: a row, and no error. */
 PG_FUNCTION_INFO_V1(pg_wkt_read);
 Datum pg_wkt_read(PG_FUNCTION_ARGS) {
-    Question asked = question_of_text(PG_GETARG_TEXT_PP(0), places_of(PG_GETARG_INT32(1), TYPE_PLACES));
+    Question asked = question_of_text(PG_GETARG_TEXT_PP(0), asked_of(fcinfo, 1, TYPE_PLACES));
     Datum row[1 + REFUSAL_COLUMNS] = {0};
     bool nulls[1 + REFUSAL_COLUMNS] = {false, true, true, true, true, true};
     text *answer;
@@ -139,7 +139,7 @@ static text *shown(const Question *asked, const Refusal *refusal) {
 /* Why a text is refused: a row; null where it is read. */
 PG_FUNCTION_INFO_V1(pg_wkt_explain);
 Datum pg_wkt_explain(PG_FUNCTION_ARGS) {
-    Question asked = question_of_text(PG_GETARG_TEXT_PP(0), places_of(PG_GETARG_INT32(1), MOST_PLACES));
+    Question asked = question_of_text(PG_GETARG_TEXT_PP(0), asked_of(fcinfo, 1, MOST_PLACES));
     Datum row[REFUSAL_COLUMNS + 1];
     bool nulls[REFUSAL_COLUMNS + 1] = {false};
     Refusal refusal;

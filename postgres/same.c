@@ -56,7 +56,7 @@ static text *key_of(Known *known, MemoryContext where, Question *asked) {
 
 PG_FUNCTION_INFO_V1(pg_wkt_same);
 Datum pg_wkt_same(PG_FUNCTION_ARGS) {
-    uint32_t places = places_of(PG_GETARG_INT32(2), MOST_PLACES);
+    uint32_t places = asked_of(fcinfo, 2, MOST_PLACES);
     Question asked[2] = {question_of_text(PG_GETARG_TEXT_PP(0), places),
                          question_of_text(PG_GETARG_TEXT_PP(1), places)};
     Known *known = known_of(fcinfo->flinfo);

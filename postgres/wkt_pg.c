@@ -17,7 +17,7 @@ void _PG_init(void) {
 
 PG_FUNCTION_INFO_V1(pg_wkt_canonical);
 Datum pg_wkt_canonical(PG_FUNCTION_ARGS) {
-    Question asked = question_of_text(PG_GETARG_TEXT_PP(0), places_of(PG_GETARG_INT32(1), MOST_PLACES));
+    Question asked = question_of_text(PG_GETARG_TEXT_PP(0), asked_of(fcinfo, 1, MOST_PLACES));
     text *answer;
     if (!canonical_of(&asked, &answer)) return refuse(NULL, &asked);
     PG_RETURN_TEXT_P(answer);
@@ -25,7 +25,7 @@ Datum pg_wkt_canonical(PG_FUNCTION_ARGS) {
 
 PG_FUNCTION_INFO_V1(pg_wkt_reads);
 Datum pg_wkt_reads(PG_FUNCTION_ARGS) {
-    Question asked = question_of_text(PG_GETARG_TEXT_PP(0), places_of(PG_GETARG_INT32(1), MOST_PLACES));
+    Question asked = question_of_text(PG_GETARG_TEXT_PP(0), asked_of(fcinfo, 1, MOST_PLACES));
     PG_RETURN_BOOL(canonical_of(&asked, NULL));
 }
 
@@ -43,6 +43,14 @@ Datum pg_wkt_dimension(PG_FUNCTION_ARGS) {
     uint32_t kind, dimension;
     if (!header_from(PG_GETARG_DATUM(0), &kind, &dimension)) PG_RETURN_NULL();
     PG_RETURN_TEXT_P(cstring_to_text(names[dimension]));
+}
+
+/* Null where none stands in front. */
+PG_FUNCTION_INFO_V1(pg_wkt_srid);
+Datum pg_wkt_srid(PG_FUNCTION_ARGS) {
+    uint32_t srid;
+    if (!srid_from(PG_GETARG_DATUM(0), &srid)) PG_RETURN_NULL();
+    PG_RETURN_INT32((int32)srid); /* of at most nine digits */
 }
 
 PG_FUNCTION_INFO_V1(pg_wkt_version);

@@ -20,7 +20,7 @@
 #define LONGEST_FRONT 64
 
 /* A text as the database holds it, and as the library reads it: the same bytes, or in place of those that aren't ASCII,
- * which no geometry has, others that none has. So a place is the same in both. */
+ * which no geometry has, others that none has. So a place is the same in both. To the places dialects are added. */
 typedef struct Question {
     const char *given;
     const uint8_t *utf8;
@@ -32,11 +32,12 @@ typedef struct Question {
 typedef struct Call {
     const Question *asked; /* wkt_same: two */
     text *made;            /* with room for the canonical text; NULL where it isn't asked for */
+    size_t room;
     union {
-        size_t needed, start;
+        size_t needed, start, end;
     };
     union {
-        uint32_t same, expected, hint, kind;
+        uint32_t same, expected, hint, kind, srid;
     };
     uint32_t dimension;
 } Call;
@@ -55,6 +56,7 @@ static inline wkt_status make_call(wkt_status (*function)(Call *), Call *call, s
 
 /* answers.c */
 extern void fail_with_places(int32 most);
+extern uint32_t asked_of(FunctionCallInfo fcinfo, int at, int32 most);
 extern Question question_of(const char *given, size_t length, uint32_t places);
 extern Question question_of_text(text *given, uint32_t places);
 extern bool canonical_of(const Question *asked, text **answer);
@@ -62,6 +64,7 @@ extern bool are_same(const Question asked[2], bool *same);
 extern char *header_of(uint32_t kind, uint32_t dimension);
 extern text *front_of(Datum given, int32 length);
 extern bool header_from(Datum given, uint32_t *kind, uint32_t *dimension);
+extern bool srid_from(Datum given, uint32_t *srid);
 
 static inline uint32_t places_of(int32 places, int32 most) {
     if (places < 0 || places > most) fail_with_places(most);

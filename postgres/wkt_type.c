@@ -120,7 +120,7 @@ Datum pg_wkt_recast(PG_FUNCTION_ARGS) {
 /* The value of a text; null where it is refused. */
 PG_FUNCTION_INFO_V1(pg_wkt_or_null);
 Datum pg_wkt_or_null(PG_FUNCTION_ARGS) {
-    Question asked = question_of_text(PG_GETARG_TEXT_PP(0), places_of(PG_GETARG_INT32(1), TYPE_PLACES));
+    Question asked = question_of_text(PG_GETARG_TEXT_PP(0), asked_of(fcinfo, 1, TYPE_PLACES));
     text *answer;
     if (!canonical_of(&asked, &answer)) PG_RETURN_NULL();
     PG_RETURN_TEXT_P(answer);

@@ -21,6 +21,23 @@ is "rules: two rows are the same exactly if their keys are" 0 "$(ask keys "selec
     where a.key <> 'refused' and b.key <> 'refused' and a.places = b.places and wkt_same(a.t, b.t, a.places) <> (a.key = b.key)")"
 echo "rules: $(wc -l < "$dir/rules") keys"
 
+# Texts in dialects. What is read without one has the same key in each, and the type takes none.
+grep -v '^#' "$here/../tests/data/dialects.tsv" > "$dir/dialects"
+chmod 644 "$dir/dialects"
+ask keys "create table dialects (dialect text, places int, t text, srid int, key text, place int)" "copy dialects from '$dir/dialects' (null '')" \
+    "update dialects set dialect = coalesce(dialect, '')" "create function in_dialect(t text, places int, dialect text) returns text language plpgsql as
+         \$\$ begin return wkt_canonical(t, places, dialect); exception when invalid_text_representation then return 'refused'; end \$\$"
+is "dialects: rows of the table that have another key, SRID or place" "" "$(ask keys "select d, answer, wkt_srid(t), e.place from dialects d, in_dialect(t, places, dialect) answer, wkt_explain(t, places, dialect) e
+    where key <> answer or srid is distinct from wkt_srid(t) or d.place is distinct from e.place or wkt_reads(t, places, dialect) <> (key <> 'refused')")"
+is "dialects: rows that wkt_or_null and wkt_read answer otherwise" "" "$(ask keys "select d, r from dialects d, wkt_read(t, least(places, 18), dialect) r
+    where places <= 18 and ((coalesce(value::text, 'refused'), r.place) is distinct from (key, d.place) or value is distinct from wkt_or_null(t, places, dialect))")"
+is "dialects: two rows are the same exactly if their keys are" 0 "$(ask keys "select count(*) from dialects a, dialects b
+    where a.key <> 'refused' and b.key <> 'refused' and wkt_same(a.t, b.t, 0, 'ewkt,exponents,nan') <> (a.key = b.key) and wkt_reads(a.t, 0, 'ewkt,exponents,nan') and wkt_reads(b.t, 0, 'ewkt,exponents,nan')")"
+is "dialects: what is read without one has another key in all" 0 "$(ask keys "select count(*) from rules where key <> 'refused' and wkt_canonical(t, places, 'ewkt,exponents,nan') <> key")"
+is "dialects: an empty list has one" 0 "$(ask keys "select count(*) from dialects where wkt_reads(t, places, '') <> wkt_reads(t, places)")"
+is "dialects: the type takes one" 0 "$(ask keys "select count(*) from dialects where by_type(t, 18) <> 'refused' and not exists (select from generate_series(0, 18) p where wkt_reads(t, p))")"
+echo "dialects: $(wc -l < "$dir/dialects") texts"
+
 # The keys that stores keep: a text with more after its geometry is refused here, and any other has its key.
 if [ -f "$here/../tests/data/keys.tsv" ]; then
     grep -v '^#' "$here/../tests/data/keys.tsv" | sed 's/\\/\\\\/g' > "$dir/kept"
