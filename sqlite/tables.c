@@ -194,7 +194,7 @@ static int filter(sqlite3_vtab_cursor *base, int given, const char *name, int co
     if (!(given & 1)) return SQLITE_OK;
     for (int i = 0; i < count; i++)
         if (sqlite3_value_type(values[i]) == SQLITE_NULL) return SQLITE_OK;
-    status = canonical_of(values[0], places_of(count, values, 1), &asked, &cursor->text, &length);
+    status = canonical_of(values[0], asked_of(count, values, 1), &asked, &cursor->text, &length);
     if (status != WKT_OK) {
         cursor->text = NULL;
         if (status == WKT_NO_MEMORY) return SQLITE_NOMEM;

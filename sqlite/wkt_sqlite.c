@@ -7,8 +7,15 @@
 SQLITE_EXTENSION_INIT1
 #include <string.h>
 
+#include "../postgres/dialects.h"
+
 #define MOST_PLACES 36
 #define PLACES 18 /* where nothing is said */
+/* What stands for arguments that are no places, or no dialects, or for which there is no memory: the library refuses these. */
+#define NO_PLACES 37
+#define NO_DIALECT 38
+#define NO_ROOM 39
+#define MOST_BYTES 2147483391 /* of sqlite3_malloc64 */
 
 #ifdef _WIN32
 #define EXPORTED __declspec(dllexport)
@@ -28,16 +35,14 @@ static int some_null(int count, sqlite3_value **values) {
     return 0;
 }
 
-/* The argument `at` as places, or 18 where it isn't given: a whole number from 0 to 36, as a number or as its text, as 6, 6.0
- * or '6.0'. What is none is one too many. */
-uint32_t places_of(int count, sqlite3_value **values, int at) {
-    int type = count > at ? sqlite3_value_numeric_type(values[at]) : SQLITE_NULL;
-    double places = type == SQLITE_INTEGER || type == SQLITE_FLOAT ? sqlite3_value_double(values[at]) : -1;
-    if (count <= at) return PLACES;
-    return places >= 0 && places <= MOST_PLACES && places == (uint32_t)places ? (uint32_t)places : MOST_PLACES + 1;
+/* An argument as places: a whole number from 0 to 36, as a number or as its text, as 6, 6.0 or '6.0'. */
+static uint32_t places_of(sqlite3_value *value) {
+    int type = sqlite3_value_numeric_type(value);
+    double places = type == SQLITE_INTEGER || type == SQLITE_FLOAT ? sqlite3_value_double(value) : -1;
+    return places >= 0 && places <= MOST_PLACES && places == (uint32_t)places ? (uint32_t)places : NO_PLACES;
 }
 
-/* A blob is a text in UTF-8, whatever the encoding of the database. */
+/* The bytes of an argument. A blob is a text in UTF-8, whatever the encoding of the database. */
 static wkt_status question_of(sqlite3_value *value, uint32_t places, Question *asked) {
     int is_blob = sqlite3_value_type(value) == SQLITE_BLOB;
     asked->text = is_blob ? sqlite3_value_blob(value) : sqlite3_value_text(value);
@@ -47,19 +52,48 @@ static wkt_status question_of(sqlite3_value *value, uint32_t places, Question *a
     return asked->text == NULL ? WKT_NO_MEMORY : WKT_OK;
 }
 
-/* The canonical text of a value, in memory of SQLite's, if `out` is asked for; or why there is none. A text of n bytes
- * is answered in at most some 2n + 8. */
-wkt_status canonical_of(sqlite3_value *value, uint32_t places, Question *asked, char **out, size_t *length) {
-    size_t room, end;
-    wkt_status status = question_of(value, places, asked);
-    if (status != WKT_OK) return status;
-    room = out ? 2 * asked->length + 16 : 0;
+/* Places with the dialects of a list added; an empty list has none. */
+static uint32_t with_dialects(sqlite3_value *value, uint32_t places) {
+    Question list;
+    const char *at, *end;
+    if (question_of(value, 0, &list) != WKT_OK) return NO_ROOM;
+    at = (const char *)list.text;
+    end = at + list.length;
+    if (at == end) return places;
+    for (size_t length;; at += length + 1) {
+        uint32_t added = dialect_named(at, length = dialect_length(at, end));
+        if (added == 0) return NO_DIALECT;
+        places |= added;
+        if (at + length == end) return places;
+    }
+}
+
+/* The arguments from `at` on: places, or 18 where they aren't given, and dialects. */
+uint32_t asked_of(int count, sqlite3_value **values, int at) {
+    uint32_t places = count > at ? places_of(values[at]) : PLACES;
+    return count > at + 1 && places != NO_PLACES ? with_dialects(values[at + 1], places) : places;
+}
+
+/* The same in so much memory of SQLite's, if `out` is asked for. */
+static wkt_status canonical_in(const Question *asked, char **out, size_t room, size_t *length) {
+    size_t end;
+    wkt_status status;
+    if (room > MOST_BYTES) return WKT_TOO_SMALL;
     if (out && (*out = sqlite3_malloc64(room)) == NULL) return WKT_NO_MEMORY;
-    status =
-        wkt_canonical(asked->text, asked->length, places | WKT_WHOLE, out ? (uint8_t *)*out : NULL, room, length, &end);
-    if (status == WKT_TOO_SMALL && !out) status = WKT_OK;
+    status = wkt_canonical(asked->text, asked->length, asked->places | WKT_WHOLE, out ? (uint8_t *)*out : NULL, room,
+                           length, &end);
     if (status != WKT_OK && out) sqlite3_free(*out);
     return status;
+}
+
+/* The canonical text of a value, in memory of SQLite's, if `out` is asked for; or why there is none. A text of n bytes
+ * is answered in at most some 2n + 8 without exponents, and with them, where it doesn't fit, once more. */
+wkt_status canonical_of(sqlite3_value *value, uint32_t places, Question *asked, char **out, size_t *length) {
+    wkt_status status = question_of(value, places, asked);
+    if (status != WKT_OK || places == NO_ROOM) return WKT_NO_MEMORY;
+    status = canonical_in(asked, out, out ? 2 * asked->length + 16 : 0, length);
+    if (status != WKT_TOO_SMALL) return status;
+    return out ? canonical_in(asked, out, *length, length) : WKT_OK;
 }
 
 /* Why a whole text is refused: at which byte, and what could stand there, which is NULL where no place is known; one stable
@@ -100,7 +134,7 @@ static int is_refusal(wkt_status status) {
 /* What the text may come from, or what would be read, in memory of SQLite's. */
 static char *hint_of(const Question *asked, uint32_t hint) {
     static const char *const hints[] = WKT_HINTS;
-    return sqlite3_mprintf(hints[hint], asked->places);
+    return sqlite3_mprintf(hints[hint], asked->places % WKT_WHOLE);
 }
 
 /* The place and what was expected there, or why there is no place, in memory of SQLite's. */
@@ -113,6 +147,8 @@ static char *message_of(const Refusal *refusal) {
 char *error_of(const Question *asked, wkt_status status) {
     Refusal refusal;
     char *why, *said, *full = NULL;
+    if (status == WKT_NO_PLACES && asked->places == NO_DIALECT)
+        return sqlite3_mprintf("unknown dialect: " DIALECT_HINT);
     if (status == WKT_NO_PLACES) return sqlite3_mprintf("places must be between 0 and %d", MOST_PLACES);
     if (!is_refusal(status)) return sqlite3_mprintf("wkt: %s", wkt_message(status));
     refusal = refusal_of(asked);
@@ -161,7 +197,7 @@ static wkt_status answered(sqlite3_context *context, int count, sqlite3_value **
     size_t length;
     wkt_status status;
     if (some_null(count, values)) return WKT_OK;
-    status = canonical_of(values[0], places_of(count, values, 1), asked, &out, &length);
+    status = canonical_of(values[0], asked_of(count, values, 1), asked, &out, &length);
     if (status == WKT_OK) sqlite3_result_text64(context, out, length, sqlite3_free, SQLITE_UTF8);
     return status;
 }
@@ -184,7 +220,7 @@ static void reads(sqlite3_context *context, int count, sqlite3_value **values) {
     size_t length;
     wkt_status status;
     if (some_null(count, values)) return;
-    status = canonical_of(values[0], places_of(count, values, 1), &asked, NULL, &length);
+    status = canonical_of(values[0], asked_of(count, values, 1), &asked, NULL, &length);
     if (!is_limit(context, &asked, status)) sqlite3_result_int(context, status == WKT_OK);
 }
 
@@ -215,7 +251,7 @@ static wkt_status key_of(sqlite3_value *value, uint32_t places, Question *asked,
 }
 
 static void same(sqlite3_context *context, int count, sqlite3_value **values) {
-    uint32_t places = places_of(count, values, 2);
+    uint32_t places = asked_of(count, values, 2);
     Key *keys[2] = {NULL, NULL}, *made[2] = {NULL, NULL};
     Question asked;
     wkt_status status = WKT_OK;
@@ -259,6 +295,18 @@ static void dimension(sqlite3_context *context, int count, sqlite3_value **value
     if (has_header(context, count, values, &k, &d)) sqlite3_result_text(context, names[d], -1, SQLITE_STATIC);
 }
 
+/* The SRID in front of a text; null where there is none. */
+static void srid(sqlite3_context *context, int count, sqlite3_value **values) {
+    Question asked;
+    uint32_t number;
+    size_t end = 0;
+    wkt_status status;
+    if (some_null(count, values)) return;
+    status = question_of(values[0], PLACES, &asked);
+    if (status == WKT_OK) status = wkt_srid(asked.text, asked.length, &number, &end);
+    if (!is_limit(context, &asked, status) && end != 0) sqlite3_result_int64(context, number);
+}
+
 /* What a function says of a canonical text. */
 static void counted(sqlite3_context *context, int count, sqlite3_value **values, int (*call)(const char *, size_t)) {
     Question asked;
@@ -267,7 +315,7 @@ static void counted(sqlite3_context *context, int count, sqlite3_value **values,
     int found;
     wkt_status status;
     if (some_null(count, values)) return;
-    status = canonical_of(values[0], places_of(count, values, 1), &asked, &out, &length);
+    status = canonical_of(values[0], asked_of(count, values, 1), &asked, &out, &length);
     if (status != WKT_OK) {
         refuse(context, &asked, status);
         return;
@@ -308,7 +356,7 @@ static int is_explained(sqlite3_context *context, int count, sqlite3_value **val
     size_t length;
     wkt_status status;
     if (some_null(count, values)) return 0;
-    status = canonical_of(values[0], places_of(count, values, 1), asked, NULL, &length);
+    status = canonical_of(values[0], asked_of(count, values, 1), asked, NULL, &length);
     if (status == WKT_OK || is_limit(context, asked, status)) return 0;
     *refusal = refusal_of(asked);
     return 1;
@@ -378,35 +426,24 @@ static void explain(sqlite3_context *context, int count, sqlite3_value **values)
 int sqlite3_wkt_init(sqlite3 *db, char **error, const sqlite3_api_routines *api) {
     static const struct {
         const char *name;
-        int count;
+        int least, most; /* arguments */
         void (*call)(sqlite3_context *, int, sqlite3_value **);
-    } functions[] = {{"wkt_canonical", 1, canonical},
-                     {"wkt_canonical", 2, canonical},
-                     {"wkt_same", 2, same},
-                     {"wkt_same", 3, same},
-                     {"wkt_reads", 1, reads},
-                     {"wkt_reads", 2, reads},
-                     {"wkt_explain", 1, explain},
-                     {"wkt_explain", 2, explain},
-                     {"wkt_explain_place", 1, place},
-                     {"wkt_explain_place", 2, place},
-                     {"wkt_explain_expected", 1, expected},
-                     {"wkt_explain_expected", 2, expected},
-                     {"wkt_explain_cause", 1, cause},
-                     {"wkt_explain_cause", 2, cause},
-                     {"wkt_explain_hint", 1, hint},
-                     {"wkt_explain_hint", 2, hint},
-                     {"wkt_explain_message", 1, message},
-                     {"wkt_explain_message", 2, message},
-                     {"wkt_or_null", 1, or_null},
-                     {"wkt_or_null", 2, or_null},
-                     {"wkt_kind", 1, kind},
-                     {"wkt_version", 0, version},
-                     {"wkt_dimension", 1, dimension},
-                     {"wkt_num_points", 1, num_points},
-                     {"wkt_num_points", 2, num_points},
-                     {"wkt_num_parts", 1, num_parts},
-                     {"wkt_num_parts", 2, num_parts}};
+    } functions[] = {{"wkt_canonical", 1, 3, canonical},
+                     {"wkt_or_null", 1, 3, or_null},
+                     {"wkt_same", 2, 4, same},
+                     {"wkt_reads", 1, 3, reads},
+                     {"wkt_explain", 1, 3, explain},
+                     {"wkt_explain_place", 1, 3, place},
+                     {"wkt_explain_expected", 1, 3, expected},
+                     {"wkt_explain_cause", 1, 3, cause},
+                     {"wkt_explain_hint", 1, 3, hint},
+                     {"wkt_explain_message", 1, 3, message},
+                     {"wkt_srid", 1, 1, srid},
+                     {"wkt_kind", 1, 1, kind},
+                     {"wkt_dimension", 1, 1, dimension},
+                     {"wkt_num_points", 1, 2, num_points},
+                     {"wkt_num_parts", 1, 2, num_parts},
+                     {"wkt_version", 0, 0, version}};
     int status = SQLITE_OK;
     SQLITE_EXTENSION_INIT2(api);
     if (!wkt_supported()) {
@@ -415,10 +452,11 @@ int sqlite3_wkt_init(sqlite3 *db, char **error, const sqlite3_api_routines *api)
                                      "with SSE4.2 and POPCNT");
         return SQLITE_ERROR;
     }
-    for (size_t i = 0; status == SQLITE_OK && i < sizeof functions / sizeof *functions; i++)
-        status = sqlite3_create_function_v2(db, functions[i].name, functions[i].count,
-                                            SQLITE_UTF8 | SQLITE_DETERMINISTIC | SQLITE_INNOCUOUS, NULL,
-                                            functions[i].call, NULL, NULL, NULL);
+    for (size_t i = 0; i < sizeof functions / sizeof *functions; i++)
+        for (int count = functions[i].least; status == SQLITE_OK && count <= functions[i].most; count++)
+            status = sqlite3_create_function_v2(db, functions[i].name, count,
+                                                SQLITE_UTF8 | SQLITE_DETERMINISTIC | SQLITE_INNOCUOUS, NULL,
+                                                functions[i].call, NULL, NULL, NULL);
     return status == SQLITE_OK ? create_tables(db) : status;
 }
 

@@ -5,6 +5,7 @@
 #include <sqlite3ext.h>
 #include <wkt.h>
 
+/* To the places dialects are added. */
 typedef struct Question {
     const uint8_t *text;
     size_t length;
@@ -12,7 +13,7 @@ typedef struct Question {
 } Question;
 
 /* wkt_sqlite.c */
-extern uint32_t places_of(int count, sqlite3_value **values, int at);
+extern uint32_t asked_of(int count, sqlite3_value **values, int at);
 extern wkt_status canonical_of(sqlite3_value *value, uint32_t places, Question *asked, char **out, size_t *length);
 extern char *error_of(const Question *asked, wkt_status status);
 
