@@ -91,6 +91,10 @@ same(
     ask(db, "max(wkt_same(t, 'POINT(1')) from short"),
     "error: invalid well-known text: at character 8: a second number was expected",
 )
+# So it is with a dialect that changes.
+call = "group_concat(wkt_same('POINT(1 2 3)', 'POINT Z(1 2 3)', 18, iif(i < 2, 'untagged', 'ewkt')), '') from short where i < 3"
+same(ask(db, call), "111")
+same(ask(db, call.replace("ewkt", "nan"))[:47], "error: invalid well-known text: at character 11")
 long = "LINESTRING(" + "12.345678 34.567891," * 100_000 + "0 0)"
 
 
@@ -123,6 +127,7 @@ for encoding in ("UTF-16le", "UTF-16be"):
     wide.execute("create table t (g text, key text as (wkt_canonical(g)) stored)")
     wide.execute("insert into t values ('point ( 1.0 2 )')")
     same(wide.execute("select key, wkt_reads('PÖINT(1 2)') from t").fetchone(), ("POINT(1 2)", 0))
+    same(ask(wide, "wkt_canonical('SRID=1;POINT(1 2 3)', 18, 'ewkt') || wkt_srid('SRID=1;')"), "POINT Z(1 2 3)1")
     same(wide.execute("select x, path from wkt_points('multipoint(1 2.0)')").fetchone(), ("1", "[1,1]"))
 for encoding in ("UTF-8", "UTF-16le", "UTF-16be"):
     wide = connect()
@@ -148,24 +153,41 @@ with tempfile.TemporaryDirectory() as there:
         same(file.execute("pragma integrity_check").fetchone(), ("ok",))
         file.close()
 
-# The tables of keys.
+def table(name):
+    """The fields of each row, with its escapes read."""
+    escapes = {r"\n": "\n", r"\r": "\r", r"\t": "\t", r"\\": "\\"}
+    with open(f"{repository}/tests/data/{name}.tsv", encoding="utf-8", newline="\n") as lines:
+        for line in lines:
+            if not line.startswith("#"):
+                fields = line.rstrip("\n").split("\t")
+                yield [re.sub(r"\\[nrt\\]", lambda it: escapes[it[0]], field) for field in fields]
+
+
+# The tables of keys, and texts in dialects.
 rows = 0
-with open(repository + "/tests/data/key_rules.tsv", encoding="utf-8", newline="\n") as table:
-    for row in table:
-        if not row.startswith("#"):
-            places, text, key = row.rstrip("\n").split("\t")
-            for escape, character in ((r"\n", "\n"), (r"\r", "\r"), (r"\t", "\t"), (r"\\", "\\")):
-                text = text.replace(escape, character)
-            answer = ask(db, "wkt_canonical(?, ?)", text, int(places))
-            assert answer == key or key == "refused" and answer.startswith("error: invalid well-known text"), (
-                text,
-                answer,
-            )
-            same(ask(db, "wkt_reads(?, ?)", text, int(places)), int(key != "refused"))
-            same(ask(db, "wkt_or_null(?, ?)", text, int(places)), key if key != "refused" else None)
-            same(ask(db, "wkt_explain(?, ?) is null", text, int(places)), int(key != "refused"))
-            rows += 1
+for places, text, key in table("key_rules"):
+    answer = ask(db, "wkt_canonical(?, ?)", text, int(places))
+    assert answer == key or key == "refused" and answer.startswith("error: invalid well-known text"), (text, answer)
+    same(ask(db, "wkt_reads(?, ?)", text, int(places)), int(key != "refused"))
+    same(ask(db, "wkt_or_null(?, ?)", text, int(places)), key if key != "refused" else None)
+    same(ask(db, "wkt_explain(?, ?) is null", text, int(places)), int(key != "refused"))
+    if key != "refused":
+        same(ask(db, "wkt_canonical(?, ?, 'ewkt,exponents,nan')", text, int(places)), key)
+    rows += 1
 assert rows > 40
+for dialects, places, text, srid, key, place in table("dialects"):
+    asked, is_read = (text, int(places), dialects), key != "refused"
+    same(ask(db, "wkt_or_null(?, ?, ?)", *asked), key if is_read else None)
+    same(ask(db, "wkt_reads(?, ?, ?)", *asked), int(is_read))
+    same(ask(db, "wkt_explain_place(?, ?, ?)", *asked), None if is_read else int(place))
+    same(ask(db, "wkt_srid(?)", text), int(srid) if srid else None)
+    if is_read:
+        same(ask(db, "wkt_same(?1, ?4, ?2, ?3)", *asked, key), 1)
+    else:
+        answer = ask(db, "wkt_canonical(?, ?, ?)", *asked)
+        assert answer.startswith(f"error: invalid well-known text: at character {place}: "), (asked, answer)
+    rows += 1
+assert rows > 120
 with open(repository + "/tests/data/keys.tsv", encoding="utf-8", newline="\n") as table:
     for row in table:
         if not row.startswith("#"):
@@ -181,6 +203,16 @@ with open(repository + "/tests/data/keys.tsv", encoding="utf-8", newline="\n") a
                     ), (text, answer)
                 rows += 1
 print("Python:", rows, "keys")
+
+# A canonical text may be many times as long as its text in a dialect, and longer than a text may be.
+powers = "LINESTRING(" + "1e37 2e30," * 100_000 + "0 0)"
+written = "LINESTRING(" + ("1" + "0" * 37 + " 2" + "0" * 30 + ",") * 100_000 + "0 0)"
+same(ask(db, "wkt_canonical(?, 0, 'exponents')", powers) == written, True)
+same(ask(db, "wkt_same(?, ?, 0, 'exponents')", powers, written), 1)
+if hasattr(db, "setlimit"):
+    most = db.setlimit(sqlite3.SQLITE_LIMIT_LENGTH, 2_000_000)
+    same(ask(db, "wkt_canonical(?, 0, 'exponents')", powers), "error: string or blob too big")
+    db.setlimit(sqlite3.SQLITE_LIMIT_LENGTH, most)
 
 # Long texts, and deep ones, also on a thread that has little stack.
 same(ask(db, "count(*) from wkt_points(?)", long), 100_001)

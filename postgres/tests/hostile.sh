@@ -7,6 +7,7 @@ stranger() { PGUSER=stranger ask open "$@"; }
 odd="create function odd(type regtype) returns text[] language sql as \$\$ select case type
     when 'text'::regtype then array['null', quote_literal(''), quote_literal('point ( 1.50 2 )'), quote_literal('POINT(1'), 'U&''P\\00D6INT(1 2)''', 'chr(1114111)', 'repeat(''('', 100000)',
         '''POINT('' || repeat(''9'', 100000) || '' 1)''', '''POINT(0.'' || repeat(''0'', 100000) || '' 1)''', 'repeat('' '', 100000) || ''point empty''', 'repeat(''GEOMETRYCOLLECTION('', 10000)',
+        quote_literal('ewkt,exponents'), quote_literal('SRID=999999999;point(1e37 1 nan)'), '''SRID='' || repeat(''1'', 100000) || '';''', 'repeat(''nan,'', 100000)',
         'E''POINT(1 2)\\n\\t\\x01''', '''LINESTRING('' || repeat(''1 2,'', 300000) || ''3)''']
     when 'wkt'::regtype then array['null', '''POINT EMPTY''', '''MULTIPOINT Z(1 2 3,EMPTY)''', '''POINT M(-0.000000000000000001 170141183460469231731 0)''', '''POLYGON((0 0,4 0,2 4,0 0),EMPTY)''',
         '(repeat(''GEOMETRYCOLLECTION('', 1000) || ''MULTIPOLYGON EMPTY'' || repeat('')'', 1000))::wkt', '(''LINESTRING('' || repeat(''1 2,'', 300000) || ''3 4)'')::wkt']
@@ -16,10 +17,10 @@ odd="create function odd(type regtype) returns text[] language sql as \$\$ selec
     when 'cstring'::regtype then array['null', '''POINT(1 2)''', '''''', '''POINT(''']
     when 'cstring[]'::regtype then array['null', '''{}''', '''{NULL}''', '''{6}''', '''{6,7}''', '''{{1},{2}}''', '''[5:5]={6}''', '''{x}''', '''{-1}''', '''{99999999999}'''] end \$\$"
 # Those that take what only the server can give are left out.
-calls="select format('select %s(%s)', p.oid::regproc, concat_ws(', ', a.v || '::' || type[0]::regtype, b.v || '::' || type[1]::regtype, c.v || '::' || type[2]::regtype))
-    from pg_proc p join pg_depend d on classid = 'pg_proc'::regclass and objid = p.oid and deptype = 'e' join pg_extension e on e.oid = refobjid and extname = 'wkt',
-        lateral (select proargtypes::oid[] as type) t, unnest(coalesce(odd(type[0]), '{null}')) a(v), unnest(coalesce(odd(type[1]), '{null}')) b(v), unnest(coalesce(odd(type[2]), '{null}')) c(v)
-    where pronargs between 1 and 3 and 'internal'::regtype <> all (type)"
+calls="select format('select %s(%s)', p.oid::regproc, concat_ws(', ', a.v || '::' || type[0]::regtype, b.v || '::' || type[1]::regtype, c.v || '::' || type[2]::regtype, d.v || '::' || type[3]::regtype))
+    from pg_proc p join pg_depend on classid = 'pg_proc'::regclass and objid = p.oid and deptype = 'e' join pg_extension e on e.oid = refobjid and extname = 'wkt',
+        lateral (select proargtypes::oid[] as type) t, unnest(coalesce(odd(type[0]), '{null}')) a(v), unnest(coalesce(odd(type[1]), '{null}')) b(v), unnest(coalesce(odd(type[2]), '{null}')) c(v), unnest(coalesce(odd(type[3]), '{null}')) d(v)
+    where pronargs between 1 and 4 and 'internal'::regtype <> all (type) and (d.v is null or d.v = quote_literal('ewkt,exponents'))"
 stranger "create schema tried" "set search_path = tried, public" "$odd" "create table calls as $calls" \
     "create function answered(call text) returns text language plpgsql as \$\$ begin execute call; return 'answered'; exception when others then return sqlstate || ' ' || sqlerrm; end \$\$" \
     "create table answers as select answered(format) as said, count(*) as n, min(format) as call from calls group by 1"
@@ -43,9 +44,10 @@ PGUSER=stranger fails open "set search_path = front, pg_catalog; select sha256('
 PGUSER=stranger fails open "set search_path = front, pg_catalog; select 'POINT(1 2)'::public.wkt = 'POINT(1 2)'" "taken"
 ask open "create table kept (at wkt primary key, key text generated always as (wkt_canonical(at::text)) stored, digest bytea generated always as (wkt_digest(at)) stored unique)" \
     "create function called(text) returns text security definer language plpgsql as \$\$ begin insert into public.kept values (\$1::public.wkt) on conflict do nothing;
-        return (select pg_catalog.concat_ws(' ', max_x, public.wkt_num_points(at), public.wkt_same(key, \$1), public.wkt_kind(at), (public.wkt_read(\$1)).place, public.wkt_explain(\$1))
+        return (select pg_catalog.concat_ws(' ', max_x, public.wkt_num_points(at), public.wkt_same(key, \$1), public.wkt_kind(at), (public.wkt_read(\$1)).place, public.wkt_explain(\$1), public.wkt_srid('SRID=4326;' || \$1),
+                public.wkt_same(key, public.wkt_canonical('SRID=1;' || \$1, 18, 'ewkt'), 18, 'nan'))
             from public.kept, public.wkt_bounds(at) order by at limit 1); end \$\$" "create index on kept using hash (at)"
-is "hostile: functions in front" "2.5 2 t LINESTRING" "$(stranger "set search_path = front, pg_catalog" "select public.called('linestring ( 1 2, 2.50 3)')")"
+is "hostile: functions in front" "2.5 2 t LINESTRING 4326 t" "$(stranger "set search_path = front, pg_catalog" "select public.called('linestring ( 1 2, 2.50 3)')")"
 is "hostile: a lying operator" "2 2 1" "$(ask open "insert into kept values ('POINT(1 2)')" "grant select on kept to stranger" "set role stranger" "set search_path = front, pg_catalog" \
     "select pg_catalog.count(distinct at), pg_catalog.count(*), (select pg_catalog.count(*) from public.kept where at operator(public.=) 'point(1.0 2)') from public.kept" | tr '|' ' ')"
 is "hostile: is no superuser" f "$(ask open "select rolsuper from pg_roles where rolname = 'stranger'")"

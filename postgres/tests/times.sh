@@ -63,6 +63,13 @@ while read -r ms sql; do cancelled cancel "$ms" "$sql"; done <<'CALLS'
 1100 count(*) from long, wkt_each(t::wkt) where id = 2
 1200 wkt_kind(repeat(repeat('9', 1000000), 600))
 2700 repeat(repeat('9', 1000000), 600)::wkt
+200 wkt_reads('LINESTRING(1e0 1,' || substr(t, 12), 18, 'exponents') from long where id = 5
+600 wkt_reads(left(t, -1) || ',1e0 1)', 18, 'exponents') from long where id = 5
+1200 length(wkt_canonical(left(t, -1) || ',1e0 1)', 18, 'exponents')) from long where id = 5
+1800 wkt_same(left(t, -1) || ',1e0 1)', t, 18, 'exponents') from long where id = 5
+1800 wkt_explain(left(t, -1) || ',1e0 1', 18, 'ewkt,exponents') from long where id = 2
+200 wkt_srid(repeat(repeat(' ', 1000000), 600) || 'SRID=1;')
+200 wkt_reads('', 18, repeat(repeat('nan,', 100000), 2000))
 CALLS
 # These are no constants: the planner copies those, and no cancel ends that. Before 14 the digest is one call of the server's.
 [ "$server" -lt 140000 ] || cancelled cancel 800 "digest_of(repeat(repeat('9', 1000000), id)) from generate_series(600, 600) id"
