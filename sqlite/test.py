@@ -22,7 +22,7 @@ def ask(db, call, *values):
     """The answer of a call, or the words of its error."""
     try:
         return db.execute("select " + call, values).fetchone()[0]
-    except sqlite3.OperationalError as error:
+    except (sqlite3.OperationalError, sqlite3.DataError) as error:
         return "error: " + str(error)
 
 

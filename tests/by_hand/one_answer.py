@@ -14,15 +14,21 @@ texts.py, which shares nothing with it. The programs in one_answer/ call the fac
     infer, inferred      the kind and dimension of the header; kind: by a database; sort: by the command
     arrays, back, geo    arrays of the text as read; the text of these; as GeoArrow
     same, itself         whether it names the geometry of another text; of itself
+    srid                 the number of SRID=..; in front
+
+A quarter of the texts are in dialects, which are compared with the reader in in_dialects.py. Calls that take none aren't
+asked for these, and each face says how many of its forms of call take them.
 
 It needs the library and the programs in WKT_LIB_DIR (dist/out; `make -C dist` makes them), and what tests/needs.sh
 installs. SKIP=NAME,NAME leaves faces out: python, ctypes, rust, javascript, postgres, sqlite, programs.
+WKT_LIB_BESIDE is the folder of another library for C, whose answers are compared too.
 """
 import collections
 import concurrent.futures
 import glob
 import io
 import os
+import random
 import re
 import shutil
 import subprocess
@@ -30,6 +36,8 @@ import sys
 import tempfile
 import time
 
+import dialects
+import in_dialects
 import texts
 
 TOP = texts.TOP
@@ -39,6 +47,8 @@ sys.dont_write_bytecode = True
 import faces  # noqa: E402 (found by the line above)
 
 LIBRARY = os.path.abspath(os.environ.get("WKT_LIB_DIR", f"{TOP}/dist/out"))
+BESIDE = os.environ.get("WKT_LIB_BESIDE")
+LISTS = [*in_dialects.NAMES, "ewkt", "ewkt,exponents", "nan,untagged", *["ewkt,exponents,nan"] * 7]
 PLACES = "numbers have at most %s places here"
 PYTHON = "/usr/bin/python3" if os.path.exists("/usr/bin/python3") else sys.executable
 
@@ -103,7 +113,7 @@ class Compared:
     def __init__(self, face, rows, right):
         self.face, self.rows, self.right = face, rows, right
         self.found, self.wrong = collections.Counter(), collections.defaultdict(list)
-        self.missing, self.began = {}, time.time()
+        self.missing, self.began, self.take = {}, time.time(), set()
 
     def add(self, form, n, answer):
         kind = form.partition(".")[0]
@@ -112,26 +122,30 @@ class Compared:
         wanted = self.right[n].get(kind, "nothing")
         self.found[form] += 1
         if form not in self.missing:
-            self.missing[form] = set(self.asked(kind))
+            self.missing[form] = set(self.asked(kind, False))
+        if self.rows[n].dialects and form not in self.take:
+            self.take.add(form)
+            self.missing[form].update(self.asked(kind, True))
         self.missing[form].discard(n)
         if answer != wanted:
             self.wrong[form].append((len(self.rows[n].text), n, answer, wanted))
 
-    def asked(self, kind):
-        """The rows that every face takes: of ASCII, whole, with 18 places."""
+    def asked(self, kind, in_dialects):
+        """The rows that every face takes: of ASCII, whole, with 18 places; without dialects, or with them."""
         for n, row in enumerate(self.rows):
             given = row.text + row.other
-            if row.places == 18 and row.whole and given.isascii() and b"\0" not in given and kind in self.right[n]:
+            if bool(row.dialects) == in_dialects and row.places == 18 and row.whole and given.isascii() and b"\0" not in given and kind in self.right[n]:
                 yield n
 
     def said(self):
         """How many answers were given, and each form that differs, with its shortest text; how many forms do."""
         forms, given, seconds = len(self.found), sum(self.found.values()), time.time() - self.began
-        print(f"{self.face}: {forms} forms, {given:,} answers in {seconds:.0f} s; {len(self.wrong)} forms differ")
+        print(f"{self.face}: {forms} forms, {given:,} answers in {seconds:.0f} s; {len(self.wrong)} forms differ", end="; ")
+        print(f"{len(self.take)} take dialects" if self.take else "none takes dialects yet")
         for form, found in sorted(self.wrong.items()):
             _, n, answer, wanted = min(found)
             row = self.rows[n]
-            asked = f"{row.places} places" + ("" if row.whole else ", not whole")
+            asked = f"{row.places} places" + ("" if row.whole else ", not whole") + (row.dialects and f", {row.dialects}")
             asked += f", beside {row.other!r}" if form.startswith("same.") else ""
             print(f"  {form}: {len(found)} differ, as {row.text!r} ({asked}): {answer}, and not {wanted}")
         lacking = {form: rows for form, rows in self.missing.items() if rows}
@@ -192,6 +206,7 @@ FACES = {
     "rust": rust,
     "sqlite": sqlite,
     "programs": lambda work: ([sys.executable, f"{HERE}/programs.py"], [LIBRARY], {}),
+    "beside": lambda work: ([sys.executable, f"{HERE}/c.py"], [f"{os.path.abspath(BESIDE)}/libwkt.so"], {}),
 }
 
 
@@ -225,7 +240,10 @@ def the_right(file, rows):
 def by_reader(rows, right):
     compared = Compared("reader", rows, right)
     for n, row in enumerate(rows):
-        found = texts.expected(row.text, row.places)
+        names = in_dialects.names(row.dialects)
+        found = in_dialects.expected(row.text, row.places, names)
+        number = in_dialects.split(row.text.decode("utf-8", "replace"), names)[0]
+        compared.add("srid.reader", n, "null" if number is None else str(number))
         compared.add("front_or_null.reader", n, f"{found[1]} {found[0]}" if found else "null")
         if row.whole and found and not texts.is_whole(row.text, found[1]):
             found = None
@@ -246,6 +264,20 @@ def by_face(name, work, file, rows, right):
     return compared
 
 
+def all_rows(count, seed):
+    """Three quarters without dialects, and a quarter with some: texts.rows, and those of dialects.py and some more."""
+    yield from ((*row, "") for row in texts.rows(count - count // 4, seed))
+    chance, before = random.Random(seed), b"POINT(1 2)"
+    for text in dialects.generated(count // 4, seed):
+        places, whole = chance.choice([0, 6, 6, 18, 18, 18, chance.randint(0, 36)]), chance.random() < 0.8
+        if chance.random() < 0.1:
+            text = texts.damaged(chance, text)
+        asked = chance.choice(LISTS)
+        written = in_dialects.expected(text, places, in_dialects.names(asked)) if chance.random() < 0.4 else None
+        yield places, whole, text, written[0].encode() if written else before, asked
+        before = text
+
+
 def main():
     if sys.argv[1:2] in (["-h"], ["--help"]):
         print(__doc__.strip())
@@ -255,14 +287,15 @@ def main():
     with tempfile.TemporaryDirectory() as work:
         file = f"{work}/rows"
         with open(file, "w", encoding="ascii") as out:
-            for places, whole, text, other in texts.rows(count, seed):
-                print(places, int(whole), text.hex(), other.hex(), sep="\t", file=out)
+            for places, whole, text, other, asked in all_rows(count, seed):
+                print(places, int(whole), text.hex(), other.hex(), asked, sep="\t", file=out)
         rows = list(faces.read(file))
         right, columns = the_right(file, rows)
         read = sum(said["reads"] == "t" for said in right)
         print(f"{count:,} texts by seed {seed}, of which {read:,} are read")
         differ = columns.said() + by_reader(rows, right).said()
-        asked = [name for name in FACES if name not in os.environ.get("SKIP", "").split(",")]
+        left = os.environ.get("SKIP", "").split(",") + ([] if BESIDE else ["beside"])
+        asked = [name for name in FACES if name not in left]
         with concurrent.futures.ThreadPoolExecutor(2) as two:
             for compared in two.map(lambda name: by_face(name, work, file, rows, right), asked):
                 differ += compared.said()

@@ -7,6 +7,7 @@ import faces
 size, u32, u64, i64 = ctypes.c_size_t, ctypes.c_uint32, ctypes.c_uint64, ctypes.c_int64
 ref = ctypes.byref
 ROOM = 1 << 16
+BITS = {"": 0, "srid": 512, "untagged": 1024, "exponents": 2048, "nan": 4096, "ewkt": 512 + 1024}
 library = ctypes.CDLL(sys.argv[2])
 out, numbers, rings, polygons = (ctypes.c_uint8 * ROOM)(), (i64 * ROOM)(), (u64 * ROOM)(), (u64 * ROOM)()
 
@@ -47,6 +48,12 @@ def explain(text, asked):
     return faces.explanation(message.value if status == 0 else status, start.value, stop.value, wanted, words)
 
 
+def srid(text):
+    number, end = u32(), size()
+    assert library.wkt_srid(*given(text), ref(number), ref(end)) == 0
+    return number.value if end.value else "null"
+
+
 def infer(text):
     kind, dimension = u32(), u32()
     status = library.wkt_infer(*given(text), ref(kind), ref(dimension))
@@ -85,10 +92,13 @@ def is_value(row):
 
 
 def single(n, row):
-    asked = row.places + 256 * row.whole
+    dialects = 0
+    for name in row.dialects.split(","):
+        dialects |= BITS[name]
+    asked = row.places + 256 * row.whole + dialects
     status, text, _ = canonical(row.text, asked)
     faces.say("canonical.one", n, f"!{status}" if status else text)
-    status, text, end = canonical(row.text, row.places)
+    status, text, end = canonical(row.text, row.places + dialects)
     faces.say("front.one", n, f"!{status}" if status else f"{end} {text}")
     if row.places <= 18:
         faces.say("cast.one", n, "ft"[is_value(row)])
@@ -99,6 +109,8 @@ def single(n, row):
     if back is not None:
         faces.say("back.one", n, back)
     faces.say("same.one", n, same(row.text, row.other, asked))
+    if hasattr(library, "wkt_srid"):
+        faces.say("srid.one", n, srid(row.text))
 
 
 def packed(texts):
@@ -161,7 +173,8 @@ def lines(numbered, places):
 
 
 for n, row in enumerate(faces.read()):
-    single(n, row)
+    if hasattr(library, "wkt_srid") or not row.dialects:
+        single(n, row)
 for (places, whole), numbered in faces.groups():
     column(numbered, places + 256 * whole)
     lines(numbered, places)

@@ -6,7 +6,7 @@ import sys
 
 TOP = os.path.dirname(os.path.dirname(os.path.dirname(os.path.dirname(os.path.abspath(__file__)))))
 END = "the end of the text"
-Row = collections.namedtuple("Row", "places whole text other")
+Row = collections.namedtuple("Row", "places whole text other dialects")
 
 
 def words(name):
@@ -23,14 +23,19 @@ def read(file=None):
     """The rows of a file, which the first word names."""
     with open(file or sys.argv[1], encoding="ascii") as rows:
         for line in rows:
-            places, whole, text, other = line.rstrip("\n").split("\t")
-            yield Row(int(places), whole == "1", bytes.fromhex(text), bytes.fromhex(other))
+            places, whole, text, other, dialects = line.rstrip("\n").split("\t")
+            yield Row(int(places), whole == "1", bytes.fromhex(text), bytes.fromhex(other), dialects)
+
+
+def plain():
+    """The rows without dialects, with their numbers."""
+    return [(n, row) for n, row in enumerate(read()) if not row.dialects]
 
 
 def groups():
-    """The rows with their numbers, by places and whether they are to be whole."""
+    """These by places and whether they are to be whole."""
     found = collections.defaultdict(list)
-    for n, row in enumerate(read()):
+    for n, row in plain():
         found[row.places, row.whole].append((n, row))
     return sorted(found.items())
 

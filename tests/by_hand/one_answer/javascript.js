@@ -36,10 +36,10 @@ function explained(text, why) {
 }
 
 const rows = readFileSync(process.argv[2], 'latin1').split('\n').filter(Boolean).map((line, n) => {
-  const [places, whole, text, other] = line.split('\t');
+  const [places, whole, text, other, dialects] = line.split('\t');
   const bytes = new Uint8Array(Buffer.from(text, 'hex'));
-  return { n, places: Number(places), whole: whole === '1', bytes, text: stringOf(bytes), other: new Uint8Array(Buffer.from(other, 'hex')) };
-});
+  return { n, places: Number(places), whole: whole === '1', bytes, text: stringOf(bytes), other: new Uint8Array(Buffer.from(other, 'hex')), dialects };
+}).filter((row) => row.dialects === '');
 
 function single(sort, n, text, row) {
   const asked = { places: row.places, whole: row.whole };

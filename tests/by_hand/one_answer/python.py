@@ -135,7 +135,7 @@ def lines(numbered, places):
     faces.say_all("line.list", numbered, wkt.lines(data.split(b"\n")[:-1], places))
 
 
-for n, row in enumerate(faces.read()):
+for n, row in faces.plain():
     single(n, row, row.text, "bytes")
     try:
         single(n, row, row.text.decode(), "str")

@@ -19,15 +19,15 @@ fn rows() -> Vec<Row> {
     let file = std::fs::read_to_string(std::env::args().nth(1).unwrap()).unwrap();
     let row = |(n, line): (usize, &str)| {
         let parts: Vec<&str> = line.split('\t').collect();
-        Row {
+        parts[4].is_empty().then(|| Row {
             n,
             places: parts[0].parse().unwrap(),
             whole: parts[1] == "1",
             bytes: unhex(parts[2]),
             other: String::from_utf8(unhex(parts[3])).ok(),
-        }
+        })
     };
-    file.lines().enumerate().map(row).collect()
+    file.lines().enumerate().filter_map(row).collect()
 }
 
 fn say(form: &str, n: usize, answer: impl std::fmt::Display) {

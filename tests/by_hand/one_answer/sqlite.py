@@ -18,16 +18,22 @@ def ask(call, *given):
         return re.sub("^invalid well-known text: (at character )?", "!", str(error))
 
 
-for n, (places, whole, text, other) in enumerate(faces.read()):
-    kind = ask("wkt_kind(cast(? as text))", text)
-    faces.say("kind.wkt_kind", n, "null" if kind is None else kind)
+def null(answer):
+    return "null" if answer is None else answer
+
+
+for n, (places, whole, text, other, dialects) in enumerate(faces.read()):
+    faces.say("kind.wkt_kind", n, null(ask("wkt_kind(cast(? as text))", text)))
+    faces.say("srid.wkt_srid", n, null(ask("wkt_srid(cast(? as text))", text)))
     if not whole:
         continue
-    faces.say("said.wkt_canonical", n, ask("wkt_canonical(cast(? as text), ?)", text, places).lower())
-    key = ask("wkt_or_null(cast(? as text), ?)", text, places)
+    asked = [places, dialects] if dialects else [places]
+    these = f"cast(? as text){', ?' * len(asked)}"
+    faces.say("said.wkt_canonical", n, ask(f"wkt_canonical({these})", text, *asked).lower())
+    key = ask(f"wkt_or_null({these})", text, *asked)
     faces.say("held.wkt_or_null", n, "ft"[key is not None])
-    faces.say("value.wkt_or_null", n, "null" if key is None else key)
-    faces.say("held.wkt_reads", n, "ft"[ask("wkt_reads(cast(? as text), ?)", text, places)])
-    faces.say("held.wkt_explain", n, "ft"[ask("wkt_explain(cast(? as text), ?) is null", text, places)])
-    same = ask("wkt_same(cast(? as text), cast(? as text), ?)", text, other, places)
+    faces.say("value.wkt_or_null", n, null(key))
+    faces.say("held.wkt_reads", n, "ft"[ask(f"wkt_reads({these})", text, *asked)])
+    faces.say("held.wkt_explain", n, "ft"[ask(f"wkt_explain({these}) is null", text, *asked)])
+    same = ask(f"wkt_same(cast(? as text), {these})", text, other, *asked)
     faces.say("same.wkt_same", n, "ft"[same] if isinstance(same, int) else "!")
