@@ -1,6 +1,7 @@
 """The extension from Python's sqlite3: test.py FOLDER-OF-mod_wkt.so FOLDER-OF-wkt.h REPOSITORY"""
 import os
 import re
+import resource
 import sqlite3
 import sys
 import tempfile
@@ -213,6 +214,47 @@ if hasattr(db, "setlimit"):
     most = db.setlimit(sqlite3.SQLITE_LIMIT_LENGTH, 2_000_000)
     same(ask(db, "wkt_canonical(?, 0, 'exponents')", powers), "error: string or blob too big")
     db.setlimit(sqlite3.SQLITE_LIMIT_LENGTH, most)
+
+
+def is_answered(limit, statement, *values):
+    """Whether a call in a process of its own with so much memory has its answer; out of memory is the one other."""
+    child = os.fork()
+    if child == 0:
+        status = 2
+        try:
+            limit()
+            status = 0 if db.execute(statement, values).fetchone() == (1,) else 2
+        except MemoryError:
+            status = 1
+        finally:
+            os._exit(status)
+    status = os.waitstatus_to_exitcode(os.waitpid(child, 0)[1])
+    assert status in (0, 1), (statement, status)
+    return status == 0
+
+
+# Out of memory of SQLite's, and of the library's.
+answered = []
+powers, written = (f"{text[:11]}{text[11:].split(',', 90_000)[-1]}" for text in (powers, written))
+for call in (
+    "wkt_canonical(?1, 0, 'ewkt,exponents') = ?2",
+    "wkt_or_null(?1, 0, 'exponents') = ?2",
+    "wkt_same(?1, ?2, 0, 'exponents')",
+    "wkt_reads(?1, 0, 'exponents') and ?2 > ''",
+    "wkt_explain_place(?1 || ' x', 0, 'exponents') > 1 and ?2 > ''",
+    "wkt_srid('SRID=1;' || ?1) and ?2 > ''",
+):
+    for most in (2**18 * n for n in range(1, 60, 4)):
+        def heap():
+            db.execute(f"pragma hard_heap_limit = {most}")
+
+        def process():
+            used = int(open("/proc/self/statm", encoding="ascii").read().split()[0]) * resource.getpagesize()
+            resource.setrlimit(resource.RLIMIT_AS, (used + most, used + most))
+
+        answered += [is_answered(limit, f"select {call}", powers, written) for limit in (heap, process)]
+assert 20 < sum(answered) < len(answered) - 20, answered
+print(f"Python: of {len(answered)} calls with little memory {sum(answered)} are answered")
 
 # Long texts, and deep ones, also on a thread that has little stack.
 same(ask(db, "count(*) from wkt_points(?)", long), 100_001)

@@ -5,15 +5,14 @@ First the texts of other projects' tests. Debian's source packages of SOURCES ar
 folder, or taken from the folder that SOURCES_DIR names. A text is a string in quotes, the content of an XML element, or
 a field between bars of expected output. It begins with a kind word, or with SRID= and one; behind that stand a
 dimension or none, and EMPTY or a parenthesis, but `POINT(2)` is the type of a column. It has letters, digits, white
-space and `()+-.,;=` alone, and no code joins more to it. Each is counted once in a package. Why one is refused is the
-first of REFUSED.
+space and `()+-.,;=` alone, and no code joins more to it. So the 46 templates `SRID=@SRID@;..` of PostGIS's tests are none.
+Each is counted once in a package. Why one is refused is the first of REFUSED.
 
 Then TEXTS (20,000) are generated: in each dialect, in all four, and damaged. The library reads each with all dialects,
 the others read it and its canonical text. Numbers are compared as doubles; a point of NaN is an empty one. Where a
 reading differs, READ and NOT_READ say how: else the text is printed, and the status is 1.
 
-It needs a library whose calls take dialects, which none does yet; apt with Debian's keyring; PostgreSQL with PostGIS
-(as the user postgres if it runs as root); and libgeos_c.
+It needs apt with Debian's keyring; PostgreSQL with PostGIS (as the user postgres if it runs as root); and libgeos_c.
 """
 import collections
 import ctypes
@@ -235,7 +234,7 @@ def plane(it):
 SOURCES = {"postgis": "", "geos": "", "jts": "", "boost1.74": "libs/geometry/"}
 CURVES = "CIRCULARSTRING|COMPOUNDCURVE|CURVEPOLYGON|MULTICURVE|MULTISURFACE|CURVE"
 SURFACES = "POLYHEDRALSURFACE|TRIANGLE|TIN"
-FRONT = rf"(?:SRID *=[^;'\"|]*; *)?(?:{'|'.join(texts.KINDS)}|LINEARRING|{CURVES}|{SURFACES})[ \t]*(?:ZM|Z|M)?"
+FRONT = rf"(?:SRID *=[^;'\"|@]*; *)?(?:{'|'.join(texts.KINDS)}|LINEARRING|{CURVES}|{SURFACES})[ \t]*(?:ZM|Z|M)?"
 TEXT = rf"\s*{FRONT}\s*(?:EMPTY\s*|\((?![0-9]\))[\w\s().,;=+-]*)"
 QUOTED = re.compile(rf"""(['"])({TEXT})\1(?!\s*(?:\|\||[+]|<<))|>({TEXT})<""", re.I | re.A)
 IN_LINE = TEXT.replace(r"[\w\s", r"[\w \t").replace(r"\s", r"[ \t]")
