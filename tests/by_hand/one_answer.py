@@ -188,7 +188,8 @@ def rust(work):
         file.write(f"wkt_proved = {{ path = '{TOP}/rust' }}\n")
     ran(f"{TOP}/tests/lib/cargo_home.sh", f"{work}/home")
     build = ["cargo", "build", "--offline", "--release", "--target-dir", f"{work}/rust/target"]
-    ran(*build, cwd=f"{work}/rust", env=environment(CARGO_HOME=f"{work}/home"))
+    flags = {"RUSTFLAGS": "--cfg dialects"} if os.path.exists(f"{TOP}/rust/src/dialects.rs") else {}
+    ran(*build, cwd=f"{work}/rust", env=environment(CARGO_HOME=f"{work}/home", **flags))
     return [f"{work}/rust/target/release/answers"], [], {}
 
 

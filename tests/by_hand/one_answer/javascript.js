@@ -6,6 +6,7 @@ import { load, WktError } from '../../../javascript/src/index.js';
 const TOP = new URL('../../../', import.meta.url);
 const wkt = await load(readFileSync(process.env.WKT_WASM ?? new URL('dist/wasm/wkt.wasm', TOP)));
 const decoder = new TextDecoder('utf-8', { fatal: true, ignoreBOM: true });
+const takesDialects = 'srid' in wkt;
 const out = [];
 const say = (form, n, answer) => out.push(`${form}\t${n}\t${answer}\n`);
 
@@ -39,10 +40,12 @@ const rows = readFileSync(process.argv[2], 'latin1').split('\n').filter(Boolean)
   const [places, whole, text, other, dialects] = line.split('\t');
   const bytes = new Uint8Array(Buffer.from(text, 'hex'));
   return { n, places: Number(places), whole: whole === '1', bytes, text: stringOf(bytes), other: new Uint8Array(Buffer.from(other, 'hex')), dialects };
-}).filter((row) => row.dialects === '');
+}).filter((row) => takesDialects || row.dialects === '');
 
 function single(sort, n, text, row) {
   const asked = { places: row.places, whole: row.whole };
+  if (row.dialects !== '') asked.dialect = row.dialects;
+  if (takesDialects) say(`srid.${sort}`, n, wkt.srid(text));
   say(`canonical.${sort}`, n, answer(() => wkt.canonical(text, asked)));
   say(`canonical.bytes_of_${sort}`, n, answer(() => Buffer.from(wkt.canonicalBytes(text, asked)).toString('latin1')));
   say(`reads.${sort}`, n, wkt.reads(text, asked) ? 't' : 'f');
@@ -60,8 +63,9 @@ for (const row of rows) {
   single('bytes', row.n, row.bytes, row);
   if (row.text !== null) single('string', row.n, row.text, row);
 }
-for (const key of new Set(rows.map((row) => `${row.places} ${row.whole}`))) {
-  const group = rows.filter((row) => `${row.places} ${row.whole}` === key);
+const plain = rows.filter((row) => row.dialects === '');
+for (const key of new Set(plain.map((row) => `${row.places} ${row.whole}`))) {
+  const group = plain.filter((row) => `${row.places} ${row.whole}` === key);
   const asked = { places: group[0].places, whole: group[0].whole };
   const held = wkt.columns(group.map((row) => row.text ?? row.bytes), asked);
   group.forEach((row, i) => say('canonical.columns', row.n, held.statuses[i] ? `!${held.statuses[i]}` : held.texts[i]));

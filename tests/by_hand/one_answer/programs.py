@@ -1,4 +1,5 @@
 """The programs wktstream, wktline and wkt: programs.py ROWS FOLDER"""
+import collections
 import re
 import subprocess
 import sys
@@ -23,6 +24,19 @@ def places(numbered, said):
     faces.say_all("check.lines", numbered, (found.get(i + 1, "-") for i in range(len(numbered))))
 
 
+def in_dialects():
+    """`wkt canon` of texts in dialects, where it takes them."""
+    found = collections.defaultdict(list)
+    for n, row in enumerate(faces.read()):
+        if row.dialects and b"\0" not in row.text:
+            found[row.places, row.whole, row.dialects].append((n, row))
+    for (most, whole, dialects), numbered in sorted(found.items()):
+        asked = ["-q", "--refused", "null", "-p", str(most), "--dialect", dialects] + ([] if whole else ["-f"])
+        faces.say_all("null.canon_dialect", numbered, run(faces.lines_of(numbered), "wkt", "canon", *asked))
+
+
+if "--dialect" in "\n".join(run(b"", "wkt", "help")):
+    in_dialects()
 for (most, whole), numbered in faces.groups():
     lines, asked = faces.lines_of(numbered), ["-p", str(most)] + ([] if whole else ["-f"])
     fronts = ["-f", "-p", str(most), "--refused", "refused"]

@@ -1,4 +1,5 @@
 """The Python package: python.py ROWS. PYTHONPATH says where it is; without its module in C it is called over ctypes."""
+import inspect
 import io
 
 import faces
@@ -7,6 +8,7 @@ import pandas
 import wkt
 
 FAST = wkt._native._fast is not None
+TAKES_DIALECTS = "dialect" in inspect.signature(wkt.canonical).parameters
 
 
 def status_of(call, *words, **options):
@@ -33,6 +35,11 @@ def arrays(held):
 
 def single(n, row, text, sort):
     asked = {"places": row.places, "whole": row.whole}
+    if row.dialects:
+        asked["dialect"] = row.dialects
+    if TAKES_DIALECTS:
+        number = wkt.srid(text)
+        faces.say(f"srid.{sort}", n, "null" if number is None else number)
     answer, refused = status_of(wkt.canonical, text, **asked)
     faces.say(f"canonical.{sort}", n, refused or answer)
     why, refused = status_of(wkt.explain, text, **asked)
@@ -135,7 +142,9 @@ def lines(numbered, places):
     faces.say_all("line.list", numbered, wkt.lines(data.split(b"\n")[:-1], places))
 
 
-for n, row in faces.plain():
+for n, row in enumerate(faces.read()):
+    if row.dialects and not TAKES_DIALECTS:
+        continue
     single(n, row, row.text, "bytes")
     try:
         single(n, row, row.text.decode(), "str")

@@ -8,6 +8,7 @@ struct Row {
     whole: bool,
     bytes: Vec<u8>,
     other: Option<String>,
+    dialects: String,
 }
 
 fn unhex(text: &str) -> Vec<u8> {
@@ -19,15 +20,16 @@ fn rows() -> Vec<Row> {
     let file = std::fs::read_to_string(std::env::args().nth(1).unwrap()).unwrap();
     let row = |(n, line): (usize, &str)| {
         let parts: Vec<&str> = line.split('\t').collect();
-        parts[4].is_empty().then(|| Row {
+        Row {
             n,
             places: parts[0].parse().unwrap(),
             whole: parts[1] == "1",
             bytes: unhex(parts[2]),
             other: String::from_utf8(unhex(parts[3])).ok(),
-        })
+            dialects: parts[4].to_string(),
+        }
     };
-    file.lines().enumerate().filter_map(row).collect()
+    file.lines().enumerate().map(row).collect()
 }
 
 fn say(form: &str, n: usize, answer: impl std::fmt::Display) {
@@ -59,6 +61,14 @@ fn arrays_words(kind: wkt::GeometryType, dimension: wkt::Dimension, parts: Parts
     format!("{kind} {dimension:?} {} {} {}", words.0, words.1, words.2)
 }
 
+fn explained(why: Result<Option<wkt::Refusal>, wkt::Error>) -> String {
+    let words = why.unwrap().map(|it| {
+        let hint = it.hint.map_or(String::new(), |it| it.to_string());
+        format!("{} {} {} {}|{hint}", it.status, it.start, it.stop, it.expected)
+    });
+    words.unwrap_or_else(|| "-".to_string())
+}
+
 /// Calls of one text; the crate asks for whole texts, but for `front` and `infer`.
 fn single(row: &Row, text: &str) {
     let (n, places) = (row.n, row.places);
@@ -72,11 +82,7 @@ fn single(row: &Row, text: &str) {
         return;
     }
     say("canonical.one", n, or_status(wkt::canonical(text, places), |it| it));
-    let why = wkt::explain(text, places).unwrap().map(|it| {
-        let hint = it.hint.map_or(String::new(), |it| it.to_string());
-        format!("{} {} {} {}|{hint}", it.status, it.start, it.stop, it.expected)
-    });
-    say("explain.one", n, why.unwrap_or_else(|| "-".to_string()));
+    say("explain.one", n, explained(wkt::explain(text, places)));
     if let Some(other) = &row.other {
         let same = wkt::same(text, other, places);
         say("same.one", n, same.map_or("!", |it| if it { "t" } else { "f" }));
@@ -87,6 +93,24 @@ fn single(row: &Row, text: &str) {
     }
     let words = |it: wkt::Arrays| arrays_words(it.kind, it.dimension, (&it.numbers, &it.rings, &it.polygons));
     say("arrays.one", n, or_status(held, words));
+}
+
+/// The same of one whole text in dialects, where the crate has calls in them.
+#[cfg(dialects)]
+fn in_dialects(row: &Row, text: &str) {
+    let (n, places, dialects) = (row.n, row.places, row.dialects.parse::<wkt::Dialects>().unwrap());
+    say("srid.one", n, wkt::srid(text).unwrap().map_or_else(|| "null".to_string(), |it| it.0.to_string()));
+    if !row.whole {
+        return;
+    }
+    say("canonical.one", n, or_status(dialects.canonical(text, places), |it| it));
+    say("explain.one", n, explained(dialects.explain(text, places)));
+    if let Some(other) = &row.other {
+        let same = dialects.same(text, other, places);
+        say("same.one", n, same.map_or("!", |it| if it { "t" } else { "f" }));
+    }
+    let words = |it: wkt::Arrays| arrays_words(it.kind, it.dimension, (&it.numbers, &it.rings, &it.polygons));
+    say("arrays.one", n, or_status(dialects.arrays(text, places), words));
 }
 
 /// Calls of many: columns of whole texts, and lines.
@@ -140,7 +164,14 @@ fn many(rows: &[&Row], places: u32, whole: bool) {
 }
 
 fn main() {
-    let rows = rows();
+    let (rows, others): (Vec<Row>, Vec<Row>) = rows().into_iter().partition(|it| it.dialects.is_empty());
+    #[cfg(dialects)]
+    for row in &others {
+        if let Ok(text) = std::str::from_utf8(&row.bytes) {
+            in_dialects(row, text);
+        }
+    }
+    drop(others);
     for row in &rows {
         if let Ok(text) = std::str::from_utf8(&row.bytes) {
             single(row, text);
