@@ -53,4 +53,5 @@ SELECT wkt_same('SRID=1;' || t, 'SRID=2; ' || t, 0, 'exponents,srid'), wkt_same(
 -- A text that stays the same from row to row, and a dialect that doesn't
 SELECT d, wkt_same('POINT Z(1 2 3)', 'POINT(1 2 3)' || repeat(' ', 300), 18, d) FROM (VALUES ('untagged'), ('ewkt'), ('untagged,nan')) v(d);
 SELECT d, wkt_same('POINT Z(1 2 3)', 'POINT(1 2 3)' || repeat(' ', 300), 18, d) FROM (VALUES ('untagged'), ('srid')) v(d);
-DROP EXTENSION wkt CASCADE;
+DROP TABLE texts, long;
+DROP EXTENSION wkt;
