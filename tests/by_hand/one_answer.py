@@ -141,7 +141,7 @@ class Compared:
         """How many answers were given, and each form that differs, with its shortest text; how many forms do."""
         forms, given, seconds = len(self.found), sum(self.found.values()), time.time() - self.began
         print(f"{self.face}: {forms} forms, {given:,} answers in {seconds:.0f} s; {len(self.wrong)} forms differ", end="; ")
-        print(f"{len(self.take)} take dialects" if self.take else "none takes dialects yet")
+        print(f"{len(self.take)} take dialects" if self.take else "none takes dialects")
         for form, found in sorted(self.wrong.items()):
             _, n, answer, wanted = min(found)
             row = self.rows[n]
