@@ -6,7 +6,8 @@
 import { STATUS } from './names.js';
 import { WktError } from './errors.js';
 
-const EXPORTS = ['memory', '__heap_base', 'wkt_arrays', 'wkt_canonical', 'wkt_explain', 'wkt_hint', 'wkt_infer', 'wkt_lines_some', 'wkt_same_ends'];
+const EXPORTS = ['memory', '__heap_base', 'wkt_arrays', 'wkt_arrays_in', 'wkt_canonical', 'wkt_canonical_in', 'wkt_explain', 'wkt_explain_in',
+  'wkt_from_arrays', 'wkt_hint', 'wkt_hint_in', 'wkt_infer', 'wkt_lines_some', 'wkt_read_events', 'wkt_same_ends', 'wkt_same_ends_in', 'wkt_srid'];
 const PAGE = 65536;
 // Results: sixteen words of 64 bits. Behind them stands what a call lays out.
 const CELLS = 16;
@@ -14,6 +15,11 @@ const CELLS = 16;
 const SHORT = 48;
 // A text that is longer is written in a room first, and then to its answer.
 const ROOMLESS = 200;
+// More is asked for with dialects.
+const MOST_PLAIN = 511;
+// The text that a text in dialects is read as has at most twelve bytes for one of its. A longer one gets less room at first.
+const READ_AS = 12;
+const LONG = 4096;
 // Lengths of short texts as BigInt, made once.
 const SMALL = Array.from({ length: 1024 }, (_, n) => BigInt(n));
 
@@ -77,11 +83,18 @@ export class Engine {
     this.view();
     this.reset();
     this.room(PAGE);
+    // Behind a short text its lists stand where they always stand.
+    this.at = this.texts + 256;
+    this.shortArrays = this.arrayLists(ROOMLESS);
+    this.at = this.texts + 256;
+    this.shortEvents = this.eventLists(ROOMLESS);
+    this.reset();
   }
 
   view() {
     this.bytes = new Uint8Array(this.memory.buffer);
     this.words = new Uint32Array(this.memory.buffer);
+    this.longs = new BigInt64Array(this.memory.buffer);
     this.cells = this.words.subarray(this.base / 4, this.base / 4 + 2 * CELLS);
   }
 
@@ -218,14 +231,15 @@ export class Engine {
   }
 
   /** A text's canonical text, at `this.answer`; its length is size 0, and the end of the geometry size 1. */
-  canonical(at, length, places) {
+  canonical(at, length, asked) {
+    if (asked > MOST_PLAIN) return this.inDialects(length, (times) => this.canonicalIn(at, length, asked, times));
     const most = 2 * length + 65;
     const size = length > ROOMLESS ? most : 0;
     const room = size > 0 ? this.lay(size) : at;
     const answer = this.lay(most);
     this.answer = answer;
     try {
-      return this.calls.wkt_canonical(big(at), big(length), places, big(room), big(size), big(answer), big(most),
+      return this.calls.wkt_canonical(big(at), big(length), asked, big(room), big(size), big(answer), big(most),
         this.cellAt[0], this.cellAt[1]);
     } catch (error) {
       if (error instanceof WebAssembly.RuntimeError) this.start();
@@ -233,24 +247,66 @@ export class Engine {
     }
   }
 
+  /** The status of a call in dialects. It gets room for the text that a text of so many bytes is read as, so many times them. */
+  inDialects(length, call) {
+    const before = this.at;
+    let status;
+    for (const times of length > LONG ? [0, 2, READ_AS] : [READ_AS]) {
+      this.at = before;
+      status = call(times);
+      if (status !== STATUS.NO_MEMORY) break;
+    }
+    return status;
+  }
+
+  /** Lays out so many bytes as a room, and returns its address and its size as they are passed. */
+  passed(size) {
+    return [big(this.lay(size)), big(size)];
+  }
+
+  canonicalIn(at, length, asked, times) {
+    const most = 2 * Math.max(times, 1) * length + 67;
+    const [read, room] = [this.passed(times * length + 1), this.passed(most)];
+    this.answer = this.lay(most);
+    return this.call('wkt_canonical_in', big(at), big(length), asked, big(read[0]), big(read[1]), big(room[0]), big(room[1]),
+      big(this.answer), big(most), this.cellAt[0], this.cellAt[1]);
+  }
+
   /** Where a text is refused: message (number 0), start (size 1), stop (size 2), expected (number 6). */
-  explain(at, length, places) {
+  explain(at, length, asked) {
     const cell = this.cellAt;
-    return this.call('wkt_explain', big(at), big(length), places, cell[0], cell[1], cell[2], cell[3]);
+    if (asked <= MOST_PLAIN) return this.call('wkt_explain', big(at), big(length), asked, cell[0], cell[1], cell[2], cell[3]);
+    return this.inDialects(length, (times) => {
+      const read = this.passed(times * length + 1);
+      return this.call('wkt_explain_in', big(at), big(length), asked, big(read[0]), big(read[1]), cell[0], cell[1], cell[2], cell[3]);
+    });
   }
 
   /** The number of the hint to a text that is refused, or 0. */
-  hint(at, length, places) {
-    return this.call('wkt_hint', big(at), big(length), places, this.cellAt[4]) === STATUS.OK ? this.number(8) : 0;
+  hint(at, length, asked) {
+    const status = asked <= MOST_PLAIN ? this.call('wkt_hint', big(at), big(length), asked, this.cellAt[4])
+      : this.inDialects(length, (times) => {
+        const read = this.passed(times * length + 1);
+        return this.call('wkt_hint_in', big(at), big(length), asked, big(read[0]), big(read[1]), this.cellAt[4]);
+      });
+    return status === STATUS.OK ? this.number(8) : 0;
   }
 
   /** Whether two texts begin with one geometry (number 0). */
-  same(one, length, other, otherLength, places) {
-    const sizes = [2 * length + 65, 2 * otherLength + 65];
-    const rooms = sizes.map((size) => this.lay(size));
+  same(one, length, other, otherLength, asked) {
     const cell = this.cellAt;
-    return this.call('wkt_same_ends', big(one), big(length), big(other), big(otherLength), places,
-      big(rooms[0]), big(sizes[0]), big(rooms[1]), big(sizes[1]), cell[0], cell[1], cell[2]);
+    if (asked <= MOST_PLAIN) {
+      const [room, otherRoom] = [this.passed(2 * length + 65), this.passed(2 * otherLength + 65)];
+      return this.call('wkt_same_ends', big(one), big(length), big(other), big(otherLength), asked,
+        big(room[0]), big(room[1]), big(otherRoom[0]), big(otherRoom[1]), cell[0], cell[1], cell[2]);
+    }
+    return this.inDialects(Math.max(length, otherLength), (times) => {
+      const [read, otherRead] = [this.passed(times * length + 1), this.passed(times * otherLength + 1)];
+      const [room, otherRoom] = [length, otherLength].map((n) => this.passed(2 * Math.max(times, 1) * n + 67));
+      return this.call('wkt_same_ends_in', big(one), big(length), big(other), big(otherLength), asked,
+        big(read[0]), big(read[1]), big(otherRead[0]), big(otherRead[1]),
+        big(room[0]), big(room[1]), big(otherRoom[0]), big(otherRoom[1]), cell[0], cell[1], cell[2]);
+    });
   }
 
   /** The kind (number 0) and the dimension (number 2) of a text's header. */
@@ -258,19 +314,87 @@ export class Engine {
     return this.call('wkt_infer', big(at), big(length), this.cellAt[0], this.cellAt[1]);
   }
 
+  /** The SRID in front of a text (number 0), and where what stands behind it begins (size 1), which is 0 where there is none. */
+  srid(at, length) {
+    return this.call('wkt_srid', big(at), big(length), this.cellAt[0], this.cellAt[1]);
+  }
+
+  /** Rooms and lists for the arrays of a text of so many bytes: each is made in a room, the last two in one, and copied from there. */
+  arrayLists(length) {
+    const sizes = [Math.floor(length / 2) + 2, Math.floor(length / 4) + 2, Math.floor(length / 6) + 2];
+    const [numbersRoom, wordsRoom] = [sizes[0], sizes[1] + sizes[2]].map((size) => [big(this.lay(8 * size)), big(size)]);
+    const at = sizes.map((size) => this.lay(8 * size));
+    const [numbers, rings, polygons] = sizes.map((size, i) => [big(at[i]), big(size)]);
+    return { at, numbersRoom, wordsRoom, numbers, rings, polygons };
+  }
+
   /**
    * Flat arrays, at the addresses in `this.arraysAt`. Kind and dimension are numbers 4 and 5, the lengths sizes 3 to 5, the
    * end of the geometry size 6.
    */
-  arrays(at, length, places) {
-    // Each of the three is made in a room, the last two in one, and copied from there.
-    const [numbers, rings, polygons] = [Math.floor(length / 2) + 2, Math.floor(length / 4) + 2, Math.floor(length / 6) + 2];
-    const [numbersRoom, wordsRoom] = [this.lay(8 * numbers), this.lay(8 * (rings + polygons))];
-    const [outN, outR, outP] = [this.lay(8 * numbers), this.lay(8 * rings), this.lay(8 * polygons)];
-    this.arraysAt = [outN, outR, outP];
-    return this.call('wkt_arrays', big(at), big(length), places,
-      big(numbersRoom), big(numbers), big(wordsRoom), big(rings + polygons), this.cellAt[2],
-      big(outN), big(numbers), big(outR), big(rings), big(outP), big(polygons));
+  arrays(at, length, asked) {
+    if (asked > MOST_PLAIN) return this.inDialects(length, (times) => this.arraysIn(at, length, asked, times));
+    const lists = length <= ROOMLESS && at === this.texts ? this.shortArrays : this.arrayLists(length);
+    this.arraysAt = lists.at;
+    return this.call('wkt_arrays', big(at), big(length), asked,
+      lists.numbersRoom[0], lists.numbersRoom[1], lists.wordsRoom[0], lists.wordsRoom[1], this.cellAt[2],
+      lists.numbers[0], lists.numbers[1], lists.rings[0], lists.rings[1], lists.polygons[0], lists.polygons[1]);
+  }
+
+  arraysIn(at, length, asked, times) {
+    const read = this.passed(times * length + 1);
+    const lists = this.arrayLists(Math.max(times, 1) * length + 1);
+    this.arraysAt = lists.at;
+    return this.call('wkt_arrays_in', big(at), big(length), asked, big(read[0]), big(read[1]),
+      lists.numbersRoom[0], lists.numbersRoom[1], lists.wordsRoom[0], lists.wordsRoom[1], this.cellAt[2],
+      lists.numbers[0], lists.numbers[1], lists.rings[0], lists.rings[1], lists.polygons[0], lists.polygons[1]);
+  }
+
+  /** Lists for the events of a text of so many bytes. */
+  eventLists(length) {
+    const size = Math.floor(length / 2);
+    const at = [this.lay(8 * size), this.lay(16 * size)];
+    return { at, events: big(at[0]), numbers: big(at[1]), size: big(size) };
+  }
+
+  /** Events and numbers, at the addresses in `this.eventsAt`. How many there are is sizes 0 and 1, the end of the geometry size 2. */
+  events(at, length, asked) {
+    const lists = length <= ROOMLESS && at === this.texts ? this.shortEvents : this.eventLists(length);
+    this.eventsAt = lists.at;
+    const cell = this.cellAt;
+    return this.call('wkt_read_events', big(at), big(length), asked, lists.events, lists.size, lists.numbers, lists.size,
+      cell[0], cell[1], cell[2]);
+  }
+
+  /** The text of arrays, whose lists stand at these addresses, at `this.answer`; its length is size 0. */
+  fromArrays(kind, dimension, [numbers, numbersLength], [rings, ringsLength], [polygons, polygonsLength], places) {
+    const most = numbersLength * (places + 23) + 7 * (ringsLength + polygonsLength) + 74;
+    const room = this.passed(most);
+    this.answer = this.lay(most);
+    return this.call('wkt_from_arrays', kind, dimension, big(numbers), big(numbersLength), big(rings), big(ringsLength),
+      big(polygons), big(polygonsLength), places, big(room[0]), big(room[1]), big(this.answer), big(most), this.cellAt[0]);
+  }
+
+  /** Lays out numbers of 64 bits, or places of so many, and returns where they stand and how many there are. */
+  putNumbers(numbers) {
+    const at = this.lay(8 * numbers.length);
+    new BigInt64Array(this.memory.buffer, at, numbers.length).set(numbers);
+    return [at, numbers.length];
+  }
+
+  putOffsets(offsets) {
+    const at = this.lay(8 * offsets.length);
+    const { words } = this;
+    for (let i = 0; i < offsets.length; i++) {
+      words[at / 4 + 2 * i] = offsets[i]; // modulo 2^32
+      words[at / 4 + 2 * i + 1] = offsets[i] / 2 ** 32;
+    }
+    return [at, offsets.length];
+  }
+
+  /** So many numbers of 64 bits there, as a list of its own. */
+  numbers(at, count) {
+    return this.longs.slice(at / 8, at / 8 + count);
   }
 
   /** So many offsets there: numbers of 64 bits, whose upper halves are 0, since a text has less than 2^32 bytes. */

@@ -68,18 +68,26 @@ export function short(word) {
   return characters.length < 40 ? characters.join('') : characters.slice(0, 37).join('') + '...';
 }
 
-/** How many digits a number has behind its point, as far as the last that isn't 0. */
+/** How many digits a number has behind its point, as far as the last that isn't 0, without an exponent. */
 function placesIn(number) {
   const point = number.indexOf('.');
   let end = number.length;
-  while (end > 0 && number[end - 1] === '0') end--;
-  return point < 0 ? 0 : Math.max(0, end - point - 1);
+  while (end > 0 && (number[end - 1] === '0' || number[end - 1] === '.')) end--;
+  // Zeros in front of the point count where an exponent moves it.
+  return point < 0 ? end - number.length : end > point ? end - point - 1 : end - point;
+}
+
+/** The places of a number that may have an exponent, in words. */
+function placesInWords(number) {
+  const e = Math.max(number.indexOf('e'), number.indexOf('E'));
+  const [digits, exponent] = e < 0 ? [number, '0'] : [number.slice(0, e), number.slice(e + 1)];
+  return exponent.length > 9 ? 'too many' : Math.max(0, placesIn(digits) - Number(exponent));
 }
 
 /** The words of a hint about a word of the text. The one with a number says which number has too many places. */
 export function hintWords(hint, word, places) {
   const words = HINTS[hint] ?? '';
-  return words.includes('%u') ? `${short(word)} has ${placesIn(word)} places, at most ${places} are allowed` : words;
+  return words.includes('%u') ? `${short(word)} has ${placesInWords(word)} places, at most ${places} are allowed` : words;
 }
 
 /** Why a text is refused as one stable word, by the numbers of the hint, 0 where there is none, and of what was expected. */

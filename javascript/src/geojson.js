@@ -1,6 +1,9 @@
-// Canonical text as GeoJSON (RFC 7946): each number stands in it as it stands in the text, so none is rounded.
+// GeoJSON (RFC 7946): of canonical text as text, in which each number stands as there, so none is rounded; and of events as an
+// object of doubles.
 import { KINDS, KIND_WORDS } from './names.js';
 import { GeoJSONError } from './errors.js';
+import { decimal, nearestAt } from './decimals.js';
+import { END, WIDTHS } from './events.js';
 
 // How deep the parentheses of a kind are; and the kinds whose innermost parentheses hold one coordinate, and no list.
 const DEPTHS = { POINT: 1, LINESTRING: 1, POLYGON: 2, MULTIPOINT: 2, MULTILINESTRING: 2, MULTIPOLYGON: 3 };
@@ -26,10 +29,11 @@ function header(text, at, m) {
     }
   }
   const has = dimension.endsWith('M');
-  if (has && m === 'refuse') throw new GeoJSONError("GeoJSON has no m: m: 'drop' leaves it out, and 'keep' makes it the last number");
+  if (has && m === 'refuse') throw noM();
   return { word, drop: has && m === 'drop', empty: text[end] === ' ', end };
 }
 
+const noM = () => new GeoJSONError("GeoJSON has no m: m: 'drop' leaves it out, and 'keep' makes it the last number");
 const noPoint = () => new GeoJSONError('GeoJSON has no form for an empty point of a MultiPoint');
 
 /** Coordinates without their last numbers. */
@@ -89,100 +93,137 @@ export function geoJSONOf(text, m) {
   }
 }
 
-const SPACE = 32, COMMA = 44, MINUS = 45, POINT = 46, ZERO = 48, EMPTY = 69; // EMPTY is its first letter
-const POWERS = Float64Array.from({ length: 16 }, (_, n) => 10 ** n);
+const LINESTRING = 1, POLYGON = 2, MULTIPOINT = 3, MULTILINESTRING = 4, MULTIPOLYGON = 5, COLLECTION = 6;
 
-/**
- * Reads the coordinates of a canonical text as arrays of doubles: by JSON.parse of its GeoJSON points take twice as long,
- * polygons half as long again.
- */
-class Coordinates {
-  at = 0;
-
-  #text;
-
-  constructor(text) {
-    this.#text = text;
+/** Reads events and their numbers, which stand in memory as words of 32 bits, as the objects that they are in GeoJSON. */
+class Objects {
+  constructor(words, [events, numbers], places, m) {
+    this.words = words;
+    this.event = events / 4;
+    this.number = numbers / 4;
+    this.nearest = nearestAt(places);
+    this.m = m;
+    this.wide = false; // whether a number has more than 64 bits
   }
 
-  /** What stands in the parentheses there, so many deep; `single`: the innermost hold one position, and no list. */
-  list(depth, single, drop) {
-    const text = this.#text;
-    if (text.charCodeAt(this.at) === EMPTY) {
-      if (single) throw noPoint();
-      this.at += 'EMPTY'.length;
-      return [];
-    }
+  /** Which kind of event comes next: BEGIN, END, or another, of a number of coordinates. */
+  get sort() {
+    return this.words[this.event + 1];
+  }
+
+  /** The lower half of the next event, which is taken. */
+  taken() {
+    this.event += 2;
+    return this.words[this.event - 2];
+  }
+
+  /** A geometry that begins, but for its coordinates or members; its kind. */
+  begun() {
+    const header = this.taken();
+    const dimension = header & 3;
+    if (dimension >= 2 && this.m === 'refuse') throw noM();
+    this.width = WIDTHS[dimension];
+    this.used = this.width - (dimension >= 2 && this.m === 'drop' ? 1 : 0);
+    return header >> 2;
+  }
+
+  /** The number of 128 bits that is so many words further. */
+  at(words) {
+    const at = this.number + words;
+    const [low, high] = [this.words[at], this.words[at + 1] | 0];
+    const sign = high >> 31;
+    if ((this.words[at + 2] | 0) !== sign || (this.words[at + 3] | 0) !== sign) return this.far(at);
+    return this.nearest.of(high, low);
+  }
+
+  far(at) {
+    this.wide = true;
+    let units = BigInt(this.words[at + 3] | 0);
+    for (let i = 2; i >= 0; i--) units = (units << 32n) + BigInt(this.words[at + i]);
+    return Number(decimal(units, this.nearest.places));
+  }
+
+  /** A position. Literals take the room that they need, and no more. */
+  position() {
+    const [x, y] = [this.at(0), this.at(4)];
+    const made = this.used === 2 ? [x, y] : this.used === 3 ? [x, y, this.at(8)] : [x, y, this.at(8), this.at(12)];
+    this.number += 4 * this.width;
+    return made;
+  }
+
+  positions() {
     const list = [];
-    do {
-      this.at++;
-      list.push(depth > 1 ? this.list(depth - 1, single, drop) : this.#position(drop));
-    } while (text.charCodeAt(this.at) === COMMA);
-    this.at++;
-    return depth === 1 && single ? list[0] : list;
+    for (let count = this.taken(); count > 0; count--) list.push(this.position());
+    return list;
   }
 
-  /** A position; `drop` leaves its last number out. Literals take the room that they need, and no more. */
-  #position(drop) {
-    const x = this.#number();
-    const y = this.#next();
-    if (!this.#more()) return [x, y];
-    const z = this.#next();
-    if (!this.#more()) return drop ? [x, y] : [x, y, z];
-    const m = this.#next();
-    return drop ? [x, y, z] : [x, y, z, m];
+  /** Items up to the end of what began. */
+  items(item) {
+    const list = [];
+    while (this.sort !== END) list.push(item.call(this));
+    this.event += 2;
+    return list;
   }
 
-  #more() {
-    return this.#text.charCodeAt(this.at) === SPACE;
+  /** The one position of a point of a MultiPoint. */
+  member() {
+    if (this.taken() === 0) throw noPoint();
+    return this.position();
   }
 
-  #next() {
-    this.at++;
-    return this.#number();
+  /** The rings of a polygon that began: none where the first is empty, as its canonical text has it. */
+  rings() {
+    const list = this.items(this.positions);
+    return list.length > 0 && list[0].length === 0 ? [] : list;
   }
 
-  /** The double nearest to the number there. Of 15 digits it is their quotient by a power of ten: both are doubles. */
-  #number() {
-    const text = this.#text;
-    const from = this.at;
-    const begin = text.charCodeAt(from) === MINUS ? from + 1 : from;
-    let [at, value, places] = [begin, 0, 0];
-    for (let c = text.charCodeAt(at); c >= ZERO; c = text.charCodeAt(++at)) value = value * 10 + c - ZERO;
-    if (text.charCodeAt(at) === POINT) {
-      const point = at++;
-      for (let c = text.charCodeAt(at); c >= ZERO; c = text.charCodeAt(++at)) value = value * 10 + c - ZERO;
-      places = at - point - 1;
+  polygon() {
+    this.begun();
+    return this.rings();
+  }
+
+  coordinates(kind) {
+    if (kind === POLYGON) return this.rings();
+    if (kind === MULTIPOINT) return this.items(this.member);
+    if (kind === MULTILINESTRING) return this.items(this.positions);
+    if (kind === MULTIPOLYGON) return this.items(this.polygon);
+    const list = this.positions();
+    this.event += 2;
+    return kind === LINESTRING ? list : list[0] ?? [];
+  }
+
+  /** The geometry. It takes no stack for nesting. */
+  made() {
+    const kind = this.begun();
+    if (kind !== COLLECTION) return { type: KINDS[kind], coordinates: this.coordinates(kind) };
+    const all = { type: 'GeometryCollection', geometries: [] };
+    const open = [all];
+    for (;;) {
+      while (this.sort === END) {
+        this.event += 2;
+        open.pop();
+        if (open.length === 0) return all;
+      }
+      const { geometries } = open.at(-1);
+      const member = this.begun();
+      if (member === COLLECTION) open.push({ type: 'GeometryCollection', geometries: [] });
+      geometries.push(member === COLLECTION ? open.at(-1) : { type: KINDS[member], coordinates: this.coordinates(member) });
     }
-    this.at = at;
-    if (at - begin > 15) return Number(text.slice(from, at));
-    value /= POWERS[places];
-    return begin > from ? -value : value;
   }
 }
 
-/** A canonical text as an object of GeoJSON: what JSON.parse makes of geoJSONOf. */
-export function geoJSONObjectOf(text, m) {
-  const reader = new Coordinates(text);
-  const open = []; // the collections around it
-  for (;;) {
-    const { word, drop, empty, end } = header(text, reader.at, m);
-    reader.at = empty ? end + ' EMPTY'.length : end;
-    let made;
-    if (word === 'GEOMETRYCOLLECTION') {
-      made = { type: 'GeometryCollection', geometries: [] };
-      if (!empty) {
-        open.push(made);
-        reader.at++;
-        continue;
-      }
-    } else {
-      made = { type: KINDS[KIND_WORDS.indexOf(word)], coordinates: empty ? [] : reader.list(DEPTHS[word], SINGLE.includes(word), drop) };
-    }
-    for (;; made = open.pop()) {
-      if (open.length === 0) return made;
-      open.at(-1).geometries.push(made);
-      if (text.charCodeAt(reader.at++) === COMMA) break;
-    }
+/**
+ * The events that stand there as an object of GeoJSON: what JSON.parse makes of geoJSONOf. Where `sure` is false, and a number
+ * has more than 64 bits, or there is no form for it, null: with more places the text may be refused.
+ */
+export function geoJSONObjectOf(words, at, places, m, sure) {
+  const objects = new Objects(words, at, places, m);
+  let made;
+  try {
+    made = objects.made();
+  } catch (error) {
+    if (sure || !(error instanceof GeoJSONError)) throw error;
+    return null;
   }
+  return objects.wide && !sure ? null : made;
 }

@@ -56,7 +56,16 @@ export interface Places {
    */
   places?: number;
 }
-export interface Asked extends Places {
+/** What a text may have beyond the grammar. */
+export interface Dialects {
+  /**
+   * What other tools write, by name: `srid`, `untagged`, `exponents`, `nan`, or several as in `ewkt,exponents`, where `ewkt` is
+   * `srid,untagged` (docs/DIALECTS.md). A text that is read without them has the same answer with them. The SRID is no part of
+   * it: `srid` returns that.
+   */
+  dialect?: string;
+}
+export interface Asked extends Places, Dialects {
   /** Whether a text with more than white space behind its geometry is refused; true if left out. */
   whole?: boolean;
 }
@@ -135,6 +144,24 @@ export interface Arrays extends GivenArrays {
   get coordinates(): Float64Array;
 }
 
+/** Where a geometry begins, among the events of one. */
+export interface Begun {
+  readonly kind: Kind;
+  readonly dimension: Dimension;
+}
+/** A geometry of any kind, in the order of its text: what `wkt_read_events` in include/wkt.h gives. */
+export interface Events {
+  /**
+   * `Begun` where a geometry begins, and null where it ends. Between them is for each point (of none or one coordinate), line
+   * string, line and ring how many coordinates it has, which are the next of the numbers. The polygons of a MultiPolygon and
+   * the members of a collection begin and end in turn.
+   */
+  readonly events: (Begun | number | null)[];
+  /** All numbers, coordinate after coordinate, in units of ten to the minus `places`. A coordinate has 2, 3, 3 or 4. */
+  readonly numbers: bigint[];
+  readonly places: number;
+}
+
 export interface GeoJSONOptions extends Asked {
   /** What becomes of m, for which GeoJSON has no form. 'keep' makes it the last number of a position. */
   m?: 'refuse' | 'drop' | 'keep';
@@ -154,7 +181,7 @@ export interface Wkt {
   /** The same as bytes of ASCII, which are the caller's. */
   canonicalBytes(text: Text, asked?: Asked): Uint8Array;
   /** The canonical text of the geometry that a text begins with, and where that ends in the text. Anything may follow. */
-  front(text: Text, asked?: Places): { canonical: string; end: number };
+  front(text: Text, asked?: Places & Dialects): { canonical: string; end: number };
   /** Whether a text is read: whether `canonical` answers it. */
   reads(text: Text, asked?: Asked): boolean;
   /** Whether two texts name one geometry: whether their canonical texts are equal. @throws {WktError} one is refused */
@@ -170,6 +197,13 @@ export interface Wkt {
   arrays(text: Text, asked?: Asked): Arrays;
   /** The canonical text of such arrays. @throws {WktError} they are of no geometry */
   fromArrays(arrays: GivenArrays): string;
+  /**
+   * A geometry of any kind, collections too, with each number exact: the value as it is read, and with a dialect that of its
+   * canonical text. Each text that `canonical` answers has it.
+   * @throws {WktError} the text is refused */
+  readEvents(text: Text, asked?: Asked): Events;
+  /** The SRID in front of a text, as the dialect `srid` leaves it out; null where none stands there. The rest isn't read. */
+  srid(text: Text): number | null;
   /** The canonical texts of many texts, with the status of each: no row throws. A row of null is null. */
   columns(texts: Iterable<Text | null | undefined>, asked?: Asked): { texts: (string | null)[]; statuses: Uint8Array };
   /** For each line the canonical text of the geometry that it begins with, or `refused`, and a line feed. */

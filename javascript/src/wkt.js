@@ -3,7 +3,9 @@ import { Engine, LoneSurrogate, present } from './engine.js';
 import { WktError } from './errors.js';
 import { codeOf, explanation, explanationOfBytes, hintWords } from './explanation.js';
 import { DIMENSIONS, EXPECTED, HEADER_MESSAGES, KINDS, STATUS } from './names.js';
-import { Arrays, equal, textOfArrays } from './arrays.js';
+import { Arrays, given } from './arrays.js';
+import { dialectsOf } from './dialects.js';
+import { Events, eventsOf, numbersOf } from './events.js';
 import { geoJSONObjectOf, geoJSONOf } from './geojson.js';
 import { textOfGeoJSON } from './fromgeojson.js';
 import { parseExact } from './json.js';
@@ -12,12 +14,27 @@ import { LineAnswers, joined } from './lines.js';
 const WHOLE = 256; // WKT_WHOLE of include/wkt.h
 const MOST_PLACES = 36;
 
-/** The number by which a call asks for so many places, and for whole texts. */
-function asking(places, whole = false) {
+// Numbers of few places are read faster as doubles. With so many more places a number of as many bits as that may be refused.
+const FEW = [6, 15];
+const MORE = 19;
+
+/** The number by which a call asks for so many places, for whole texts, and for dialects. */
+function asking(places, whole = false, dialect = '') {
   if (!Number.isInteger(places)) throw new TypeError('places is a whole number');
   if (typeof whole !== 'boolean') throw new TypeError('whole is true or false');
   if (places < 0 || places > MOST_PLACES) throw new WktError(STATUS.NO_PLACES);
-  return whole ? places + WHOLE : places;
+  return places + (whole ? WHOLE : 0) + (dialect === '' ? 0 : dialectsOf(dialect));
+}
+
+/** The number for lines, which are read in no dialect. */
+function askingLines({ places = 18, dialect = '' }) {
+  if (dialect !== '') throw new TypeError('lines are read in no dialect');
+  return asking(places);
+}
+
+function ofM(m) {
+  if (!['refuse', 'drop', 'keep'].includes(m)) throw new TypeError("m is 'refuse', 'drop' or 'keep'");
+  return m;
 }
 
 const isRefusal = (status) => status <= STATUS.LAST_REFUSAL || status === STATUS.NOT_WHOLE;
@@ -26,38 +43,40 @@ const isRefusal = (status) => status <= STATUS.LAST_REFUSAL || status === STATUS
 export class Wkt {
   #engine;
 
+  #few = FEW;
+
   constructor(module) {
     this.#engine = new Engine(module);
   }
 
-  canonical(text, { places = 18, whole = true } = {}) {
+  canonical(text, { places = 18, whole = true, dialect = '' } = {}) {
     const engine = this.#engine;
-    const length = this.#canonical(text, asking(places, whole));
+    const length = this.#canonical(text, asking(places, whole, dialect));
     return engine.answerTo(text, engine.texts, length);
   }
 
-  canonicalBytes(text, { places = 18, whole = true } = {}) {
+  canonicalBytes(text, { places = 18, whole = true, dialect = '' } = {}) {
     const engine = this.#engine;
-    const length = this.#canonical(text, asking(places, whole));
+    const length = this.#canonical(text, asking(places, whole, dialect));
     return engine.bytes.slice(engine.answer, engine.answer + length);
   }
 
-  front(text, { places = 18 } = {}) {
+  front(text, { places = 18, dialect = '' } = {}) {
     const engine = this.#engine;
-    const length = this.#canonical(text, asking(places));
+    const length = this.#canonical(text, asking(places, false, dialect));
     // A text is of ASCII as far as its geometry ends: that is one place in bytes and in units.
     return { canonical: engine.ascii(engine.answer, length), end: engine.size(1) };
   }
 
-  reads(text, { places = 18, whole = true } = {}) {
-    const status = this.#status(text, asking(places, whole));
+  reads(text, { places = 18, whole = true, dialect = '' } = {}) {
+    const status = this.#status(text, asking(places, whole, dialect));
     if (status === STATUS.NO_MEMORY) throw new WktError(status);
     return status === STATUS.OK;
   }
 
-  same(one, other, { places = 18, whole = true } = {}) {
+  same(one, other, { places = 18, whole = true, dialect = '' } = {}) {
     const engine = this.#engine;
-    const asked = asking(places, whole);
+    const asked = asking(places, whole, dialect);
     engine.reset();
     const at = this.#put(one);
     const { length } = engine;
@@ -70,8 +89,8 @@ export class Wkt {
     throw new WktError(status, this.#explained(one, at, length, asked) ?? this.#explained(other, otherAt, otherLength, asked));
   }
 
-  explain(text, { places = 18, whole = true } = {}) {
-    const asked = asking(places, whole);
+  explain(text, { places = 18, whole = true, dialect = '' } = {}) {
+    const asked = asking(places, whole, dialect);
     this.#engine.reset();
     const at = this.#put(text);
     return this.#explained(text, at, this.#engine.length, asked);
@@ -86,50 +105,52 @@ export class Wkt {
     return { kind: KINDS[engine.number(0)], dimension: DIMENSIONS[engine.number(2)] };
   }
 
-  arrays(text, { places = 6, whole = true } = {}) {
+  arrays(text, { places = 6, whole = true, dialect = '' } = {}) {
     const engine = this.#engine;
-    const asked = asking(places, whole);
+    const asked = asking(places, whole, dialect);
     engine.reset();
     const at = this.#put(text);
     const { length } = engine;
     const status = engine.arrays(at, length, asked);
     if (status !== STATUS.OK) throw this.#refusal(status, text, at, length, asked);
-    const { buffer } = engine.memory;
     const [numbers, rings, polygons] = engine.arraysAt;
     return new Arrays(
       KINDS[engine.number(4)], DIMENSIONS[engine.number(5)], places,
-      new BigInt64Array(buffer.slice(numbers, numbers + 8 * engine.size(3))),
-      engine.offsets(rings, engine.size(4)), engine.offsets(polygons, engine.size(5)),
+      engine.numbers(numbers, engine.size(3)), engine.offsets(rings, engine.size(4)), engine.offsets(polygons, engine.size(5)),
       engine.size(6),
     );
   }
 
   fromArrays({ kind, dimension = 'XY', numbers, rings, polygons, places = 6 }) {
+    const engine = this.#engine;
     asking(places);
-    for (const list of [numbers, rings, polygons]) {
-      if (!Array.isArray(list) && !ArrayBuffer.isView(list)) throw new TypeError('numbers, rings and polygons are arrays');
-    }
-    for (const units of numbers) if (typeof units !== 'bigint') throw new TypeError('numbers are of BigInt');
-    const given = { kind, dimension, numbers, rings, polygons, places };
-    const text = textOfArrays(given);
-    if (text === null) throw new WktError(STATUS.NOT_ARRAYS);
-    // The text is made here, where nothing is proved: what the proved code reads in it is compared with what was given.
-    let back;
-    try {
-      back = this.arrays(text, { places });
-    } catch (error) {
-      if (error instanceof WktError && error.status !== STATUS.NO_MEMORY) throw new WktError(STATUS.NOT_ARRAYS);
-      throw error;
-    }
-    const same = back.kind === kind && back.dimension === dimension
-      && equal(back.numbers, numbers) && equal(back.rings, rings) && equal(back.polygons, polygons);
-    if (!same) throw new WktError(STATUS.NOT_ARRAYS);
-    return this.canonical(text, { places });
+    const [numberOfKind, numberOfDimension] = given({ kind, dimension, numbers, rings, polygons });
+    engine.reset();
+    const lists = [engine.putNumbers(numbers), engine.putOffsets(rings), engine.putOffsets(polygons)];
+    const status = engine.fromArrays(numberOfKind, numberOfDimension, ...lists, places);
+    if (status !== STATUS.OK) throw new WktError(status);
+    return engine.ascii(engine.answer, engine.size(0));
   }
 
-  columns(texts, { places = 18, whole = true } = {}) {
+  readEvents(text, { places = 18, whole = true, dialect = '' } = {}) {
     const engine = this.#engine;
-    const asked = asking(places, whole);
+    this.#events(text, this.#read(text, asking(places, whole, dialect)));
+    const [events, numbers] = engine.eventsAt;
+    return new Events(eventsOf(engine.words, events, engine.size(0)), numbersOf(engine.longs, numbers, engine.size(1)), places);
+  }
+
+  srid(text) {
+    const engine = this.#engine;
+    engine.reset();
+    const at = this.#put(text);
+    const status = engine.srid(at, engine.length);
+    if (status !== STATUS.OK) throw new WktError(status);
+    return engine.size(1) > 0 ? engine.number(0) : null;
+  }
+
+  columns(texts, { places = 18, whole = true, dialect = '' } = {}) {
+    const engine = this.#engine;
+    const asked = asking(places, whole, dialect);
     const answers = [];
     const statuses = [];
     for (const text of texts) {
@@ -141,9 +162,9 @@ export class Wkt {
     return { texts: answers, statuses: Uint8Array.from(statuses) };
   }
 
-  lines(input, { places = 18 } = {}) {
+  lines(input, asked = {}) {
     const engine = this.#engine;
-    const answers = new LineAnswers(engine, asking(places));
+    const answers = new LineAnswers(engine, askingLines(asked));
     const isString = typeof input === 'string';
     let bytes = isString ? null : present(input, 'lines are a string or a Uint8Array');
     if (isString) {
@@ -155,8 +176,8 @@ export class Wkt {
     return isString ? new TextDecoder().decode(all) : all;
   }
 
-  lineStream({ places = 18 } = {}) {
-    const answers = new LineAnswers(this.#engine, asking(places));
+  lineStream(asked = {}) {
+    const answers = new LineAnswers(this.#engine, askingLines(asked));
     return new TransformStream({
       transform(chunk, out) {
         for (const piece of answers.push(present(chunk, 'lineStream takes chunks of bytes'))) out.enqueue(piece);
@@ -167,17 +188,27 @@ export class Wkt {
     });
   }
 
-  toGeoJSON(text, options) {
-    return this.#geoJSON(geoJSONOf, text, options);
+  toGeoJSON(text, { m = 'refuse', ...asked } = {}) {
+    return geoJSONOf(this.canonical(text, asked), ofM(m));
   }
 
-  toGeoJSONObject(text, options) {
-    return this.#geoJSON(geoJSONObjectOf, text, options);
-  }
-
-  #geoJSON(made, text, { places = 18, whole = true, m = 'refuse' } = {}) {
-    if (!['refuse', 'drop', 'keep'].includes(m)) throw new TypeError("m is 'refuse', 'drop' or 'keep'");
-    return made(this.canonical(text, { places, whole }), m);
+  toGeoJSONObject(text, { places = 18, whole = true, m = 'refuse', dialect = '' } = {}) {
+    const engine = this.#engine;
+    const read = this.#read(text, asking(places, whole, dialect));
+    const before = engine.at;
+    for (const few of this.#few) {
+      if (few >= places || places - few > MORE) continue;
+      engine.at = before;
+      if (engine.events(read.at, read.length, read.asked - places + few) !== STATUS.OK) continue;
+      const made = geoJSONObjectOf(engine.words, engine.eventsAt, few, ofM(m), false);
+      if (made === null) continue;
+      // The next text is likely to have as many.
+      if (few !== this.#few[0]) this.#few = [few, this.#few[0]];
+      return made;
+    }
+    engine.at = before;
+    this.#events(text, read);
+    return geoJSONObjectOf(engine.words, engine.eventsAt, places, ofM(m), true);
   }
 
   fromGeoJSON(geometry, { places = 18 } = {}) {
@@ -233,6 +264,24 @@ export class Wkt {
     const status = engine.canonical(at, engine.length, asked);
     if (status !== STATUS.OK) throw this.#refusal(status, text, at, engine.length, asked);
     return engine.size(0);
+  }
+
+  /** Lays out a text whose events are asked for; of one in dialects, the canonical text. */
+  #read(text, asked) {
+    const engine = this.#engine;
+    if (asked >= 2 * WHOLE) {
+      const length = this.#canonical(text, asked);
+      return { at: engine.answer, length, asked: asked % WHOLE };
+    }
+    engine.reset();
+    const at = this.#put(text);
+    return { at, length: engine.length, asked };
+  }
+
+  /** The events of such a text, which stand in memory then. */
+  #events(text, { at, length, asked }) {
+    const status = this.#engine.events(at, length, asked);
+    if (status !== STATUS.OK) throw this.#refusal(status, text, at, length, asked);
   }
 
   /** The error of a text that stands at `at`. */

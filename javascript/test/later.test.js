@@ -41,8 +41,10 @@ test('a new expectation, message and hint', async () => {
 });
 
 test('a new status', async () => {
-  const wkt = await later({ wkt_canonical: () => 34, wkt_explain: () => 35, wkt_arrays: () => 36, wkt_infer: () => 37, wkt_same: () => 38, wkt_lines_some: () => 39 });
-  const calls = [['canonical', 34], ['explain', 35], ['arrays', 36], ['infer', 37], ['same', 38], ['lines', 39], ['front', 34], ['toGeoJSON', 34]];
+  const wkt = await later({ wkt_canonical: () => 34, wkt_explain: () => 35, wkt_arrays: () => 36, wkt_infer: () => 37, wkt_same_ends: () => 38, wkt_lines_some: () => 39,
+    wkt_read_events: () => 40, wkt_srid: () => 41 });
+  const calls = [['canonical', 34], ['explain', 35], ['arrays', 36], ['infer', 37], ['same', 38], ['lines', 39], ['front', 34], ['toGeoJSON', 34],
+    ['readEvents', 40], ['toGeoJSONObject', 40], ['srid', 41]];
   for (const [call, status] of calls) {
     const error = thrown(() => wkt[call]('POINT(1)', call === 'same' ? 'POINT(2)' : undefined));
     assert.deepEqual([error.name, error.status, error.message, error.place], ['WktError', status, `Status ${status}`, null], call);

@@ -1,6 +1,6 @@
 // What the compiler of TypeScript takes, and what it refuses: each line behind @ts-expect-error is to be an error.
 import { load, WktError, GeoJSONError, KINDS, DIMENSIONS, STATUS, decimal } from 'wkt-proved';
-import type { Arrays, Explanation, GeoJSONGeometry, GivenArrays, Wkt } from 'wkt-proved';
+import type { Arrays, Events, Explanation, GeoJSONGeometry, GivenArrays, Wkt } from 'wkt-proved';
 import { load as inline } from 'wkt-proved/inline';
 
 const wkt: Wkt = await load();
@@ -21,6 +21,12 @@ wkt.canonical(7);
 wkt.canonical('POINT(1 2)', { places: '6' });
 // @ts-expect-error an option that isn't there
 wkt.canonical('POINT(1 2)', { hole: true });
+wkt.canonical('POINT(1 2 3)', { dialect: 'ewkt,exponents' });
+// @ts-expect-error a dialect is named by a string
+wkt.canonical('POINT(1 2 3)', { dialect: ['ewkt'] });
+// @ts-expect-error lines are read in no dialect
+wkt.lines('POINT(1 2)', { dialect: 'ewkt' });
+const srid: number | null = wkt.srid('SRID=1;POINT(1 2)');
 // @ts-expect-error lines are never whole texts
 wkt.lines('POINT(1 2)', { whole: true });
 
@@ -56,6 +62,12 @@ wkt.fromArrays({ ...given, numbers: [1, 2] });
 // @ts-expect-error a collection has no flat arrays
 wkt.fromArrays({ ...given, kind: 'GeometryCollection' });
 
+const { events, numbers }: Events = wkt.readEvents('POINT(1 2)', { places: 6, dialect: 'nan' });
+const first: bigint = numbers[0];
+for (const event of events) if (event !== null && typeof event === 'object') console.log(event.kind, event.dimension);
+// @ts-expect-error an event may be a number, or null
+events[0].kind;
+
 const column: { texts: (string | null)[]; statuses: Uint8Array } = wkt.columns(['x', null, undefined, new Uint8Array(3)]);
 const lines: [string, Uint8Array] = [wkt.lines('x'), wkt.lines(new Uint8Array(3), { places: 6 })];
 const stream: ReadableStream<Uint8Array> = new Blob(['x']).stream().pipeThrough(wkt.lineStream({ places: 6 }));
@@ -73,4 +85,4 @@ const bytes: number = wkt.memory;
 wkt.release();
 // @ts-expect-error it is read only
 wkt.memory = 0;
-console.log(key, data, canonical, end, answers, unit, doubles, column, lines, stream, back, listed, ok, bytes, other);
+console.log(key, data, canonical, end, answers, unit, doubles, column, lines, stream, back, listed, ok, bytes, other, srid, first);

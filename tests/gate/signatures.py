@@ -121,7 +121,7 @@ def passed_by_engine(text, name):
     while depth:
         depth += {"(": 1, ")": -1}.get(text[end], 0)
         end += 1
-    return ["big(" in one or "cell" in one for one in parameters(text[call.end():end - 1])]
+    return [any(word in one for word in ("big(", "cell", "lists.")) for one in parameters(text[call.end():end - 1])]
 
 
 def differences(texts):
@@ -174,7 +174,7 @@ CHANGES = [
     (LISTS, "(text, text_len, places, read_room, read_room_len, hint))", "(text, text_len, places, hint))"),
     (RUST, "pub rings: usize,\n    pub polygons: usize,", "pub polygons: usize,\n    pub rings: usize,"),
     (RUST, "last: u32,\n", ""),
-    (ENGINE, "big(rooms[0]), big(sizes[0]), ", ""),
+    (ENGINE, "big(room[0]), big(room[1]), ", ""),
     (LINES, "last ? 1 : 0,", ""),
     (EXPORTS[0], "same: &mut u32,\n    end: &mut usize,", "end: &mut usize,\n    same: &mut u32,"),
     (EXPORTS[1], "numbers: &[i64],", "numbers: &mut [i64],"),
