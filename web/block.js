@@ -123,9 +123,11 @@ function geometryEnd(bytes, from) {
   }
 }
 
+/** The same, where its canonical text is a kind and EMPTY: its own may have parentheses, as POLYGON(EMPTY). */
 function emptyEnd(bytes, from) {
   const line = latin1.decode(bytes.subarray(from, lineEnd(bytes, from)));
-  return from + line.toUpperCase().indexOf('EMPTY') + 'EMPTY'.length;
+  const [word, open] = [line.toUpperCase().indexOf('EMPTY'), line.indexOf('(')];
+  return open >= 0 && open < word ? geometryEnd(bytes, from) : from + word + 'EMPTY'.length;
 }
 
 /** The first place from `from` on that is no white space, or a line feed. */

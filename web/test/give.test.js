@@ -153,7 +153,7 @@ test('what lies at a place of the picture', () => {
 
 // Lines of a file, and where they are refused: the column, 0 where a line is accepted, or null where it is blank.
 const FILE = [['POINT(1 2) ', 0], ['POINT EMPTY (1)', 13], ['POINT EMPTY \r', 0], ['', null], ['POINT(1 2) 3', 12], ['POINT(1 2) POINT(3 4)', 12], ['MULTIPOINT(1 2, EMPTY)\t', 0],
-  ['POINT(1', 8], ['GEOMETRYCOLLECTION(POINT EMPTY) x', 33], ['polygon z empty', 0], ['POLYGON((0 0,1 1,1 0,0 0),(0 0,1 1,1 0,0 0))', 0]];
+  ['POINT(1', 8], ['POLYGON(EMPTY)', 0], ['POLYGON (EMPTY,(1 2)) x', 23], ['GEOMETRYCOLLECTION(POINT EMPTY) x', 33], ['polygon z empty', 0], ['POLYGON((0 0,1 1,1 0,0 0),(0 0,1 1,1 0,0 0))', 0]];
 test('a line of a file is refused where more than white space follows its geometry', () => {
   const bytes = new TextEncoder().encode(FILE.map(([line]) => line).join('\n'));
   const { refusals, lines, blank } = new Blocks(wkt, { places: 18 }).lines(bytes, 100);
