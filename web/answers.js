@@ -11,6 +11,16 @@ const SHORT = 2000;
 
 export const places = () => Number($('places').value);
 
+/** The dialects that are asked for, as `canonical` takes them. */
+export const dialects = () => [...$('dialects').querySelectorAll(':checked')].map((box) => box.value).join(',');
+
+export function setDialects(names) {
+  for (const box of $('dialects').querySelectorAll('input')) box.checked = names.split(',').includes(box.value);
+}
+
+/** How a text is read. */
+export const reading = () => ({ places: places(), dialect: dialects() });
+
 /** How the user wants the text split: `auto`, `lines` or `one`. */
 export const askedSplit = () => $('split').querySelector(':checked').value;
 
@@ -95,7 +105,7 @@ const newRow = ({ text, offset, line }) => ({ id: ++ids, text: copyOf(text), off
 /** Answers a text. Pieces that stood there before the last change keep their answers. `more` makes what the worker is told beside it. */
 export function answer(text, more) {
   const split = askedSplit();
-  const how = `${places()} ${split}`;
+  const how = `${places()} ${dialects()} ${split}`;
   const old = how === asked ? state.rows : [];
   const { front, back, pieces, moved, lines } = changedPieces(before, old, text, split);
   const removed = state.rows.slice(front, state.rows.length - back);
@@ -113,18 +123,18 @@ export function answer(text, more) {
   if (lines !== 0) for (const row of rest) row.line += lines;
   state.rows = state.rows.slice(0, front).concat(added, rest);
   if (removed.length > 0 || added.length > 0) {
-    tellDesk({ change: { from: front, removed: removed.length, added: added.map((row) => [row.id, row.text]), places: places() }, ...more() });
+    tellDesk({ change: { from: front, removed: removed.length, added: added.map((row) => [row.id, row.text]), reading: reading() }, ...more() });
   }
   state.settled = open === 0;
   if (state.settled) finish();
   else if (wkt && added.length === open && added.reduce((sum, row) => sum + row.text.length, 0) < SHORT) {
-    takeAnswers(added.map((row) => [row.id, answerTo(wkt, row.text, places()).answer]));
+    takeAnswers(added.map((row) => [row.id, answerTo(wkt, row.text, reading()).answer]));
   }
 }
 
 /** Forgets all texts, since a file is read. */
 export function forget() {
-  if (state.rows.length > 0) tellDesk({ change: { from: 0, removed: state.rows.length, added: [], places: places() } });
+  if (state.rows.length > 0) tellDesk({ change: { from: 0, removed: state.rows.length, added: [], reading: reading() } });
   Object.assign(state, { rows: [], chosen: -1, settled: true });
   byId.clear();
   numbers.clear();

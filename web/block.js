@@ -1,6 +1,8 @@
 // Answers some lines of a file at once, counts what is in them, and says why lines are refused.
 import { STATUS, WktError } from '../javascript/src/index.js';
+import { joined } from '../javascript/src/lines.js';
 import { printable } from '../javascript/src/printable.js';
+import { withBox } from './dialects.js';
 import { WORDS, lineEnd } from './repeats.js';
 import { Tally } from './tally.js';
 
@@ -60,14 +62,14 @@ export class Refusals {
   count = 0;
 
   #wkt;
-  #places;
+  #reading;
   #ask;
   #whys = [];
 
   /** `ask`: of how many the reasons are asked. */
-  constructor(wkt, places, ask) {
+  constructor(wkt, reading, ask) {
     this.#wkt = wkt;
-    this.#places = places;
+    this.#reading = reading;
     this.#ask = ask;
   }
 
@@ -88,12 +90,14 @@ export class Refusals {
   #why(bytes) {
     try {
       // The error of a whole text: `explain` takes what follows a geometry for right.
-      this.#wkt.canonical(bytes, { places: this.#places, whole: true });
+      this.#wkt.canonical(bytes, { ...this.#reading, whole: true });
     } catch (error) {
       if (!isRefusal(error)) throw error;
       if (error.place) {
-        const { line, column, expected, hint, caret } = error.place;
-        const why = { column, expected, cause: causeOf(error), hint, message: sentenceIn(error.place), caret };
+        const { line, column, expected, caret } = error.place;
+        const cause = causeOf(error);
+        const hint = withBox(error.place.hint, cause, this.#reading.dialect);
+        const why = { column, expected, cause, hint, message: sentenceIn(error.place), caret };
         return { down: line - 1, ...why, found: foundAt(bytes, error.place) };
       }
       const at = notUtf8At(bytes.subarray(0, LONG));
@@ -123,11 +127,11 @@ function geometryEnd(bytes, from) {
   }
 }
 
-/** The same, where its canonical text is a kind and EMPTY: its own may have parentheses, as POLYGON(EMPTY). */
+/** The same, where its canonical text is a kind and EMPTY: its own may have parentheses, as POLYGON(EMPTY) and POINT(nan nan). */
 function emptyEnd(bytes, from) {
   const line = latin1.decode(bytes.subarray(from, lineEnd(bytes, from)));
   const [word, open] = [line.toUpperCase().indexOf('EMPTY'), line.indexOf('(')];
-  return open >= 0 && open < word ? geometryEnd(bytes, from) : from + word + 'EMPTY'.length;
+  return open >= 0 && (word < 0 || open < word) ? geometryEnd(bytes, from) : from + word + 'EMPTY'.length;
 }
 
 /** The first place from `from` on that is no white space, or a line feed. */
@@ -139,12 +143,12 @@ function passSpace(bytes, from) {
 
 export class Blocks {
   #wkt;
-  #places;
+  #reading;
   #tally;
 
-  constructor(wkt, { places, seeds }) {
+  constructor(wkt, { reading, seeds }) {
     this.#wkt = wkt;
-    this.#places = places;
+    this.#reading = reading;
     this.#tally = new Tally(seeds);
   }
 
@@ -156,7 +160,7 @@ export class Blocks {
 
   /** The canonical text, with a line feed, of a line. */
   lineOf(bytes) {
-    const text = this.#wkt.canonicalBytes(bytes, { places: this.#places });
+    const text = this.#wkt.canonicalBytes(bytes, this.#reading);
     const line = new Uint8Array(text.length + 1);
     line.set(text);
     line[text.length] = FEED;
@@ -165,7 +169,7 @@ export class Blocks {
 
   /** One text in all, over lines or a long one. `ask`: of how many refusals the reasons are asked. */
   one(bytes, ask) {
-    const refusals = new Refusals(this.#wkt, this.#places, ask);
+    const refusals = new Refusals(this.#wkt, this.#reading, ask);
     try {
       const answers = this.lineOf(bytes);
       this.#tally.add(answers, 0);
@@ -178,11 +182,30 @@ export class Blocks {
     return { answers: refusedLine.slice(), words: new Int32Array(0), lines: 1, blank: Number(blank), refusals: refusals.given() };
   }
 
+  /** The answers to lines: those that are refused as they stand are read one by one in the dialects that are asked for. */
+  #answers(bytes) {
+    const { places, dialect } = this.#reading;
+    const answers = this.#wkt.lines(bytes, { places });
+    if (dialect === '') return answers;
+    const parts = [];
+    let done = 0;
+    for (let at = 0, from = 0; at < answers.length;) {
+      const [end, to] = [lineEnd(answers, at), lineEnd(bytes, from)];
+      const line = bytes.subarray(from, to);
+      if (answers[at] === REFUSED && this.#wkt.reads(line, this.#reading)) {
+        parts.push(answers.subarray(done, at), this.lineOf(line));
+        done = end + 1;
+      }
+      [at, from] = [end + 1, to + 1];
+    }
+    return done > 0 ? joined([...parts, answers.subarray(done)]) : answers;
+  }
+
   /** Lines, the last of which may end without a line feed. What is saved of them is `kept`, where that isn't `answers`. */
   lines(bytes, ask) {
     if (bytes.length > LONG && lineEnd(bytes, 0) >= bytes.length - 1) return this.one(bytes.subarray(0, lineEnd(bytes, 0)), ask);
-    const answers = this.#wkt.lines(bytes, { places: this.#places });
-    const refusals = new Refusals(this.#wkt, this.#places, ask);
+    const answers = this.#answers(bytes);
+    const refusals = new Refusals(this.#wkt, this.#reading, ask);
     const tally = this.#tally;
     let words = new Int32Array(WORDS * 4096);
     let n = 0, lines = 0, blank = 0, done = 0, from = 0;

@@ -40,6 +40,7 @@ export const boundsInWords = (bounds) =>
 function facts(row) {
   const summary = row.facts;
   const shown = [['Kind', summary.kind], ['Dimension', summary.dimension], ['Points', number(summary.points)]];
+  if (summary.srid !== null) shown.push(['SRID', String(summary.srid)]);
   if (summary.polygons > 0) shown.push(['Polygons', number(summary.polygons)]);
   if (summary.rings > 0) shown.push([ringsName(summary), number(summary.rings)]);
   if (summary.kind === 'GeometryCollection') shown.push(['Members', number(summary.members)]);

@@ -1,5 +1,6 @@
 // The causes of refusals: stable words, as every language has them, by which refused lines are grouped.
 import { EXPECTED, EXPECTED_WORDS, HINTS, HINT_WORDS, MESSAGES, STATUS } from '../javascript/src/names.js';
+import { withBox } from './dialects.js';
 import { element, number, withCode } from './elements.js';
 
 const SENTENCES = new Map([
@@ -9,7 +10,7 @@ const SENTENCES = new Map([
 ]);
 
 /** What a cause says of each text that has it; of one that only a later module has, the word. */
-export const sentenceOf = (cause, places) => SENTENCES.get(cause)?.replace('%u', places) ?? cause;
+export const sentenceOf = (cause, { places, dialect }) => withBox(SENTENCES.get(cause)?.replace('%u', places) ?? cause, cause, dialect);
 
 /** Refusals by their causes: how many there are, and the line of the first. The most frequent cause comes first. */
 export function grouped(refusals) {
@@ -23,10 +24,10 @@ export function grouped(refusals) {
 }
 
 /** A table of causes. One may be chosen, by a button: then its refusals are shown alone. */
-export function causeTable(groups, places, chosen) {
+export function causeTable(groups, reading, chosen) {
   const rows = groups.map(({ cause, n, first }) => element('tr', { 'data-cause': cause, class: cause === chosen ? 'chosen' : null },
     element('td', {}, element('button', { class: 'button', type: 'button', 'aria-pressed': String(cause === chosen) }, cause)),
-    element('td', { class: 'why' }, ...withCode(sentenceOf(cause, places))),
+    element('td', { class: 'why' }, ...withCode(sentenceOf(cause, reading))),
     element('td', { class: 'n' }, number(n)), element('td', { class: 'n' }, number(first))));
   const head = [['Cause'], ['Why'], ['Lines', 'n'], ['First', 'n']].map(([words, name]) => element('th', { scope: 'col', class: name }, words));
   return element('table', { class: 'causes', 'aria-label': 'Causes of refusals' }, element('thead', {}, element('tr', {}, ...head)), element('tbody', {}, ...rows));

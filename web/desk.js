@@ -27,7 +27,7 @@ export class Desk {
   #wkt;
   #post;
   #answered;
-  #places = 18;
+  #reading = { places: 18, dialect: '' };
   #left = [];
   #working = false;
 
@@ -39,8 +39,8 @@ export class Desk {
   }
 
   /** Puts some texts in the place of others. */
-  change({ from, removed, added, places }) {
-    this.#places = places;
+  change({ from, removed, added, reading }) {
+    this.#reading = reading;
     const rows = added.map(([id, text]) => ({ id, text, accepted: false, front: undefined, gone: false }));
     for (let i = from; i < from + removed; i++) this.rows[i].gone = true;
     this.rows = [...this.rows.slice(0, from), ...rows, ...this.rows.slice(from + removed)];
@@ -69,7 +69,7 @@ export class Desk {
   }
 
   #answer(row) {
-    const { summary, answer } = answerTo(this.#wkt, row.text, this.#places);
+    const { summary, answer } = answerTo(this.#wkt, row.text, this.#reading);
     const { accepted, canonical, place } = answer;
     Object.assign(row, { accepted, canonical, place, summary });
     return answer;
@@ -107,7 +107,7 @@ export class Desk {
       for (let i = 0; i < end; i++) depth += { '(': 1, ')': -1 }[front[i]] ?? 0;
       if (end <= 0 || depth < 0) continue;
       try {
-        return this.#wkt.canonical(front.slice(0, end) + ')'.repeat(depth), { places: this.#places, whole: true });
+        return this.#wkt.canonical(front.slice(0, end) + ')'.repeat(depth), { ...this.#reading, whole: true });
       } catch (error) {
         if (!isRefusal(error)) throw error;
       }

@@ -1,5 +1,5 @@
 // A file: its answers as the worker finds them.
-import { askedSplit, forget, places } from './answers.js';
+import { askedSplit, forget, reading } from './answers.js';
 import { LISTED } from './block.js';
 import { boundsInWords } from './canonical.js';
 import { causeTable, onCause, sentenceOf } from './causes.js';
@@ -43,9 +43,9 @@ function start(file, many, asked) {
   const most = Math.min(MOST_WORKERS, Math.max(1, (navigator.hardwareConcurrency || 2) - 1));
   const n = many ? Math.min(most, 1 + Math.floor(file.size / PER_WORKER)) : 1;
   const channels = n > 1 ? Array.from({ length: n }, () => new MessageChannel()) : [];
-  helpers = channels.map(({ port1 }) => started('helper', { port: port1, places: places() }, [port1]));
+  helpers = channels.map(({ port1 }) => started('helper', { port: port1, reading: reading() }, [port1]));
   const ports = channels.map(({ port2 }) => port2);
-  return started('file', { file, places: places(), ports, ...asked }, ports);
+  return started('file', { file, reading: reading(), ports, ...asked }, ports);
 }
 
 /** Begins something that ends what is under way. What it returns says whether it is still that. */
@@ -164,7 +164,7 @@ function showLists() {
 function pickCause(picked) {
   cause = cause === picked ? null : picked;
   showLists();
-  speak($('refused-lines').textContent + (cause === null ? '' : `: ${withoutCode(sentenceOf(cause, places()))}`));
+  speak($('refused-lines').textContent + (cause === null ? '' : `: ${withoutCode(sentenceOf(cause, reading()))}`));
 }
 
 function kindsAndBounds({ kinds, bounds }) {
@@ -177,7 +177,7 @@ const section = (heading, ...nodes) => element('section', {}, element('h3', {}, 
 
 function causes(data, { causes: found, asked }) {
   if (asked < 2) return [];
-  return [section(asked < data.refused ? `Why the first ${number(asked)} are refused` : 'Why lines are refused', causeTable(found, places(), cause))];
+  return [section(asked < data.refused ? `Why the first ${number(asked)} are refused` : 'Why lines are refused', causeTable(found, reading(), cause))];
 }
 
 /** The first refusals; or those with the chosen cause, among all that are known. */

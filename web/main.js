@@ -1,8 +1,9 @@
 // The page: starts the module, and joins the parts.
 import { unpacked } from '../javascript/src/load.js';
-import { answer, askedSplit, places, setSplit, startDesk, takeTurned, whenSettled } from './answers.js';
+import { answer, askedSplit, dialects, places, setDialects, setSplit, startDesk, takeTurned, whenSettled } from './answers.js';
 import { answerText, showCanonical, takeTotals } from './canonical.js';
 import { goToNextRefusal, goToPlace, rowAtCursor, showMarks, startEditor } from './editor.js';
+import { DIALECTS } from './dialects.js';
 import { $, button, copy, count, element } from './elements.js';
 import { EXAMPLES } from './examples.js';
 import { field, startField } from './field.js';
@@ -57,6 +58,7 @@ function settled() {
 function link() {
   const said = new URLSearchParams({ wkt: field.value });
   if (places() !== PLACES) said.set('places', String(places()));
+  if (dialects() !== '') said.set('dialects', dialects());
   if (askedSplit() !== 'auto') said.set('as', askedSplit());
   return `#${said}`;
 }
@@ -68,6 +70,7 @@ function readLink(set) {
   set(said.get('wkt'));
   const wanted = said.get('places') ?? '';
   $('places').value = /^(3[0-6]|[12]?[0-9])$/.test(wanted) ? wanted : String(PLACES);
+  setDialects(said.get('dialects') ?? '');
   setSplit(['lines', 'one'].includes(said.get('as')) ? said.get('as') : 'auto');
   return true;
 }
@@ -168,8 +171,11 @@ function startDropping() {
 }
 
 // ---- The rest of the controls.
-function fillSelects() {
+function fillChoices() {
   for (let n = MOST_PLACES; n >= 0; n--) $('places').append(element('option', { value: n, selected: n === PLACES }, n === MOST_PLACES ? `${n} (most)` : String(n)));
+  for (const [name, { words, title }] of Object.entries(DIALECTS)) {
+    $('dialects').append(element('label', { class: 'field', title }, element('input', { type: 'checkbox', value: name }), words));
+  }
 }
 
 /** The list of examples: each is a button, so that going through the list changes nothing. */
@@ -194,7 +200,7 @@ function startExamples() {
 
 function startControls() {
   startField((type) => changed(/^(insert(?!From)|delete)/.test(type)));
-  for (const control of [$('places'), $('split')]) control.addEventListener('change', () => rereadFile() || changed());
+  for (const control of [$('places'), $('dialects'), $('split')]) control.addEventListener('change', () => rereadFile() || changed());
   $('clear').addEventListener('click', () => {
     put('');
     field.focus();
@@ -238,7 +244,7 @@ function startKeys() {
 }
 
 async function start() {
-  fillSelects();
+  fillChoices();
   try {
     const begun = performance.now();
     state.module = await unpacked($('module').textContent.trim());

@@ -71,14 +71,14 @@ export class Reading {
   /** Whether the reader asked to stop. */
   stopping = false;
 
-  /** `asked` has the file, the places, whether it is one text, and the form that it is turned from; `ports` are of helpers. */
+  /** `asked` has the file, how it is read, whether it is one text, and the form that it is turned from; `ports` are of helpers. */
   constructor(wkt, asked, post) {
     const seeds = Tally.seeds();
     this.#wkt = wkt;
     this.#asked = asked;
     this.#file = asked.file;
     this.#post = post;
-    this.#local = new Blocks(wkt, { places: asked.places, seeds });
+    this.#local = new Blocks(wkt, { reading: asked.reading, seeds });
     for (const port of asked.ports) port.postMessage({ seeds });
     this.#workers = asked.ports.length > 0 ? asked.ports.map(asking) : [async (it) => answered(this.#local, it)];
     this.#repeats = new Repeats((place, length) => this.#lineAt(place, length));
@@ -112,7 +112,7 @@ export class Reading {
     } catch {
       throw new Unreadable('It is not UTF-8.');
     }
-    const { texts, lines, left } = turned(text, form, this.#wkt, this.#asked.places);
+    const { texts, lines, left } = turned(text, form, this.#wkt, this.#asked.reading.places);
     this.#numbers = lines;
     this.#left = left;
     this.#file = new Blob([texts.join('\n')]);

@@ -1,6 +1,6 @@
 // The table of lines. Only those that are seen, and some around them, stand in the document.
 import { $, button, colored, count, element, fill, fillByKeys, number, printable, withoutCode } from './elements.js';
-import { places } from './answers.js';
+import { reading } from './answers.js';
 import { causeTable, onCause, sentenceOf } from './causes.js';
 import { choose, state } from './state.js';
 import { speak, withAxes } from './verdict.js';
@@ -45,14 +45,14 @@ function pickCause(cause) {
     return;
   }
   choose(shown[0]);
-  speak(`${count(shown.length, 'line')} shown: ${withoutCode(sentenceOf(cause, places()))}.`);
+  speak(`${count(shown.length, 'line')} shown: ${withoutCode(sentenceOf(cause, reading()))}.`);
 }
 
 /** The table of causes, where one has several lines: else the table of lines says all of it. */
 function showCauses({ refused, causes }) {
   const some = causes.length < refused;
   $('causes').hidden = !some;
-  fill($('causes'), some ? causeTable(causes, places(), filter) : '');
+  fill($('causes'), some ? causeTable(causes, reading(), filter) : '');
 }
 
 function answerCell(row, i) {

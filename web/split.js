@@ -43,7 +43,7 @@ function goesOn(text, begin, depth, from, to) {
   if (depth === null) return KINDS.has(first) && !/\bempty\b/i.test(text.slice(begin, Math.min(from, begin + 200))) && (mark === '(' || AFTER_HEADER.has(word));
   // In a collection a line may begin with a kind, as a geometry of its own does.
   const collection = first === 'GEOMETRYCOLLECTION';
-  return word === '' ? collection || '(),+-.0123456789'.includes(mark) : word === 'EMPTY' || (collection && KINDS.has(word));
+  return word === '' ? collection || '(),+-.0123456789'.includes(mark) : word === 'EMPTY' || word === 'NAN' || (collection && KINDS.has(word));
 }
 
 /** Lines, each of which is a piece where it isn't blank. */

@@ -50,13 +50,13 @@ async function file(asked) {
   };
 }
 
-async function helper({ module, port, places }) {
+async function helper({ module, port, reading }) {
   const wkt = await load(module);
   let blocks = null;
   port.onmessage = ({ data }) => {
     try {
       if (data.seeds) {
-        blocks = new Blocks(wkt, { places, seeds: data.seeds });
+        blocks = new Blocks(wkt, { reading, seeds: data.seeds });
         return;
       }
       const found = answered(blocks, data);

@@ -116,18 +116,21 @@ test('a table of refusals', () => {
 test('refusals by their causes', () => {
   const lines = ['POINT(1', 'SRID=1;POINT(1 2)', 'POINT(1 2) x', 'POINT(1', 'POINT(0.1234 1)', 'POINT(0.12345 1)', 'POINT(\xff 1)', 'POINT(1 2)'];
   const bytes = Uint8Array.from(lines.join('\n'), (c) => c.charCodeAt(0));
-  const { whys } = new Blocks(wkt, { places: 3 }).lines(bytes, 100).refusals;
+  const { whys } = new Blocks(wkt, { reading: { places: 3, dialect: '' } }).lines(bytes, 100).refusals;
   assert.deepEqual(grouped(whys), [
     { cause: 'expected_y', n: 2, first: 1 }, { cause: 'places', n: 2, first: 5 }, { cause: 'srid', n: 1, first: 2 }, { cause: 'not_whole', n: 1, first: 3 },
     { cause: 'not_utf8', n: 1, first: 7 }]);
-  assert.equal(sentenceOf('places', 3), 'numbers have at most 3 places here');
-  assert.equal(sentenceOf('not_utf8'), 'the text is not UTF-8');
-  assert.equal(sentenceOf('hint_99'), 'hint_99');
+  assert.equal(sentenceOf('places', { places: 3, dialect: '' }), 'numbers have at most 3 places here');
+  const none = { places: 18, dialect: '' };
+  const all = { places: '%u', dialect: 'srid,untagged,exponents,nan' };
+  assert.equal(sentenceOf('exponent', none), 'exponents are not read; write 0.0000001 for 1e-7; or choose “Exponents” under “Also read”');
+  assert.equal(sentenceOf('not_utf8', none), 'the text is not UTF-8');
+  assert.equal(sentenceOf('hint_99', none), 'hint_99');
   // Each cause of docs/names.tsv has the sentence that stands there.
   for (const [group, , name, text] of readFileSync(new URL('../../docs/names.tsv', import.meta.url), 'utf8').split('\n').map((row) => row.split('\t'))) {
     const word = name?.replace(/(?<=[a-z])(?=[A-Z])/g, '_').toLowerCase();
-    if (group === 'hint' && text) assert.equal(sentenceOf(word, '%u'), text);
-    if (group === 'expected') assert.equal(sentenceOf(`expected_${word}`), `${text} was expected`);
+    if (group === 'hint' && text) assert.equal(sentenceOf(word, all), text);
+    if (group === 'expected') assert.equal(sentenceOf(`expected_${word}`, all), `${text} was expected`);
   }
 });
 
@@ -156,7 +159,25 @@ const FILE = [['POINT(1 2) ', 0], ['POINT EMPTY (1)', 13], ['POINT EMPTY \r', 0]
   ['POINT(1', 8], ['POLYGON(EMPTY)', 0], ['POLYGON (EMPTY,(1 2)) x', 23], ['GEOMETRYCOLLECTION(POINT EMPTY) x', 33], ['polygon z empty', 0], ['POLYGON((0 0,1 1,1 0,0 0),(0 0,1 1,1 0,0 0))', 0]];
 test('a line of a file is refused where more than white space follows its geometry', () => {
   const bytes = new TextEncoder().encode(FILE.map(([line]) => line).join('\n'));
-  const { refusals, lines, blank } = new Blocks(wkt, { places: 18 }).lines(bytes, 100);
+  const { refusals, lines, blank } = new Blocks(wkt, { reading: { places: 18, dialect: '' } }).lines(bytes, 100);
   assert.deepEqual(refusals.whys.map(({ line, column }) => [line, column]), FILE.flatMap(([, column], i) => (column > 0 ? [[i + 1, column]] : [])));
   assert.deepEqual([lines, blank], [FILE.length, 1]);
+});
+
+test('lines of a file in dialects', () => {
+  const lines = ['SRID=1;POINT(1 2 3)', 'POINT(nan nan)\r', '', 'POINT(1e3 2)', 'POINT(1 2)', 'MULTIPOINT(nan nan, 1 2) x', 'POINT(1 2) x', 'POINT(1e400 2)', 'POINT ZM(nan nan nan nan)'];
+  const bytes = new TextEncoder().encode(lines.join('\n'));
+  const of = (dialect) => {
+    const { answers, kept, refusals, ...counts } = new Blocks(wkt, { reading: { places: 18, dialect } }).lines(bytes, 100);
+    return { ...counts, answers: new TextDecoder().decode(answers).split('\n'), whys: refusals.whys.map(({ line, column, cause }) => [line, column, cause]), hints: refusals.whys.map(({ hint }) => hint) };
+  };
+  const all = of('srid,untagged,exponents,nan');
+  assert.deepEqual(all.answers, ['POINT Z(1 2 3)', 'POINT EMPTY', 'refused', 'POINT(1000 2)', 'POINT(1 2)', 'refused', 'POINT(1 2)', 'refused', 'POINT ZM EMPTY', '']);
+  assert.deepEqual(all.whys, [[6, 26, 'not_whole'], [7, 12, 'not_whole'], [8, 7, 'large']]);
+  assert.deepEqual([all.lines, all.blank, all.words.length], [9, 1, 25]);
+  const none = of('');
+  assert.deepEqual(none.whys.map(([line, , cause]) => [line, cause]),
+    [[1, 'srid'], [2, 'no_number'], [4, 'exponent'], [6, 'no_number'], [7, 'not_whole'], [8, 'exponent'], [9, 'no_number']]);
+  assert.ok(none.hints[0].endsWith('; or choose “SRID=4326;” under “Also read”'), none.hints[0]);
+  assert.deepEqual(of('srid,untagged').whys[0].slice(0, 2), [2, 7]);
 });
