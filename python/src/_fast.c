@@ -17,10 +17,11 @@ static const struct {
     const char *name;
     size_t offset;
     int is_function;
-} parts[] = {FUNCTION(canonical), FUNCTION(same),        FUNCTION(infer),       FUNCTION(explain),   FUNCTION(hint),
-             FUNCTION(arrays),    FUNCTION(from_arrays), FUNCTION(lines),       OBJECT(places_of),   OBJECT(text_of),
-             OBJECT(refuse),      OBJECT(refuse_two),    OBJECT(refuse_header), OBJECT(explanation), OBJECT(array_of),
-             OBJECT(one_text),    OBJECT(Arrays),        OBJECT(KINDS),         OBJECT(DIMENSIONS)};
+} parts[] = {FUNCTION(canonical), FUNCTION(same),        FUNCTION(infer),  FUNCTION(explain),  FUNCTION(hint),
+             FUNCTION(arrays),    FUNCTION(from_arrays), FUNCTION(lines),  FUNCTION(srid),     FUNCTION(read_events),
+             OBJECT(places_of),   OBJECT(text_of),       OBJECT(refuse),   OBJECT(refuse_two), OBJECT(refuse_header),
+             OBJECT(explanation), OBJECT(array_of),      OBJECT(one_text), OBJECT(Arrays),     OBJECT(Events),
+             OBJECT(KINDS),       OBJECT(DIMENSIONS)};
 enum { PARTS = sizeof parts / sizeof *parts };
 
 /* The 28 answers of infer. */
@@ -66,14 +67,19 @@ static PyObject *bind(PyObject *self, PyObject *const *args, Py_ssize_t count) {
     { #name, (PyCFunction)(void (*)(void))fast_##name, METH_FASTCALL, words }
 static PyMethodDef methods[] = {
     {"bind", (PyCFunction)(void (*)(void))bind, METH_FASTCALL, "bind(name, address or object)"},
-    FAST(canonical, "canonical(text, places, whole) -> str"),
-    FAST(front, "front(text, places, False) -> (canonical text, end)"),
+    FAST(canonical,
+         "canonical(text, places, whole) -> str. places, whole: or places alone, with all bits, as in all calls"),
+    FAST(front, "front(text, places, whole) -> (canonical text, end)"),
     FAST(reads, "reads(text, places, whole) -> bool"),
     FAST(same, "same(one, other, places, whole) -> bool"),
+    {"srid", fast_srid, METH_O, "srid(text) -> int or None"},
+    {"srid_rows", fast_srid_rows, METH_O, "srid_rows(rows) -> list"},
+    FAST(events, "events(text, places, whole) -> Events"),
+    FAST(events_rows, "events_rows(rows, places, invalid, report) -> list"),
     {"infer", fast_infer, METH_O, "infer(text) -> (kind, dimension)"},
     FAST(explain, "explain(bytes, places) -> (status, message, start, stop, expected)"),
     FAST(hint, "hint(bytes, places) -> (status, hint)"),
-    FAST(lines, "lines(text, places) -> bytes"),
+    FAST(lines, "lines(text, places, whole) -> bytes"),
     FAST(canonical_rows, "canonical_rows(rows, places, invalid, report, statuses or None) -> list"),
     FAST(statuses, "statuses(rows or buffers, places, report, are buffers) -> uint32s"),
     FAST(explain_rows, "explain_rows(rows, places, report) -> list"),

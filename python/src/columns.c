@@ -222,32 +222,37 @@ PyObject *fast_same_rows(PyObject *self, PyObject *const *args, Py_ssize_t count
     return answers;
 }
 
-static PyObject *header_of(Walk *walk, Py_ssize_t i, int invalid) {
+PyObject *each_row(State *state, PyObject *rows, PyObject *report, RowAnswer *answer_of, const Asked *asked) {
+    PyObject *made = NULL;
+    Walk walk;
+    int more = -1;
+    if (walk_rows(&walk, state, rows, NULL, report) == 0 && (made = PyList_New(0)) != NULL)
+        while ((more = walk_next(&walk)) > 0)
+            for (Py_ssize_t i = 0; i < walk.last - walk.first; i++) {
+                int is_null = walk.cells[i].text == NULL;
+                more = append(made, is_null ? Py_NewRef(Py_None) : answer_of(&walk, i, asked));
+                if (more < 0) goto done;
+            }
+done:
+    walk_end(&walk);
+    if (more < 0) Py_CLEAR(made);
+    return made;
+}
+
+static PyObject *header_of(Walk *walk, Py_ssize_t i, const Asked *asked) {
     const Cell *cell = &walk->cells[i];
     uint32_t kind = 0, dimension = 0;
-    wkt_status status;
-    if (cell->text == NULL) return Py_NewRef(Py_None);
-    status = walk->state->infer((const uint8_t *)cell->text, (size_t)cell->length, &kind, &dimension);
+    wkt_status status = walk->state->infer((const uint8_t *)cell->text, (size_t)cell->length, &kind, &dimension);
     if (status == WKT_OK) return Py_NewRef(walk->state->headers[kind % 7][dimension % 4]);
-    if (invalid != RAISE) return Py_NewRef(Py_None);
+    if (asked->invalid != RAISE) return Py_NewRef(Py_None);
     return PyObject_CallFunction(walk->state->refuse_header, "In", status, walk->first + i);
 }
 
 /* (rows, 0 "raise" or 1 "null") -> list of (kind, dimension) and None */
 PyObject *fast_infer_rows(PyObject *self, PyObject *const *args, Py_ssize_t count) {
-    PyObject *made = NULL;
-    Walk walk;
-    long invalid;
-    int more = -1;
-    if (!has_count(count, 2) || ((invalid = PyLong_AsLong(args[1])) < 0 && PyErr_Occurred())) return NULL;
-    if (walk_rows(&walk, state_of(self), args[0], NULL, Py_None) == 0 && (made = PyList_New(0)) != NULL)
-        while ((more = walk_next(&walk)) > 0)
-            for (Py_ssize_t i = 0; i < walk.last - walk.first; i++)
-                if ((more = append(made, header_of(&walk, i, (int)invalid))) < 0) goto done;
-done:
-    walk_end(&walk);
-    if (more < 0) Py_CLEAR(made);
-    return made;
+    Asked asked = {0};
+    if (!has_count(count, 2) || ((asked.invalid = PyLong_AsLong(args[1])) < 0 && PyErr_Occurred())) return NULL;
+    return each_row(state_of(self), args[0], Py_None, header_of, &asked);
 }
 
 static PyObject *line_of(Answers *all, Py_ssize_t i, PyObject *no_line) {

@@ -16,6 +16,8 @@ typedef struct {
     __typeof__(&wkt_arrays) arrays;
     __typeof__(&wkt_from_arrays) from_arrays;
     __typeof__(&wkt_lines) lines;
+    __typeof__(&wkt_srid) srid;
+    __typeof__(&wkt_read_events) read_events;
     PyObject *places_of;     /* (places, whole) -> an int, or an error */
     PyObject *text_of;       /* (row, number) -> bytes, None of a null row, or a TypeError */
     PyObject *refuse;        /* (status, text, places, number): raises */
@@ -24,7 +26,7 @@ typedef struct {
     PyObject *explanation;   /* (row, places, status, message, start, stop, expected) -> Explanation or None */
     PyObject *array_of;      /* (code, buffer) -> an array over its items */
     PyObject *one_text;      /* (arrays, places, number) -> the text of what isn't as mostly */
-    PyObject *Arrays, *KINDS, *DIMENSIONS;
+    PyObject *Arrays, *Events, *KINDS, *DIMENSIONS;
     PyObject *headers[7][4]; /* (kind, dimension) */
     PyTypeObject *lent_type;
 } State;
@@ -53,6 +55,12 @@ typedef struct {
     uint32_t *statuses;
 } Walk;
 
+/* What a call asks of each row: its places with their bits, and 0 "raise" or 1 "null". */
+typedef struct {
+    uint32_t places;
+    long invalid;
+} Asked;
+
 int walk_rows(Walk *walk, State *state, PyObject *rows, PyObject *other, PyObject *report);
 int walk_buffers(Walk *walk, State *state, PyObject *packed, PyObject *report);
 int walk_next(Walk *walk);                      /* 1: there is a block; 0: the end; -1: an error */
@@ -61,7 +69,9 @@ void walk_end(Walk *walk);
 PyObject *row_at(PyObject *rows, Py_ssize_t i); /* borrowed */
 /* The text of one value, which is no row. *held: bytes that hold it, or NULL. */
 int text_in(State *state, PyObject *text, Cell *cell, PyObject **held);
-int places_in(State *state, PyObject *places, PyObject *whole, uint32_t *to);
+/* What a call is asked behind so many texts: places and whole, which the package hasn't looked at; or its places alone, with
+ * their bits. */
+int places_in(State *state, PyObject *const *args, Py_ssize_t texts, Py_ssize_t count, uint32_t *to);
 int has_count(Py_ssize_t count, Py_ssize_t wanted);
 PyObject *refused(State *state, uint32_t status, PyObject *text, uint32_t places, Py_ssize_t row);
 
@@ -79,6 +89,9 @@ PyObject *lent_room(State *state, Room *room, int writable);
 wkt_status answer(State *state, const Cell *cell, uint32_t places, Room *out, size_t *end);
 wkt_status status_of(State *state, const Cell *cell, uint32_t places);
 wkt_status compared(State *state, const Cell *one, const Cell *other, uint32_t places, uint32_t *same);
+/* A list of what each row gives, and None of a null one. */
+typedef PyObject *RowAnswer(Walk *walk, Py_ssize_t i, const Asked *asked);
+PyObject *each_row(State *state, PyObject *rows, PyObject *report, RowAnswer *answer_of, const Asked *asked);
 /* Where and why a text is refused. */
 typedef struct {
     wkt_status status;
@@ -112,4 +125,8 @@ PyObject *fast_arrays_rows(PyObject *self, PyObject *const *args, Py_ssize_t cou
 PyObject *fast_arrays_list(PyObject *self, PyObject *const *args, Py_ssize_t count);
 PyObject *fast_from_arrays_rows(PyObject *self, PyObject *const *args, Py_ssize_t count);
 PyObject *fast_from_arrays_column(PyObject *self, PyObject *const *args, Py_ssize_t count);
+PyObject *fast_events(PyObject *self, PyObject *const *args, Py_ssize_t count);
+PyObject *fast_events_rows(PyObject *self, PyObject *const *args, Py_ssize_t count);
+PyObject *fast_srid(PyObject *self, PyObject *text);
+PyObject *fast_srid_rows(PyObject *self, PyObject *rows);
 #endif

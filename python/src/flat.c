@@ -147,7 +147,7 @@ static int cut_start(Cut *cut, Flat *flat, uint32_t places) {
         if (cut->arrays[i] == NULL) return -1;
     }
     cut->flat = flat;
-    cut->places = PyLong_FromUnsignedLong(places & ~(uint32_t)WKT_WHOLE);
+    cut->places = PyLong_FromUnsignedLong(places % WKT_WHOLE);
     return cut->places == NULL ? -1 : 0;
 }
 
@@ -252,8 +252,7 @@ PyObject *fast_arrays(PyObject *self, PyObject *const *args, Py_ssize_t count) {
     Cell cell;
     Walk one = {.state = state_of(self), .cells = &cell, .first = -1};
     uint32_t places;
-    if (!has_count(count, 3) || places_in(one.state, args[1], args[2], &places) < 0) return NULL;
-    if (text_in(one.state, args[0], &cell, &held) < 0) return NULL;
+    if (places_in(one.state, args, 1, count, &places) < 0 || text_in(one.state, args[0], &cell, &held) < 0) return NULL;
     one.rows = args[0];
     if ((list = PyList_New(0)) != NULL && block_arrays(&one, places, 0, 0, list) == 0)
         made = Py_NewRef(PyList_GetItem(list, 0));

@@ -7,18 +7,21 @@ int has_count(Py_ssize_t count, Py_ssize_t wanted) {
     return count == wanted;
 }
 
-int places_in(State *state, PyObject *places, PyObject *whole, uint32_t *to) {
+int places_in(State *state, PyObject *const *args, Py_ssize_t texts, Py_ssize_t count, uint32_t *to) {
+    PyObject *places, *whole, *made;
     long value = -1;
-    PyObject *made;
-    if (PyLong_CheckExact(places) && (whole == Py_True || whole == Py_False)) {
+    if (count != texts + 1 && !has_count(count, texts + 2)) return -1;
+    places = args[texts], whole = count == texts + 1 ? NULL : args[texts + 1];
+    if (PyLong_CheckExact(places) && (whole == NULL || whole == Py_True || whole == Py_False)) {
         int overflow;
         value = PyLong_AsLongAndOverflow(places, &overflow);
-        if (value >= 0 && value <= MOST_PLACES) {
+        if (value >= 0 && value <= (whole == NULL ? UINT32_MAX : MOST_PLACES)) {
             *to = (uint32_t)value | (whole == Py_True ? WKT_WHOLE : 0);
             return 0;
         }
     }
-    if ((made = PyObject_CallFunctionObjArgs(state->places_of, places, whole, NULL)) == NULL) return -1;
+    made = PyObject_CallFunctionObjArgs(state->places_of, places, whole, NULL);
+    if (made == NULL) return -1;
     value = PyLong_AsLong(made);
     Py_DECREF(made);
     *to = (uint32_t)value;

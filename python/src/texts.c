@@ -15,19 +15,19 @@ wkt_status answer(State *state, const Cell *cell, uint32_t places, Room *out, si
 }
 
 /* The canonical text of a text; *end: where its geometry ends. */
-static PyObject *canonical_of(State *state, PyObject *const *args, size_t *end) {
+static PyObject *canonical_of(State *state, PyObject *const *args, Py_ssize_t count, size_t *end) {
     char small[512];
     Room out = {small, 1, 0, sizeof small};
     Cell cell;
     uint32_t places;
-    wkt_status status;
+    wkt_status status = WKT_TOO_SMALL;
     size_t needed = 0;
     PyObject *held, *made = NULL;
-    if (places_in(state, args[1], args[2], &places) < 0 || text_in(state, args[0], &cell, &held) < 0) return NULL;
-    if (cell.length <= 200) { /* its answer has 465 bytes at most */
+    if (places_in(state, args, 1, count, &places) < 0 || text_in(state, args[0], &cell, &held) < 0) return NULL;
+    if (cell.length <= 200) /* its answer has 465 bytes at most, but for dialects */
         status = state->canonical((const uint8_t *)cell.text, (size_t)cell.length, places, (uint8_t *)small,
                                   sizeof small, &needed, end);
-    } else {
+    if (status == WKT_TOO_SMALL) {
         out = (Room){NULL, 1, 0, 0};
         Py_BEGIN_ALLOW_THREADS
         status = answer(state, &cell, places, &out, end);
@@ -45,13 +45,13 @@ static PyObject *canonical_of(State *state, PyObject *const *args, size_t *end) 
 
 PyObject *fast_canonical(PyObject *self, PyObject *const *args, Py_ssize_t count) {
     size_t end;
-    return has_count(count, 3) ? canonical_of(state_of(self), args, &end) : NULL;
+    return canonical_of(state_of(self), args, count, &end);
 }
 
-/* (text, places, False) -> (canonical text, end). What stands before the end is ASCII, so that counts characters too. */
+/* (text, places, whole) -> (canonical text, end). What stands before the end is ASCII, so that counts characters too. */
 PyObject *fast_front(PyObject *self, PyObject *const *args, Py_ssize_t count) {
     size_t end = 0;
-    PyObject *made = has_count(count, 3) ? canonical_of(state_of(self), args, &end) : NULL;
+    PyObject *made = canonical_of(state_of(self), args, count, &end);
     return made == NULL ? NULL : Py_BuildValue("Nn", made, (Py_ssize_t)end);
 }
 
@@ -69,8 +69,7 @@ PyObject *fast_reads(PyObject *self, PyObject *const *args, Py_ssize_t count) {
     uint32_t places;
     wkt_status status;
     PyObject *held;
-    if (!has_count(count, 3) || places_in(state, args[1], args[2], &places) < 0) return NULL;
-    if (text_in(state, args[0], &cell, &held) < 0) return NULL;
+    if (places_in(state, args, 1, count, &places) < 0 || text_in(state, args[0], &cell, &held) < 0) return NULL;
     if (cell.length < LONG_TEXT) {
         status = status_of(state, &cell, places);
     } else {
@@ -93,8 +92,7 @@ PyObject *fast_same(PyObject *self, PyObject *const *args, Py_ssize_t count) {
     uint32_t places, same = 0;
     wkt_status status;
     PyObject *held, *its_held;
-    if (!has_count(count, 4) || places_in(state, args[2], args[3], &places) < 0) return NULL;
-    if (text_in(state, args[0], &one, &held) < 0) return NULL;
+    if (places_in(state, args, 2, count, &places) < 0 || text_in(state, args[0], &one, &held) < 0) return NULL;
     if (text_in(state, args[1], &other, &its_held) < 0) {
         Py_XDECREF(held);
         return NULL;
@@ -187,7 +185,7 @@ static Py_ssize_t next_lines(const Cell *text, Py_ssize_t done) {
     return end == NULL ? left : end + 1 - start;
 }
 
-/* (text, places) -> bytes: the answer to each line */
+/* (text, places, False) -> bytes: the answer to each line */
 PyObject *fast_lines(PyObject *self, PyObject *const *args, Py_ssize_t count) {
     State *state = state_of(self);
     Room out = {NULL, 1, 0, 0};
@@ -196,8 +194,7 @@ PyObject *fast_lines(PyObject *self, PyObject *const *args, Py_ssize_t count) {
     wkt_status status = WKT_OK;
     PyObject *held, *made = NULL;
     int stopped = 0;
-    if (!has_count(count, 2) || places_in(state, args[1], Py_False, &places) < 0) return NULL;
-    if (text_in(state, args[0], &text, &held) < 0) return NULL;
+    if (places_in(state, args, 1, count, &places) < 0 || text_in(state, args[0], &text, &held) < 0) return NULL;
     for (Py_ssize_t done = 0; status == WKT_OK && !stopped && done < text.length;) {
         Py_ssize_t length = next_lines(&text, done);
         Py_BEGIN_ALLOW_THREADS

@@ -11,9 +11,11 @@ geometry: only white space may follow it, or anything with `whole=False`.
     >>> wkt.canonical(["point(1 2)", None, "POINT(3"], invalid="null")
     ['POINT(1 2)', None, None]
 """
-from ._arrays import Arrays, ColumnArrays, from_arrays, from_arrays_column, to_arrays, to_arrays_column
+from ._arrays import (
+    Arrays, ColumnArrays, Events, from_arrays, from_arrays_column, read_events, to_arrays, to_arrays_column,
+)  # fmt: skip
 from ._arrow import ArrowTexts, Batches
-from ._calls import Front, batches, canonical, canonical_column, explain, front, infer, lines, reads, same
+from ._calls import Front, batches, canonical, canonical_column, explain, front, infer, lines, reads, same, srid
 from ._errors import WktError
 from ._explain import Explanation
 from ._geoarrow import GeoArrow
@@ -29,6 +31,7 @@ __all__ = [
     "ArrowTexts",
     "Batches",
     "ColumnArrays",
+    "Events",
     "Explanation",
     "Front",
     "GeoArrow",
@@ -45,8 +48,10 @@ __all__ = [
     "infer",
     "keys",
     "lines",
+    "read_events",
     "reads",
     "same",
+    "srid",
     "stream",
     "to_arrays",
     "to_arrays_column",

@@ -1,8 +1,9 @@
-"""Geometries as flat arrays of numbers, one by one and as columns."""
+"""Geometries as flat arrays of numbers, or as events and numbers, one by one and as columns."""
 import operator
 from typing import Any, List, NamedTuple, Optional, Tuple
 
 from . import _arrow, _buffers, _library
+from ._calls import canonical
 from ._columns import INVALID, check_invalid, column_of, is_column, or_null, rows_of
 from ._errors import WktError, check, words_of
 from ._names import DIMENSIONS, KINDS, NOT_COLUMN, NULL, TOO_SMALL
@@ -107,36 +108,80 @@ def _is_ints(numbers: Any) -> bool:
     return numpy is not None and isinstance(numbers, numpy.ndarray) and numbers.dtype == "int64"
 
 
+class Events(NamedTuple):
+    """A geometry of any kind, collections too, as two lists in the order of its text, as `wkt_read_events` gives them.
+
+    events: a pair (kind, dimension), as `infer` gives it, where a geometry begins, and None where it ends. Between them
+    is for each point (of none or one coordinate), line string, line and ring how many coordinates it has, which are the
+    next of the numbers. The polygons of a MultiPolygon and the members of a GeometryCollection begin and end in turn.
+    numbers: each number, as an int of whole units of ten to the minus `places`, coordinate after coordinate. A
+    coordinate has 2, 3, 3 or 4, by the dimension.
+    places: digits after the point that `numbers` have.
+    """
+
+    events: List[Any]
+    numbers: List[int]
+    places: int
+
+
 bind("Arrays", Arrays)
+bind("Events", Events)
 
 
-def to_arrays(text: Any, places: int = 6, invalid: str = "raise", progress: Progress = None, whole: bool = True) -> Any:
+def read_events(
+    text: Any, places: int = 18, invalid: str = "raise", progress: Progress = None, whole: bool = True, dialect: str = ""
+) -> Any:
+    """The geometry that a text names as `Events`, with each number exact; of a column a list, with None of a null row.
+
+    Each text that `canonical` takes has them. They are of the value as it is read; with a dialect, those of its
+    canonical text.
+    text: str or bytes, or a column. invalid: "raise" or "null": None of a refused text. places, progress, whole,
+    dialect, and errors: as of `canonical`.
+    """
+    checked = places_of(places, whole)
+    check_invalid(invalid, ("raise", "null"))
+    if dialect:
+        text = canonical(text, places, invalid, None, whole, dialect)
+        if text is None:
+            return None
+    if not is_column(text):
+        return or_null(invalid, None, lambda: calls.events(text, checked))
+    rows = column_of(text)
+    with shown(progress, len(rows)) as report:
+        return calls.events_rows(rows, checked, INVALID.index(invalid), report)
+
+
+def to_arrays(
+    text: Any, places: int = 6, invalid: str = "raise", progress: Progress = None, whole: bool = True, dialect: str = ""
+) -> Any:
     """The geometry that a text names as `Arrays`; of a column a list of them, with None of a null row.
 
     places: digits after the point, 0 to 36; a number is whole units of ten to the minus `places`. With 18 they hold up
     to 9.22, with 16 up to 922.3, and with 19 and more no whole number but 0.
-    invalid: "raise" or "null": None of a text that has no arrays. progress, whole: as of `canonical`.
+    invalid: "raise" or "null": None of a text that has no arrays. progress, whole, dialect: as of `canonical`.
     They are of the value as it is read; for the same arrays of the same key, pass the canonical text. Rows of a column
     may share arrays of rings and polygons, which can't be written.
     WktError: the text is refused (1 to 14, 20, 30), is a collection (24), or has a number that 64 bits don't hold (25).
     """
-    checked = places_of(places, whole)
+    checked = places_of(places, whole, dialect)
     check_invalid(invalid, ("raise", "null"))
     if not is_column(text):
-        return or_null(invalid, None, lambda: calls.arrays(text, places, whole))
+        return or_null(invalid, None, lambda: calls.arrays(text, checked))
     rows = column_of(text)
     with shown(progress, len(rows)) as report:
         return calls.arrays_list(rows, checked, INVALID.index(invalid), report, numpy is not None)
 
 
-def to_arrays_column(texts: Any, places: int = 6, progress: Progress = None, whole: bool = True) -> ColumnArrays:
+def to_arrays_column(
+    texts: Any, places: int = 6, progress: Progress = None, whole: bool = True, dialect: str = ""
+) -> ColumnArrays:
     """The flat arrays of a column of texts and the status of each row, as `ColumnArrays`: no row raises.
 
     They are of the values as they are read; for the same arrays of the same key, pass canonical texts.
     texts: a list, a tuple, a NumPy array, a Series, or an Arrow column. places: as of `to_arrays`.
-    progress, whole: as of `canonical`.
+    progress, whole, dialect: as of `canonical`.
     """
-    return _column_arrays(texts, places_of(places, whole), progress)
+    return _column_arrays(texts, places_of(places, whole, dialect), progress)
 
 
 def _column_arrays(texts: Any, places: int, progress: Progress) -> ColumnArrays:

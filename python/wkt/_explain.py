@@ -89,7 +89,12 @@ class Explanation(NamedTuple):
 
 
 def _too_many(number: str, most: int) -> str:
-    places = len(number.partition(".")[2].rstrip("0"))
+    """How many places a number has, which may have an exponent."""
+    digits, _, exponent = number.lower().partition("e")
+    whole, _, behind = digits.lstrip("+-").partition(".")
+    if len(exponent) > 9:
+        return "%s has too many places, at most %d are allowed" % (_short(number), most)
+    places = len((whole + behind).rstrip("0")) - len(whole) - int(exponent or 0)
     return "%s has %d places, at most %d are allowed" % (_short(number), places, most)
 
 

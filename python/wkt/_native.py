@@ -14,7 +14,9 @@ except ImportError:
     pass
 calls: Any = _slow if _fast is None else _fast
 
-BOUND = ("canonical", "same", "infer", "explain", "hint", "arrays", "from_arrays", "lines")
+BOUND = (
+    "canonical", "same", "infer", "explain", "hint", "arrays", "from_arrays", "lines", "srid", "read_events",
+)  # fmt: skip
 if _fast is not None:
     for _name in BOUND:
         _function = getattr(_library, "wkt_" + _name)

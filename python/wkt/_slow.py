@@ -14,6 +14,7 @@ _bound: Dict[str, Any] = {}
 bind = _bound.__setitem__
 BLOCK = 1 << 16
 BYTES = 1 << 20
+DIALECTS = 512  # from here on places ask for dialects, which the calls for columns don't take
 _Report = Optional[Callable[[int], Any]]
 
 
@@ -37,6 +38,12 @@ def _refuse(status: int, text: Any, places: int, row: Optional[int] = None) -> N
     _bound["refuse"](status, text, places, row)
 
 
+def _places(asked: Sequence[Any]) -> int:
+    """Of places and whole, which aren't looked at yet, or of places alone, with their bits."""
+    places: int = asked[0] if len(asked) == 1 else _bound["places_of"](*asked)
+    return places
+
+
 def _canonical(data: bytes, places: int) -> Tuple[int, str, int]:
     needed, end = size(), size()
     room = len(data) + 96 & -64
@@ -48,16 +55,16 @@ def _canonical(data: bytes, places: int) -> Tuple[int, str, int]:
         room = needed.value
 
 
-def front(text: Any, places: Any, whole: Any) -> Tuple[str, int]:
-    places = _bound["places_of"](places, whole)
+def front(text: Any, *asked: Any) -> Tuple[str, int]:
+    places = _places(asked)
     status, answer, end = _canonical(_encoded(text), places)
     if status:
         _refuse(status, text, places)
     return answer, end
 
 
-def canonical(text: Any, places: Any, whole: Any) -> str:
-    return front(text, places, whole)[0]
+def canonical(text: Any, *asked: Any) -> str:
+    return front(text, *asked)[0]
 
 
 def _status(data: bytes, places: int) -> int:
@@ -67,15 +74,15 @@ def _status(data: bytes, places: int) -> int:
     return OK if status == TOO_SMALL else status
 
 
-def reads(text: Any, places: Any, whole: Any) -> bool:
-    status = _status(_encoded(text), _bound["places_of"](places, whole))
+def reads(text: Any, *asked: Any) -> bool:
+    status = _status(_encoded(text), _places(asked))
     if status == NO_MEMORY:
         raise MemoryError
     return status == OK
 
 
-def same(one: Any, other: Any, places: Any, whole: Any) -> bool:
-    places = _bound["places_of"](places, whole)
+def same(one: Any, other: Any, *asked: Any) -> bool:
+    places = _places(asked)
     a, b, answer = _encoded(one), _encoded(other), u32()
     status = _library.wkt_same(a, len(a), b, len(b), places, ctypes.byref(answer))
     if status == NO_MEMORY:
@@ -109,8 +116,8 @@ def hint(data: bytes, places: int) -> Tuple[int, int]:
     return _library.wkt_hint(data, len(data), places, ctypes.byref(found)), found.value
 
 
-def lines(text: Any, places: Any) -> bytes:
-    data, places = _encoded(text), _bound["places_of"](places, False)
+def lines(text: Any, *asked: Any) -> bytes:
+    data, places = _encoded(text), _places(asked)
 
     def call(out: Any, length: int, needed: Any) -> int:
         status: int = _library.wkt_lines(data, len(data), places, out, length, needed)
@@ -166,11 +173,32 @@ def _answers(rows: Sequence[Any], places: int, report: _Report) -> Iterator[Tupl
     """Of each block where it begins, the canonical texts, and the status of each row."""
     room = Room(1)
     for first, _, held in _blocks(rows, report):
-        room.holds(len(held.data) + len(held.data) // 8 + 64)
-        ends, statuses = array.array("q", bytes(8 * (held.rows + 1))), array.array("I", bytes(4 * held.rows))
-        needed = room.call(_column_call(held, places, ends, statuses))
-        text = str(memoryview(room.out)[:needed], "ascii")
-        yield first, [text[start:end] for start, end in zip(ends, ends[1:])], statuses
+        text, ends, statuses = _block(held, places, room)
+        shown = str(text, "ascii")
+        yield first, [shown[start:end] for start, end in zip(ends, ends[1:])], statuses
+
+
+def _block(held: Packed, places: int, room: Room) -> Tuple[Any, Any, Any]:
+    """The canonical texts of some rows, one behind the other, where each begins, and the status of each."""
+    if places >= DIALECTS:
+        found = [(NULL, "", 0) if cell is None else _canonical(cell, places) for cell in _cells(held)]
+        if any(status == NO_MEMORY for status, _, _ in found):
+            raise MemoryError
+        ends = array.array("q", itertools.accumulate((len(text) for _, text, _ in found), initial=0))
+        text = "".join(text for _, text, _ in found).encode()
+        return text, ends, array.array("I", [status for status, _, _ in found])
+    room.holds(len(held.data) + len(held.data) // 8 + 64)
+    ends, statuses = array.array("q", bytes(8 * (held.rows + 1))), array.array("I", bytes(4 * held.rows))
+    needed = room.call(_column_call(held, places, ends, statuses))
+    return memoryview(room.out).cast("B")[:needed], ends, statuses
+
+
+def _cells(held: Packed) -> Iterator[Optional[bytes]]:
+    """The rows one by one."""
+    data = memoryview(held.data)
+    for row, (start, end) in enumerate(zip(held.offsets, held.offsets[1:])):
+        is_valid = not len(held.bits) or held.bits[row // 8] >> row % 8 & 1
+        yield bytes(data[start:end]) if is_valid else None
 
 
 def _column_call(held: Packed, places: int, ends: Any, statuses: Any) -> Callable[[Any, int, Any], int]:
@@ -254,12 +282,10 @@ def lines_rows(rows: Sequence[Any], places: int) -> List[Optional[str]]:
 
 def canonical_buffers(packed: Any, places: int, report: _Report) -> Tuple[Any, Any, Any]:
     held = Packed(*packed)
-    room = Room(len(held.data) + len(held.data) // 8 + 64)
-    ends, statuses = array.array("q", bytes(8 * (held.rows + 1))), array.array("I", bytes(4 * held.rows))
-    needed = room.call(_column_call(held, places, ends, statuses))
+    made = _block(held, places, Room(1))
     if report is not None:
         report(held.rows)
-    return memoryview(room.out).cast("B")[:needed], ends, statuses
+    return made
 
 
 def _three(sizes: Any, likely: int, call: Callable[..., int]) -> Tuple[int, Tuple[Any, Any, Any]]:
@@ -285,8 +311,8 @@ def _arrays(data: bytes, places: int) -> Tuple[int, Any, Any]:
     return status, sizes, three
 
 
-def arrays(text: Any, places: Any, whole: Any) -> Any:
-    places = _bound["places_of"](places, whole)
+def arrays(text: Any, *asked: Any) -> Any:
+    places = _places(asked)
     status, sizes, three = _arrays(_encoded(text), places)
     if status:
         _refuse(status, text, places)
@@ -299,6 +325,8 @@ def _made(kind: int, dimension: int, three: Iterable[Any], places: int) -> Any:
 
 def arrays_rows(column: Any, places: int, report: _Report, are_buffers: bool) -> Tuple[Any, ...]:
     held = Packed(*column) if are_buffers else pack(column)
+    if places >= DIALECTS:
+        return _arrays_one_by_one(held, places, report)
     words = [array.array("I", bytes(4 * held.rows)) for _ in range(3)]  # kinds, dimensions, statuses
     ends = [array.array("q", bytes(8 * (held.rows + 1))) for _ in range(3)]
     sizes = _library.ColumnSizes()
@@ -321,6 +349,24 @@ def arrays_rows(column: Any, places: int, report: _Report, are_buffers: bool) ->
         report(held.rows)
     joined = itertools.chain.from_iterable(zip(three, ends))
     return (words[0], words[1], *joined, words[2])
+
+
+def _arrays_one_by_one(held: Packed, places: int, report: _Report) -> Tuple[Any, ...]:
+    words = [array.array("I") for _ in range(3)]  # kinds, dimensions, statuses
+    three, ends = [array.array(code) for code in "qQQ"], [array.array("q", [0]) for _ in range(3)]
+    for cell in _cells(held):
+        status, sizes, made = (NULL, None, ()) if cell is None else _arrays(cell, places)
+        if status == NO_MEMORY:
+            raise MemoryError
+        for values, part in zip(three, made if status == OK else ()):
+            values.extend(part)
+        for values, at in zip(three, ends):
+            at.append(len(values))
+        for word, value in zip(words, (sizes.kind, sizes.dimension, OK) if status == OK else (0, 0, status)):
+            word.append(value)
+    if report is not None:
+        report(held.rows)
+    return (words[0], words[1], *itertools.chain.from_iterable(zip(three, ends)), words[2])
 
 
 def arrays_list(rows: Sequence[Any], places: int, invalid: int, report: _Report, shares: bool) -> List[Any]:
@@ -380,3 +426,69 @@ def _from_arrays_call(
         return status
 
     return call
+
+
+class _Units(ctypes.Structure):
+    """WktUnits of include/wkt.h."""
+
+    _fields_ = [("low", ctypes.c_uint64), ("high", ctypes.c_int64)]
+
+
+_BEGIN, _END = 1 << 63, (1 << 64) - 1  # WKT_EVENT_BEGIN, WKT_EVENT_END
+
+
+def _event(event: int) -> Any:
+    if event == _END:
+        return None
+    return event if event < _BEGIN else (KINDS[event >> 2 & 7], DIMENSIONS[event & 3])
+
+
+def _events(data: bytes, places: int) -> Tuple[int, Any]:
+    room, counts = (len(data) // 16 + 16, len(data) // 4 + 8), (size(), size(), size())
+    while True:
+        events, numbers = (ctypes.c_uint64 * room[0])(), (_Units * room[1])()
+        status = _library.wkt_read_events(
+            data, len(data), places, events, room[0], numbers, room[1], *map(ctypes.byref, counts)
+        )
+        room = counts[0].value, counts[1].value
+        if status == OK:
+            units = [it.low + (it.high << 64) for it in numbers[: room[1]]]
+            return status, _bound["Events"](list(map(_event, events[: room[0]])), units, places & 255)
+        if status != TOO_SMALL:
+            return status, None
+
+
+def events(text: Any, *asked: Any) -> Any:
+    places = _places(asked)
+    status, answer = _events(_encoded(text), places)
+    if status:
+        _refuse(status, text, places)
+    return answer
+
+
+def events_rows(rows: Sequence[Any], places: int, invalid: int, report: _Report) -> List[Any]:
+    answers: List[Any] = []
+    for i, row in enumerate(rows):
+        data = _bound["text_of"](row, i)
+        status, answer = (NULL, None) if data is None else _events(data, places)
+        if status not in (OK, NULL) and not (invalid and status != NO_MEMORY):
+            _refuse(status, row, places, i)
+        answers.append(answer)
+    if report is not None:
+        report(len(rows))
+    return answers
+
+
+def _srid(data: bytes) -> Optional[int]:
+    number, end = u32(), size()
+    _library.wkt_srid(data, len(data), ctypes.byref(number), ctypes.byref(end))
+    return number.value if end.value else None
+
+
+def srid(text: Any) -> Optional[int]:
+    return _srid(_encoded(text))
+
+
+def srid_rows(rows: Sequence[Any]) -> List[Optional[int]]:
+    held = (_bound["text_of"](row, i) for i, row in enumerate(rows))
+    return [None if data is None else _srid(data) for data in held]

@@ -21,6 +21,7 @@ _TYPES = {code: numpy.dtype(name) for code, (name, _, _) in INTEGERS.items()} if
 _FORMATS = {"q": ("l", "q"), "Q": ("L", "Q"), "I": ("I", "L")}  # of memoryview, if they have its size
 _NULLS = ("NAType", "NaTType")
 WHOLE = 256  # WKT_WHOLE of include/wkt.h
+DIALECTS = {"srid": 512, "untagged": 1024, "exponents": 2048, "nan": 4096, "ewkt": 512 | 1024}  # its WKT_SRID, ..
 MOST_PLACES = 36
 
 
@@ -68,11 +69,26 @@ def integer(value: Any, what: str) -> int:
         raise TypeError("%s is an int, and not %s" % (what, type(value).__name__)) from None
 
 
-def places_of(places: Any, whole: Any = False) -> int:
+def dialects_of(dialect: Any) -> int:
+    """The bits of dialects, which a str names: "ewkt,exponents"."""
+    if not isinstance(dialect, str):
+        raise TypeError("dialect is a str such as 'ewkt,exponents', and not %s" % type(dialect).__name__)
+    bits = 0
+    for name in dialect.split(",") if dialect else ():
+        known = DIALECTS.get(name.strip())
+        if known is None:
+            raise ValueError("a dialect is one of %s, and not %r" % (", ".join(DIALECTS), name.strip()))
+        bits |= known
+    return bits
+
+
+def places_of(places: Any, whole: Any = False, dialect: Any = "") -> int:
     """The places of a call: a TypeError unless it is an int, an OverflowError unless 32 bits hold it.
 
-    `whole` is added as a bit: each text is to be one geometry as a whole.
+    Bits are added: that of `whole`, where each text is to be one geometry as a whole, and one for each dialect.
     """
+    if dialect:
+        return places_of(places, whole) | dialects_of(dialect)
     if type(places) is int and 0 <= places <= MOST_PLACES and (whole is True or whole is False):
         return places | WHOLE if whole else places
     if not isinstance(whole, bool):
