@@ -25,7 +25,7 @@ gcc "${flags[@]}" "$wkt_h" -fvisibility=hidden -Dcalloc=refused_calloc -Drealloc
 for name in arrow_peer refuse; do gcc "${flags[@]}" "$here/$name.c" -o "$asan/$name.so"; done
 # The process has the sanitizer's allocator from its start, and Python's own goes there.
 tests "under sanitizers" "$asan" 'none' env LD_PRELOAD="$(gcc -print-file-name=libasan.so) $(gcc -print-file-name=libubsan.so)" ASAN_OPTIONS=detect_leaks=0 \
-    UBSAN_OPTIONS=print_stacktrace=1 "$python" -W error -m unittest -v test_arrow test_arrow_shared test_geoarrow_keys test_arrow_lent test_pack test_words \
+    UBSAN_OPTIONS=print_stacktrace=1 "$python" -W error -m unittest -v test_arrow test_arrow_shared test_geoarrow_keys test_arrow_lent test_pack test_words test_dialects \
     test_interpreters
 
 case ",${SKIP:-}," in *",dbg,"*) exit 0 ;; esac
@@ -33,5 +33,5 @@ flags=(-g -O1 -Wall -Wextra -Werror -fPIC -shared "$(includes "$python-dbg")")
 gcc "${flags[@]}" "$wkt_h" -fvisibility=hidden "$here"/../src/*.c -o "$dbg/wkt/_fast.abi3.so"
 gcc "${flags[@]}" "$here/arrow_peer.c" -o "$dbg/arrow_peer.so"
 tests "with assertions" "$dbg" 'only under sanitizers' env PYTHONMALLOC=debug "$python-dbg" -X dev -W error -m unittest -v \
-    test_arrow test_arrow_shared test_geoarrow_keys test_arrow_lent test_pack test_geoarrow test_streams test_words test_arguments \
+    test_arrow test_arrow_shared test_geoarrow_keys test_arrow_lent test_pack test_geoarrow test_streams test_words test_dialects test_arguments \
     test_interpreters

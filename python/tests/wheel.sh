@@ -23,7 +23,7 @@ each() {
     [ ! -e "$folder/wkt/_fast.abi3.so" ] || skipped='only under sanitizers|no (Dask|GDAL that lends)'
     [ ! -e "$folder/numpy.py" ] || skipped="$skipped|no (NumPy|pandas|Shapely)"
     (cd "$work" && env "$@" PYTHONPATH="$folder:$here:$work/peer" "$python" -W error -m unittest -v test_wkt test_arguments \
-        test_columns test_interrupts test_table_command test_pandas test_dask test_keys test_words test_streams test_geoarrow test_pack \
+        test_columns test_interrupts test_table_command test_pandas test_dask test_keys test_words test_dialects test_streams test_geoarrow test_pack \
         test_arrow test_arrow_shared test_arrow_lent test_geoarrow_keys test_interpreters test_producers) > "$work/said" 2>&1 || { cat "$work/said"; echo "$name: the tests fail"; exit 1; }
     ! grep "skipped '" "$work/said" | grep -vE "$skipped" || { echo "$name: a test was skipped"; exit 1; }
     echo "$name: $(grep '^Ran' "$work/said"), $(tail -n 1 "$work/said")"

@@ -129,8 +129,9 @@ bind("Events", Events)
 
 
 def read_events(
-    text: Any, places: int = 18, invalid: str = "raise", progress: Progress = None, whole: bool = True, dialect: str = ""
-) -> Any:
+    text: Any, places: int = 18, invalid: str = "raise", progress: Progress = None, whole: bool = True,
+    dialect: str = ""
+) -> Any:  # fmt: skip
     """The geometry that a text names as `Events`, with each number exact; of a column a list, with None of a null row.
 
     Each text that `canonical` takes has them. They are of the value as it is read; with a dialect, those of its

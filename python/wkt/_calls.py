@@ -63,7 +63,8 @@ def front(text: Any, places: int = 18, dialect: str = "") -> Front:
     text: str or bytes. places, dialect, and errors: as of `canonical`. A text of several geometries is read by
     `text = text[front.end:].lstrip(", ")`, again and again.
     """
-    return Front(*(calls.front(text, places_of(places, False, dialect)) if dialect else calls.front(text, places, False)))
+    asked = (places_of(places, False, dialect),) if dialect else (places, False)
+    return Front(*calls.front(text, *asked))
 
 
 def batches(
@@ -158,8 +159,8 @@ def infer(text: Any, invalid: str = "raise") -> Any:
 def srid(text: Any) -> Any:
     """The SRID in front of a text, as in `SRID=4326;POINT(1 2)`: 4326. None where none stands there.
 
-    It has one to nine digits, and nothing stands between these and the `;`, which is what the dialect "srid" leaves out.
-    The rest isn't read. Of a column a list, and of a Series of pandas a Series of `Int64`, with None of a null row.
+    It has one to nine digits, and nothing stands between these and the `;`: so the dialect "srid" leaves it out. The
+    rest isn't read. Of a column a list, and of a Series of pandas a Series of `Int64`, with None of a null row.
     """
     if not is_column(text):
         return calls.srid(text)

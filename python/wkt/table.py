@@ -11,7 +11,7 @@ from ._errors import printable
 from ._explain import why
 from ._files import PARTS, Failure, Output, Parts, Row, Source, lines_of
 from ._names import NULL
-from ._values import MOST_PLACES, places_of
+from ._values import MOST_PLACES, dialects_of, places_of
 
 REJECTS = ["file", "row", "column", "cause", "hint", "text"]
 SHOWN = 10  # So many refusals are shown where they go to no file.
@@ -39,7 +39,7 @@ class Run:
             self.out = opened.enter_context(Output(asked.out))
         finally:
             signal.pthread_sigmask(signal.SIG_SETMASK, held)
-        self.places = places_of(asked.places, True)
+        self.places = places_of(asked.places, True, asked.dialect)
         self.refused = 0
         self.quiet = asked.quiet or sys.stderr is None
         self.shows = not self.quiet and sys.stderr.isatty()
@@ -63,7 +63,7 @@ class Run:
         number = refused = without = 0
         for rows in source.blocks():
             cells = [(row[at] or None) if len(row) == source.width else None for row in rows]
-            keys, statuses = canonical_column(cells, self.asked.places)
+            keys, statuses = canonical_column(cells, self.asked.places, dialect=self.asked.dialect)
             for i, status in enumerate(statuses):
                 if status == NULL and len(rows[i]) == source.width:
                     without += 1
@@ -203,6 +203,7 @@ def options(words: Sequence[str]) -> Any:
     add("files", nargs="+", metavar="FILE", help="a file of comma-separated rows, with a header; - is standard input")
     add("--column", required=True, metavar="NAME", help="the column with the texts; its number without a header")
     add("--places", type=int, default=18, metavar="N", help="digits that may stand after the point, 0 to 36 (18)")
+    add("--dialect", default="", metavar="NAMES", help="what is read beyond the grammar, such as ewkt,exponents")
     add("--out", default="-", metavar="FILE", help="where the rows go, each after its key (standard output)")
     add("--rejects", metavar="FILE", help="where refused texts go: " + ", ".join(REJECTS))
     add("--dedup", action="store_true", help="of rows with one key only the first")
@@ -219,6 +220,10 @@ def options(words: Sequence[str]) -> Any:
         parser.error("--delimiter is one character, or the word tab")
     if not 0 <= asked.places <= MOST_PLACES:
         parser.error("--places is 0 to %d" % MOST_PLACES)
+    try:
+        dialects_of(asked.dialect)
+    except ValueError as error:
+        parser.error("--dialect: " + printable(str(error)))
     if asked.all and asked.join:
         parser.error("--all is not for --join: a row without a key joins no row")
     if [*asked.files, asked.join].count("-") > 1:
