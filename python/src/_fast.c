@@ -88,7 +88,8 @@ static PyMethodDef methods[] = {
     FAST(lines_rows, "lines_rows(rows, places) -> list"),
     FAST(canonical_buffers,
          "canonical_buffers((data, offsets, bits, rows), places, report) -> (data, offsets, statuses)"),
-    FAST(distinct, "distinct((data, offsets, bits, rows), 16 random bytes) -> (data, offsets, int32 of each row)"),
+    FAST(keys,
+         "keys(column, places or None, keep, report, 16 random bytes) -> (data, offsets, statuses, int32 of each row)"),
     FAST(arrays, "arrays(text, places, whole) -> Arrays"),
     FAST(arrays_rows, "arrays_rows(rows or buffers, places, report, are buffers) -> nine buffers"),
     FAST(arrays_list, "arrays_list(rows, places, invalid, report, whether rings and polygons are shared) -> list"),
@@ -113,7 +114,8 @@ static PyMethodDef methods[] = {
 static int made_ready(PyObject *module) {
     State *state = state_of(module);
     state->lent_type = (PyTypeObject *)PyType_FromModuleAndSpec(module, &lent_spec, NULL);
-    return state->lent_type == NULL ? -1 : 0;
+    state->cells_type = (PyTypeObject *)PyType_FromModuleAndSpec(module, &cells_spec, NULL);
+    return state->lent_type == NULL || state->cells_type == NULL ? -1 : 0;
 }
 
 static int traverse(PyObject *module, visitproc visit, void *arg) {
@@ -121,6 +123,7 @@ static int traverse(PyObject *module, visitproc visit, void *arg) {
     for (size_t i = 0; i < PARTS; i++)
         if (!parts[i].is_function) Py_VISIT(*(PyObject **)(void *)((char *)state + parts[i].offset));
     Py_VISIT(state->lent_type);
+    Py_VISIT(state->cells_type);
     return 0;
 }
 
@@ -130,6 +133,7 @@ static int clear(PyObject *module) {
         if (!parts[i].is_function) Py_CLEAR(*(PyObject **)(void *)((char *)state + parts[i].offset));
     for (int i = 0; i < 28; i++) Py_CLEAR(state->headers[i / 4][i % 4]);
     Py_CLEAR(state->lent_type);
+    Py_CLEAR(state->cells_type);
     return 0;
 }
 

@@ -63,7 +63,7 @@ static inline void raise_again(Aside it) {
 PyObject *arrow_array(PyObject *self, PyObject *args);
 PyObject *arrow_stream(PyObject *self, PyObject *args);
 PyObject *arrow_next(PyObject *self, PyObject *stream);
-extern PyType_Spec lent_spec;
+extern PyType_Spec lent_spec, cells_spec;
 /* The type of a column: of texts, of a dictionary of texts, of runs of either; or of lists of coordinates. */
 typedef struct {
     int nested;                      /* a struct of one column */

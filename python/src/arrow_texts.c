@@ -1,7 +1,7 @@
-/* The texts of an Arrow array, as the library takes a column: their bytes, 64-bit offsets from 0 on, and bits. Bytes of
- * utf8 and binary aren't copied; views are gathered. Of a dictionary and of runs each text that a row has is gathered
- * once, with the index of each row's. Offsets and bits are copied, and then checked, so that a producer's other thread
- * changes nothing behind a check. Nothing is taken to be aligned. */
+/* The texts of an Arrow array. Those of utf8 and binary as the library takes a column: their bytes, 64-bit offsets from 0
+ * on, and bits. Of views, of a dictionary and of runs where each stands, and of the latter two each that a row has once,
+ * with the index of each row's. No bytes of texts are copied. Offsets, bits and views are, and then checked, so that a
+ * producer's other thread changes nothing behind a check. Nothing is taken to be aligned. */
 #include "fast.h"
 
 PyObject *arrow_wrong(const char *what) {
@@ -131,7 +131,7 @@ static int text_at(const struct ArrowArray *array, int is_64, int64_t at, Cell *
 }
 
 /* The texts of rows from one on, which is counted from the array's offset. */
-static int cells_of(const Type *type, const struct ArrowArray *array, int64_t first, int64_t rows, Cell *cells) {
+static int texts_at(const Type *type, const struct ArrowArray *array, int64_t first, int64_t rows, Cell *cells) {
     int views = type->texts->format[0] == 'v', is_64 = type->texts->format[0] == 'U' || type->texts->format[0] == 'Z';
     if (!arrow_has(array, 3, views ? INT32_MAX : 3, 0, first, rows)) return -1;
     if (rows > 0 && array->buffers[1] == NULL) return arrow_wrong("it has rows and no offsets"), -1;
@@ -154,39 +154,6 @@ static int64_t index_at(const Type *type, const void *indices, int64_t at) {
            (size_t)type->index); /* both processors are little-endian */
     if (type->is_signed && value >> (8 * type->index - 1)) return -1;
     return value > INT64_MAX ? -1 : (int64_t)value;
-}
-
-/* Some texts, one behind the other. Takes a reference to the indices, which say which of them each row has. */
-static PyObject *gathered(const Cell *cells, int64_t rows, PyObject *indices) {
-    int64_t total = 0;
-    PyObject *offsets, *bits, *data;
-    for (int64_t i = 0; i < rows; i++) {
-        if (cells[i].length > PY_SSIZE_T_MAX - total) return Py_DECREF(indices), PyErr_NoMemory();
-        total += cells[i].length;
-    }
-    data = PyBytes_FromStringAndSize(NULL, (Py_ssize_t)total);
-    offsets = PyBytes_FromStringAndSize(NULL, (Py_ssize_t)(8 * (rows + 1)));
-    bits = PyBytes_FromStringAndSize(NULL, (Py_ssize_t)((rows + 7) / 8));
-    if (data != NULL && offsets != NULL && bits != NULL) {
-        char *to = PyBytes_AsString(data);
-        int64_t *ends = (int64_t *)PyBytes_AsString(offsets), at = 0;
-        uint8_t *valid = (uint8_t *)PyBytes_AsString(bits);
-        memset(valid, 0, (size_t)((rows + 7) / 8));
-        for (int64_t i = 0; i < rows; i++) {
-            ends[i] = at;
-            if (cells[i].text == NULL) continue;
-            valid[i / 8] |= (uint8_t)(1 << i % 8);
-            memcpy(to + at, cells[i].text, (size_t)cells[i].length);
-            at += cells[i].length;
-        }
-        ends[rows] = at;
-        return Py_BuildValue("NNNLN", data, offsets, bits, (long long)rows, indices);
-    }
-    Py_XDECREF(data);
-    Py_XDECREF(offsets);
-    Py_XDECREF(bits);
-    Py_DECREF(indices);
-    return NULL;
 }
 
 /* Which of the values each row has: by runs, by the indices of a dictionary, or by the indices of runs. */
@@ -247,8 +214,9 @@ static int64_t value_at(Choice *choice, int64_t row) {
     return at;
 }
 
-/* The values that rows have, in the order in which they come first, and the index of each row's; -1 of a null one. */
-static PyObject *chosen_of(Choice *choice, int64_t rows, Cell *known, Cell *cells, int32_t *places) {
+/* The values that rows have, in the order in which they come first, and the index of each row's, -1 of a null one: bytes of
+ * int32. */
+static PyObject *chosen_of(Choice *choice, int64_t rows, Cell *known, Cell *cells, int32_t *places, int32_t *all) {
     PyObject *indices = PyBytes_FromStringAndSize(NULL, (Py_ssize_t)(4 * rows));
     char *to = indices == NULL ? NULL : PyBytes_AsString(indices);
     int32_t count = 0;
@@ -262,26 +230,36 @@ static PyObject *chosen_of(Choice *choice, int64_t rows, Cell *known, Cell *cell
         }
         memcpy(to + 4 * i, &index, sizeof index);
     }
-    return indices == NULL ? NULL : gathered(cells, count, indices);
+    *all = count;
+    return indices;
 }
 
-static PyObject *chosen(const Type *type, const struct ArrowArray *array, int64_t first, int64_t rows) {
+/* Texts that are read where they stand. Takes the cells and the reference to the indices, or None. */
+static PyObject *in_place(State *state, Cell *cells, int64_t count, PyObject *indices, PyObject *owner) {
+    PyObject *texts = lent_cells(state, cells, (Py_ssize_t)count, owner);
+    if (texts == NULL) return Py_DECREF(indices), NULL;
+    return Py_BuildValue("NOOLN", texts, Py_None, Py_None, (long long)count, indices);
+}
+
+static PyObject *chosen(State *state, const Type *type, const struct ArrowArray *array, int64_t first, int64_t rows,
+                        PyObject *owner) {
     Choice choice;
     PyObject *made = NULL;
     Cell *known, *cells;
-    int32_t *places;
+    int32_t *places, count = 0;
     size_t size;
     if (choice_of(type, array, first, rows, &choice) < 0) return NULL;
     size = (size_t)choice.values->length + 1;
     known = calloc(size, sizeof *known), cells = calloc(size, sizeof *cells), places = calloc(size, sizeof *places);
     if (known == NULL || cells == NULL || places == NULL)
         PyErr_NoMemory();
-    else if (cells_of(type, choice.values, 0, choice.values->length, known) == 0)
-        made = chosen_of(&choice, rows, known, cells, places);
+    else if (texts_at(type, choice.values, 0, choice.values->length, known) == 0)
+        made = chosen_of(&choice, rows, known, cells, places, &count);
     free(known);
-    free(cells);
     free(places);
-    return made;
+    if (made != NULL) return in_place(state, cells, count, made, owner);
+    free(cells);
+    return NULL;
 }
 
 /* Whether a row of a table is null as a whole. A producer may give bits that are all 1. */
@@ -314,17 +292,17 @@ const struct ArrowArray *arrow_column_in(const struct ArrowArray *table, int64_t
 PyObject *arrow_texts(PyObject *module, const Type *type, const struct ArrowArray *array, PyObject *owner) {
     const struct ArrowArray *column = array;
     int64_t first = 0, rows = array->length;
-    PyObject *texts = NULL;
     Cell *cells;
     if (type->nested && (column = arrow_column_in(array, &first)) == NULL) return NULL;
     if (rows < 0 || rows > INT64_MAX / 32) return arrow_wrong("its length or its offset");
-    if (type->runs || type->index) return chosen(type, column, first, rows);
+    if (type->runs || type->index) return chosen(state_of(module), type, column, first, rows, owner);
     if (type->texts->format[0] != 'v') {
         if (!arrow_has(column, 3, 3, 0, first, rows)) return NULL;
         return plain(state_of(module), type, column, column->offset + first, rows, owner);
     }
     if ((cells = calloc((size_t)rows + 1, sizeof *cells)) == NULL) return PyErr_NoMemory();
-    if (cells_of(type, column, first, rows, cells) == 0) texts = gathered(cells, rows, Py_NewRef(Py_None));
+    if (texts_at(type, column, first, rows, cells) == 0)
+        return in_place(state_of(module), cells, rows, Py_NewRef(Py_None), owner);
     free(cells);
-    return texts;
+    return NULL;
 }

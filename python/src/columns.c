@@ -298,7 +298,8 @@ static wkt_status buffer_answers(const Walk *walk, uint32_t places, Room *out, R
     return WKT_OK;
 }
 
-/* ((data, 64-bit offsets, bits, rows), places, report) -> (data, offsets, statuses) as buffers */
+/* (column, places, report) -> (data, offsets, statuses) as buffers. column: as of walk_buffers. The room for all is taken
+ * once: so it stays whole for the next answer, and the system needn't give each page anew. */
 PyObject *fast_canonical_buffers(PyObject *self, PyObject *const *args, Py_ssize_t count) {
     State *state = state_of(self);
     Room out = {NULL, 1, 0, 0}, ends = {NULL, 8, 0, 0}, statuses = {NULL, 4, 0, 0};
@@ -308,7 +309,9 @@ PyObject *fast_canonical_buffers(PyObject *self, PyObject *const *args, Py_ssize
     int more;
     if (!has_count(count, 3) || (places = PyLong_AsUnsignedLong(args[1])) > UINT32_MAX) return NULL;
     more = walk_buffers(&walk, state, args[0], args[2]);
-    if (more == 0 && room_holds(&ends, 1) < 0) more = (PyErr_NoMemory(), -1);
+    if (more == 0 && (room_holds(&ends, (size_t)walk.count + 1) < 0 ||
+                      room_holds(&out, walk.bytes + walk.bytes / 8 + MORE_ROOM) < 0))
+        more = (PyErr_NoMemory(), -1);
     if (more == 0) ((int64_t *)ends.items)[ends.used++] = 0;
     while (more >= 0 && (more = walk_next(&walk)) > 0) {
         wkt_status status;

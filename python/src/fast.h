@@ -28,7 +28,7 @@ typedef struct {
     PyObject *one_text;      /* (arrays, places, number) -> the text of what isn't as mostly */
     PyObject *Arrays, *Events, *KINDS, *DIMENSIONS;
     PyObject *headers[7][4]; /* (kind, dimension) */
-    PyTypeObject *lent_type;
+    PyTypeObject *lent_type, *cells_type;
 } State;
 
 static inline State *state_of(PyObject *module) { return PyModule_GetState(module); }
@@ -51,6 +51,8 @@ typedef struct {
     Py_buffer data, offsets, bits;
     Py_ssize_t count, first, last; /* all rows; the block */
     Py_ssize_t unsaid;             /* bytes since `report` was called */
+    size_t bytes;                  /* all of buffers */
+    const Cell *its;               /* all texts, where they stand in several places, and `rows` holds them */
     Cell *cells, *others;          /* of rows; buffers need none */
     uint32_t *statuses;
 } Walk;
@@ -85,7 +87,13 @@ int room_holds(Room *room, size_t more);
 PyObject *lent(State *state, const void *data, Py_ssize_t length, PyObject *owner);
 PyObject *lent_room(State *state, Room *room, int writable);
 
+/* Texts that stand in several places, in memory of malloc, which it frees; owner: what they are of. */
+PyObject *lent_cells(State *state, Cell *cells, Py_ssize_t count, PyObject *owner);
+/* The texts of such an object, and how many bytes all have; NULL of another, with no error. There is one at least. */
+const Cell *cells_of(State *state, PyObject *from, Py_ssize_t *count, size_t *bytes);
+
 /* Answers are as large as the text, mostly. */
+enum { MORE_ROOM = 80 };
 wkt_status answer(State *state, const Cell *cell, uint32_t places, Room *out, size_t *end);
 wkt_status status_of(State *state, const Cell *cell, uint32_t places);
 wkt_status compared(State *state, const Cell *one, const Cell *other, uint32_t places, uint32_t *same);
@@ -119,7 +127,7 @@ PyObject *fast_same_rows(PyObject *self, PyObject *const *args, Py_ssize_t count
 PyObject *fast_infer_rows(PyObject *self, PyObject *const *args, Py_ssize_t count);
 PyObject *fast_lines_rows(PyObject *self, PyObject *const *args, Py_ssize_t count);
 PyObject *fast_canonical_buffers(PyObject *self, PyObject *const *args, Py_ssize_t count);
-PyObject *fast_distinct(PyObject *self, PyObject *const *args, Py_ssize_t count);
+PyObject *fast_keys(PyObject *self, PyObject *const *args, Py_ssize_t count);
 PyObject *fast_arrays(PyObject *self, PyObject *const *args, Py_ssize_t count);
 PyObject *fast_arrays_rows(PyObject *self, PyObject *const *args, Py_ssize_t count);
 PyObject *fast_arrays_list(PyObject *self, PyObject *const *args, Py_ssize_t count);

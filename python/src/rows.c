@@ -168,11 +168,16 @@ static int in_order(const Walk *walk) {
     return ordered && first >= 0 && last <= walk->data.len;
 }
 
-/* packed: (bytes of all, 64-bit offsets, bits or none, rows). Nobody changes the offsets during the walk. */
+/* packed: (bytes of all, 64-bit offsets, bits or none, rows), or texts that stand in several places. Nobody changes the
+ * offsets during the walk. */
 int walk_buffers(Walk *walk, State *state, PyObject *packed, PyObject *report) {
     PyObject *data, *offsets, *bits;
     int ordered;
     *walk = (Walk){.state = state, .report = report};
+    if ((walk->its = cells_of(state, packed, &walk->count, &walk->bytes)) != NULL) {
+        walk->rows = Py_NewRef(packed);
+        return 0;
+    }
     if (!PyTuple_Check(packed)) return PyErr_SetString(PyExc_TypeError, "buffers are a tuple"), -1;
     if (!PyArg_ParseTuple(packed, "OOOn", &data, &offsets, &bits, &walk->count)) return -1;
     if (walk->count < 0 || walk->count > PY_SSIZE_T_MAX / 16)
@@ -186,6 +191,7 @@ int walk_buffers(Walk *walk, State *state, PyObject *packed, PyObject *report) {
     ordered = in_order(walk);
     Py_END_ALLOW_THREADS
     if (!ordered) PyErr_SetString(PyExc_ValueError, "an offset is past the bytes");
+    walk->bytes = ordered ? (size_t)(offset_of(walk, walk->count) - offset_of(walk, 0)) : 0;
     return ordered ? 0 : -1;
 }
 
@@ -209,7 +215,8 @@ Cell walk_cell(const Walk *walk, Py_ssize_t i) {
     const uint8_t *bits = walk->bits.buf;
     Py_ssize_t row = walk->first + i;
     int64_t start, end;
-    if (walk->rows != NULL) return walk->cells[i];
+    if (walk->cells != NULL) return walk->cells[i];
+    if (walk->its != NULL) return walk->its[row];
     if (walk->bits.len != 0 && !(bits[row / 8] >> row % 8 & 1)) return (Cell){NULL, 0};
     start = offset_of(walk, row), end = offset_of(walk, row + 1);
     return (Cell){end == start ? "" : (const char *)walk->data.buf + start, end - start};
@@ -247,7 +254,9 @@ static int block_of_rows(Walk *walk) {
 /* The same of buffers, where the offsets alone say it: threads wait for each other no longer than that takes. */
 static void block_of_buffers(Walk *walk) {
     Py_ssize_t low = walk->first, high = walk->count - low < MOST_ROWS ? walk->count : low + MOST_ROWS;
-    int64_t most = offset_of(walk, low) + MOST_BYTES;
+    int64_t most = (walk->its == NULL ? offset_of(walk, low) : 0) + MOST_BYTES;
+    for (int64_t bytes = 0; walk->its != NULL && bytes < most && low < high; low++) bytes += walk->its[low].length;
+    if (walk->its != NULL) high = low;
     while (low < high) { /* the first row that begins past the most, or the end */
         Py_ssize_t middle = low + (high - low) / 2;
         if (offset_of(walk, middle) < most)
@@ -262,73 +271,11 @@ static void block_of_buffers(Walk *walk) {
 int walk_next(Walk *walk) {
     if (reported(walk) < 0 || PyErr_CheckSignals() < 0) return -1;
     walk->first = walk->last;
-    if (walk->rows == NULL) {
+    if (walk->cells == NULL) {
         block_of_buffers(walk);
     } else {
         if (PyList_Size(walk->held) > 0 && PyList_SetSlice(walk->held, 0, PY_SSIZE_T_MAX, NULL) < 0) return -1;
         if (block_of_rows(walk) < 0) return -1;
     }
     return walk->last > walk->first;
-}
-
-int room_holds(Room *room, size_t more) {
-    size_t wanted;
-    void *grown;
-    if (room->room - room->used >= more) return 0;
-    wanted = room->used + more;
-    if (wanted < more || wanted > PY_SSIZE_T_MAX / room->size) return -1;
-    if (wanted < PY_SSIZE_T_MAX / room->size / 2) wanted += wanted / 2;
-    if ((grown = realloc(room->items, wanted * room->size)) == NULL) return -1;
-    room->items = grown, room->room = wanted;
-    return 0;
-}
-
-/* Bytes as a buffer that keeps what they are of. */
-typedef struct {
-    PyObject_HEAD
-    void *data;
-    Py_ssize_t length;
-    int writable;
-    PyObject *owner;
-} Lent;
-
-static void lent_dealloc(PyObject *self) {
-    PyTypeObject *type = Py_TYPE(self);
-    if (((Lent *)self)->owner == NULL) free(((Lent *)self)->data);
-    Py_XDECREF(((Lent *)self)->owner);
-    ((freefunc)PyType_GetSlot(type, Py_tp_free))(self);
-    Py_DECREF(type);
-}
-
-static int lent_buffer(PyObject *self, Py_buffer *view, int flags) {
-    Lent *held = (Lent *)self;
-    static char none[8];
-    return PyBuffer_FillInfo(view, self, held->length == 0 ? none : held->data, held->length, !held->writable, flags);
-}
-
-static PyType_Slot lent_slots[] = {{Py_tp_dealloc, lent_dealloc}, {Py_bf_getbuffer, lent_buffer}, {0, NULL}};
-PyType_Spec lent_spec = {"wkt._fast.Lent", sizeof(Lent), 0, Py_TPFLAGS_DEFAULT | Py_TPFLAGS_DISALLOW_INSTANTIATION,
-                         lent_slots};
-
-PyObject *lent(State *state, const void *data, Py_ssize_t length, PyObject *owner) {
-    Lent *made = (Lent *)((allocfunc)PyType_GetSlot(state->lent_type, Py_tp_alloc))(state->lent_type, 0);
-    if (made == NULL) return NULL;
-    made->data = (void *)data, made->length = length;
-    made->owner = Py_XNewRef(owner);
-    return (PyObject *)made;
-}
-
-/* What is used of a room, which is no one's then. */
-PyObject *lent_room(State *state, Room *room, int writable) {
-    PyObject *made;
-    if (room->room > room->used && room->used > 0) { /* of no bytes realloc is free */
-        void *less = realloc(room->items, room->used * room->size);
-        if (less != NULL) room->items = less;
-    }
-    made = lent(state, room->items, (Py_ssize_t)(room->used * room->size), NULL);
-    if (made != NULL) {
-        ((Lent *)made)->writable = writable;
-        room->items = NULL;
-    }
-    return made;
 }

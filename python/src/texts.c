@@ -2,7 +2,7 @@
 #include "fast.h"
 
 wkt_status answer(State *state, const Cell *cell, uint32_t places, Room *out, size_t *end) {
-    size_t needed, likely = (size_t)cell->length + (size_t)cell->length / 8 + 80;
+    size_t needed, likely = (size_t)cell->length + (size_t)cell->length / 8 + MORE_ROOM;
     for (;;) {
         wkt_status status;
         if (room_holds(out, likely) < 0) return WKT_NO_MEMORY;

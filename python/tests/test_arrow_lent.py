@@ -223,14 +223,15 @@ class Memory(Arrow):
                 _fast.arrow_array, Lent(held, format).__arrow_c_array__
             )
             count = count if indices is None else len(indices) // 4
-            self.assertEqual((bytes(data), count), (b"".join(row or b"" for row in held), len(held)))
+            given = bytes(data) if offsets is not None else b"".join(it or b"" for it in data)
+            self.assertEqual((given, count), (b"".join(row or b"" for row in held), len(held)))
         points = Node("+w:2", 1, (None,), (numbers("g", [1, 2], name="xy"),))
         line = Node("+l", 1, (None, struct.pack("=2i", 0, 1)), (points,))
         chosen = Node("+r", 2, (), (numbers("i", [2]), numbers("i", [0], dictionary=texts_of([b"x"]))))
         _, made = self.each(lambda *two: _fast.arrow_array(*two, True), lambda: _fast.export(self.tree(line)))
         self.assertEqual(made, (b"", 1, struct.pack("=2d", 1, 2), (struct.pack("=2q", 0, 1),)))
         _, made = self.each(_fast.arrow_array, lambda: _fast.export(self.tree(chosen)))
-        self.assertEqual((bytes(made[0]), made[3], made[4]), (b"x", 1, bytes(8)))
+        self.assertEqual((list(made[0]), made[3], made[4]), ([b"x"], 1, bytes(8)))
 
     def tree(self, node):
         """A column as wkt._fast lends it, which releases it without a call of Python."""
@@ -273,7 +274,11 @@ class Memory(Arrow):
             (lambda: len(_fast.arrays_rows(rows, 6, None, False)), 9),
             (lambda: _fast.from_arrays_column(nine, 6), (texts, [0, 0])),
             (lambda: bytes(_fast.canonical_buffers(packed, 18, None)[0]), "".join(texts).encode()),
-            (lambda: bytes(_fast.distinct(packed, bytes(16))[0]), "".join(texts).encode()),
+            (lambda: bytes(_fast.keys(packed, 18, False, None, bytes(16))[0]), "".join(texts).encode()),
+            (lambda: bytes(_fast.keys(packed, None, False, None, bytes(16))[0]), "".join(texts).encode()),
+            (lambda: _fast.events("POINT(1 -20)", 18), ([("Point", "XY"), 1, None], [10**18, -2 * 10**19], 18)),
+            (lambda: [it and len(it[0]) for it in _fast.events_rows([long, "x", None], 0, 1, None)], [302, None, None]),
+            (lambda: _fast.srid_rows(["SRID=5;", None, bytearray(b"x")]), [5, None, None]),
             (lambda: [it.kind for it in _fast.arrays_list(texts, 6, 0, None, False)], ["MultiPoint", "Point"]),
             (lambda: [it.kind for it in _fast.arrays_list(texts[1:] * 2, 6, 0, None, True)], ["Point", "Point"]),
         ):

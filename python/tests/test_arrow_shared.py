@@ -6,12 +6,14 @@ import struct
 import unittest
 
 import wkt
-from arrow_columns import NAMED, Arrow, Node, Told, ToldStream, arrow_peer, numbers, rows_in, texts_of
+from arrow_columns import (
+    NAMED, Arrow, Lent, Node, Streamed, Told, ToldStream, arrow_peer, numbers, rows_in, texts_of,
+)  # fmt: skip
 from modules import patched
 
 if arrow_peer is not None:
     import numpy
-    from wkt import _arrow
+    from wkt import _arrow, _fast
 
 VALUES = [b"never(", b"point ( 1 2.50 )", None, b"PINT(5 6)", b"POINT(1 2.5)", b"LINESTRING(1 2,3 4,5 6,7 8)"]
 INDICES = [5, 1, None, 4, 2, 1, 5, 3, 3, 4]
@@ -126,6 +128,34 @@ class Shared(Arrow):
         halves = [dictionary(part, values) for part in (indices[:3000], indices[3000:])]
         again = wkt.canonical(ToldStream(*halves), invalid="null")
         self.assertEqual((again.to_pylist(), bytes(again.data)), (keys, bytes(made.data)))
+
+    def test_ends(self):
+        """Texts of one length, with the same first and last hundred bytes, are told apart, and found again."""
+        ends = ",".join(["7 7"] * 25)
+        for count in (1, 2, 40):
+            values = [b"LINESTRING(%s,%d 1,%s)" % (ends.encode(), i, ends.encode()) for i in range(10, 10 + count)]
+            spelled = [value.replace(b",", b" , ") for value in values]
+            made = wkt.canonical(Told(dictionary(list(range(2 * count)), values + spelled)))
+            self.assertEqual(made.indices.tolist(), 2 * list(range(count)))
+            self.assertEqual(bytes(made.data), b"".join(values))
+
+    def test_read_in_place(self):
+        """Of views, dictionaries and runs the texts are what stands in the producer's memory, once."""
+        shared = Told(dictionary()), Told(runs([2, 5], texts_of(VALUES[1:3])))
+        for column in (*shared, Lent(VALUES, "vu"), Lent(VALUES, "vz")):
+            _, (texts, offsets, bits, count, _) = _fast.arrow_array(*column.__arrow_c_array__())
+            self.assertEqual((type(texts).__name__, offsets, bits, count), ("Cells", None, None, len(texts)))
+            self.assertTrue(all(text in VALUES for text in texts))
+            for at in (-len(texts) - 1, len(texts)):
+                with self.assertRaises(IndexError):
+                    texts[at]
+            with self.assertRaises(TypeError):
+                type(texts)()
+        column, listed = Streamed([VALUES, VALUES[2:5]], "vu"), VALUES + VALUES[2:5]
+        one, other = wkt.to_arrays_column(column), wkt.to_arrays_column(listed)
+        self.assertEqual([it.tolist() for it in one[:9]], [it.tolist() for it in other[:9]])
+        kept = wkt.canonical(Lent(VALUES, "vu"), invalid="keep")
+        self.assertEqual(kept.to_pylist(), ["never(", POINT, None, "PINT(5 6)", POINT, LINE])
 
     def rows(self, taken):
         """The rows of what a consumer took of a dictionary."""

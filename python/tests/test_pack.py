@@ -69,7 +69,7 @@ class Pack(unittest.TestCase):
         calls = [
             lambda ends: _fast.canonical_buffers((b"abcde", array.array("q", ends), b"", 2), 18, None),
             lambda ends: _fast.arrays_rows((b"abcde", array.array("q", ends), b"", 2), 18, None, True),
-            lambda ends: _fast.distinct((b"abcde", array.array("q", ends), b"", 2), bytes(16)),
+            lambda ends: _fast.keys((b"abcde", array.array("q", ends), b"", 2), None, False, None, bytes(16)),
         ]
         for ends in ([0, 3, 6], [-1, 2, 3], [0, 3, 2], [0, 3], [0, 1, 2, 3]):
             for call in calls:
@@ -80,9 +80,9 @@ class Pack(unittest.TestCase):
             with self.assertRaises(ValueError):
                 _fast.canonical_buffers(wrong, 18, None)
             with self.assertRaises(ValueError):
-                _fast.distinct(wrong, bytes(16))
+                _fast.keys(wrong, None, False, None, bytes(16))
         with self.assertRaises(ValueError):
-            _fast.distinct((b"abcde", ends, b"", 2), bytes(15))
+            _fast.keys((b"abcde", ends, b"", 2), None, False, None, bytes(15))
 
     @unittest.skipIf(numpy is None, "no NumPy")
     def test_masks(self):

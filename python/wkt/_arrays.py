@@ -188,9 +188,12 @@ def to_arrays_column(
 def _column_arrays(texts: Any, places: int, progress: Progress) -> ColumnArrays:
     are_lent, indices = _arrow.is_texts(texts), None
     if are_lent:
-        packed, indices = _buffers.whole(_arrow.taken(texts))
-    column: Any = tuple(packed) if are_lent else column_of(texts)
-    with shown(progress, column[3] if are_lent else len(column)) as report:
+        chunk = _buffers.whole(_arrow.taken(texts))
+        indices, column, count = chunk.indices, chunk.given, chunk.count
+    else:
+        column = column_of(texts)
+        count = len(column)
+    with shown(progress, count) as report:
         made = calls.arrays_rows(column, places, report, are_lent)
     held = ColumnArrays._make([*map(array_of, CODES.values(), made), places % WHOLE])
     return held if indices is None else _chosen(held, indices)

@@ -42,13 +42,15 @@ def is_texts(values: Any) -> bool:
 
 def _chunk(parts: Any) -> Chunk:
     data, offsets, bits, rows, indices = parts
+    if offsets is None:
+        return Chunk(data, None if indices is None else numpy.frombuffer(indices, numpy.int32))
     packed = Packed(
         numpy.frombuffer(data, numpy.uint8),
         numpy.frombuffer(offsets, numpy.int64),
         numpy.frombuffer(bits, numpy.uint8),
         rows,
     )
-    return Chunk(packed, None if indices is None else numpy.frombuffer(indices, numpy.int32))
+    return Chunk(packed)
 
 
 def _rest(stream: Any) -> Iterator[Any]:

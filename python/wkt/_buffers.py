@@ -24,14 +24,43 @@ class Texts(NamedTuple):
 
 
 class Chunk(NamedTuple):
-    """A part of a column. indices: which text each row has, and -1 of a null one; None where each has its own."""
+    """A part of a column. indices: which text each row has, and -1 of a null one; None where each has its own.
 
-    texts: Packed
+    texts: Packed, or a sequence of wkt._fast: of bytes and None, which the calls read where Arrow has them.
+    """
+
+    texts: Any
     indices: Any = None
 
     @property
     def rows(self) -> int:
-        return self.texts.rows if self.indices is None else len(self.indices)
+        return self.count if self.indices is None else len(self.indices)
+
+    @property
+    def count(self) -> int:
+        """How many texts there are."""
+        return int(self.texts.rows if isinstance(self.texts, Packed) else len(self.texts))
+
+    @property
+    def given(self) -> Any:
+        """The texts as the calls take them."""
+        return tuple(self.texts) if isinstance(self.texts, Packed) else self.texts
+
+    def packed(self) -> Packed:
+        """The texts as one piece."""
+        if isinstance(self.texts, Packed):
+            return self.texts
+        ends = numpy.cumsum([0, *(len(it or b"") for it in self.texts)])
+        bits = numpy.packbits(numpy.array([it is not None for it in self.texts], bool), bitorder="little")
+        data = b"".join(it or b"" for it in self.texts)
+        return Packed(_bytes(data), ends.astype(numpy.int64), bits, len(self.texts))
+
+    def text(self, at: int) -> bytes:
+        held = self.texts
+        if isinstance(held, Packed):
+            held = [held.data[held.offsets[at] : held.offsets[at + 1]].tobytes()]
+            at = 0
+        return bytes(held[at])
 
 
 class Buffers(NamedTuple):
@@ -77,6 +106,7 @@ def whole(held: Buffers) -> Chunk:
     chunks = list(held.chunks)
     if len(chunks) == 1:
         return chunks[0]
+    chunks = [Chunk(chunk.packed(), chunk.indices) for chunk in chunks]
     valid, indices, before = [numpy.empty(0, numpy.uint8)], [numpy.empty(0, numpy.int32)], 0
     for texts, chosen in chunks:
         bits = (
@@ -103,10 +133,28 @@ def _ends(offsets: List[Any]) -> Any:
     return numpy.concatenate(parts)
 
 
-def canonical_chunk(held: Packed, places: int, report: Optional[Callable[[int], None]]) -> Texts:
+def canonical_chunk(chunk: Chunk, places: int, report: Optional[Callable[[int], None]]) -> Texts:
     """The canonical texts of a chunk."""
-    made = calls.canonical_buffers(tuple(held), places, report)
-    return Texts(*(array_of(code, each) if code else _bytes(each) for code, each in zip(("", "q", "I"), made)))
+    made = calls.canonical_buffers(chunk.given, places, report)
+    return Texts(_bytes(made[0]), array_of("q", made[1]), array_of("I", made[2]))
+
+
+def distinct(texts: Any, places: Optional[int], keeps: bool, report: Optional[Callable[[int], None]]) -> Texts:
+    """The canonical texts of some texts, or with no places these themselves, of which each is there once.
+
+    indices: which of them each has, and -1 where it has none. keeps: a refused text has itself, if it is UTF-8.
+    """
+    made = calls.keys(texts, places, keeps, report, _KEY)
+    return Texts(
+        _bytes(made[0]), array_of("q", made[1]), array_of("I", made[2]), numpy.frombuffer(made[3], numpy.int32)
+    )
+
+
+def chosen(texts: Texts, indices: Any) -> Texts:
+    """The rows that have some of such texts; -1: none."""
+    numbers = numpy.append(texts.indices, numpy.int32(-1))[indices]
+    statuses = numpy.append(texts.statuses, numpy.uint32(NULL))[indices]
+    return texts._replace(statuses=statuses, indices=numpy.maximum(numbers, 0))
 
 
 def _bytes(buffer: Any) -> Any:
@@ -142,11 +190,9 @@ def raise_first(chunk: Chunk, texts: Texts, places: int, first: int) -> None:
     """Raises the error of the first refused row of a chunk that begins at row `first`."""
     from ._explain import refusal
 
-    held = chunk.texts
     for at in refused(texts)[:1].tolist():  # texts are in the order of the first row that has each
-        text = held.data[held.offsets[at] : held.offsets[at + 1]].tobytes()
         row = at if chunk.indices is None else int(numpy.argmax(chunk.indices == at))
-        raise refusal(int(texts.statuses[at]), shown_text(text), places, first + row)
+        raise refusal(int(texts.statuses[at]), shown_text(chunk.text(at)), places, first + row)
 
 
 def shown_text(text: bytes) -> Any:
@@ -177,12 +223,13 @@ def answered(held: Buffers, places: int, invalid: str, progress: Progress, bytes
     """The canonical texts of each chunk: each text that rows share is answered once."""
 
     def call(chunk: Chunk, first: int, report: Any) -> Texts:
-        texts = canonical_chunk(chunk.texts, places, report)
+        keeps, is_shared = invalid == "keep", chunk.indices is not None
+        texts = distinct(chunk.given, places, keeps, report) if is_shared else canonical_chunk(chunk, places, report)
         if invalid == "raise":
             raise_first(chunk, texts, places, first)
-        elif invalid == "keep":
-            texts = kept(chunk.texts, texts, bytes_too)
-        return texts if chunk.indices is None else distinct(texts, chunk.indices)
+        if is_shared:
+            return chosen(texts, chunk.indices)
+        return kept(chunk.packed(), texts, bytes_too) if keeps else texts
 
     return _each(held, progress, call)
 
@@ -191,19 +238,10 @@ def statuses_of(held: Buffers, places: int, progress: Progress) -> Iterator[Any]
     """The statuses of each chunk. No text is written."""
 
     def call(chunk: Chunk, first: int, report: Any) -> Any:
-        made = array_of("I", calls.statuses(tuple(chunk.texts), places, report, True))
+        made = array_of("I", calls.statuses(chunk.given, places, report, True))
         return made if chunk.indices is None else numpy.append(made, numpy.uint32(NULL))[chunk.indices]
 
     return _each(held, progress, call)
-
-
-def distinct(texts: Texts, indices: Any) -> Texts:
-    """Rows that have some of the texts, or none where the index is -1: each text is there once, and none is refused."""
-    bits = numpy.packbits(texts.statuses == 0, bitorder="little")
-    made = calls.distinct((texts.data, texts.offsets, bits, len(texts.statuses)), _KEY)
-    numbers = numpy.append(numpy.frombuffer(made[2], numpy.int32), numpy.int32(-1))[indices]
-    statuses = numpy.append(texts.statuses, numpy.uint32(NULL))[indices]
-    return Texts(_bytes(made[0]), array_of("q", made[1]), statuses, numpy.maximum(numbers, 0))
 
 
 def joined(parts: List[Texts], indexed: bool = False) -> Texts:
@@ -217,14 +255,15 @@ def joined(parts: List[Texts], indexed: bool = False) -> Texts:
         return Texts(data, ends, statuses)
     before = numpy.cumsum([0] + [len(texts.offsets) - 1 for texts in parts])
     indices = numpy.concatenate([numpy.empty(0, int), *(texts.indices + at for texts, at in zip(parts, before))])
-    made = distinct(Texts(data, ends, numpy.zeros(len(ends) - 1, numpy.uint32)), numpy.where(statuses, -1, indices))
-    return made._replace(statuses=statuses)
+    made = distinct((data, ends, b"", len(ends) - 1), None, False, None)
+    return chosen(made, numpy.where(statuses, -1, indices))._replace(statuses=statuses)
 
 
 def rows_in(held: Buffers) -> List[Any]:
     """The rows as str (bytes where one isn't UTF-8), and None of a null one. Rows of one text have one object."""
     rows: List[Any] = []
-    for packed, indices in held.chunks:
+    for chunk in held.chunks:
+        packed, indices = chunk.packed(), chunk.indices
         data, ends = packed.data.tobytes(), packed.offsets.tolist()
         texts: List[Any] = [shown_text(data[start:end]) for start, end in zip(ends, ends[1:])]
         if len(packed.bits):
