@@ -7,11 +7,12 @@
 #define OF(type, which) AT(type, which), sizes[which]
 
 /* What the pointers of a call point to, and the size that is passed of each that has one. */
-static uint64_t rooms[MOST][8];
+static uint64_t rooms[MOST][16];
 static void *given[MOST];
 static size_t sizes[MOST];
 
-/* A function with its pointers in the order of its parameters: of each the width of an item, or 0 of a result. */
+/* A function with its pointers in the order of its parameters: of each the width of an item, where w is that of a size_t and
+ * u that of two words of 64 bits, or 0 of a result. */
 typedef struct {
     wkt_status (*call)(void);
     const char *widths;
@@ -41,6 +42,10 @@ static wkt_status column_canonical(void) {
 static wkt_status arrays(void) {
     return wkt_arrays(OF(uint8_t, 0), 6, AT(WktSizes, 1), OF(int64_t, 2), OF(size_t, 3), OF(size_t, 4));
 }
+static wkt_status read_events(void) {
+    return wkt_read_events(OF(uint8_t, 0), 6, OF(uint64_t, 1), OF(WktUnits, 2), AT(size_t, 3), AT(size_t, 4),
+                           AT(size_t, 5));
+}
 static wkt_status column_arrays(void) {
     return wkt_column_arrays(OF(uint8_t, 0), OF(int64_t, 1), OF(uint8_t, 2), 6, AT(WktColumnSizes, 3), OF(uint32_t, 4),
                              OF(uint32_t, 5), OF(int64_t, 6), OF(int64_t, 7), OF(size_t, 8), OF(int64_t, 9),
@@ -56,13 +61,21 @@ static wkt_status column_from_arrays(void) {
 }
 
 static const function functions[] = {
-    {canonical, "1100"},    {same, "110"},
-    {same_ends, "11000"},   {explain, "10000"},
-    {hint, "10"},           {srid, "100"},
-    {infer, "100"},         {lines, "110"},
-    {lines_some, "1100"},   {column_canonical, "1811840"},
-    {arrays, "10888"},      {column_arrays, "1810448888884"},
-    {from_arrays, "88810"}, {column_from_arrays, "4488888811840"},
+    {canonical, "1100"},
+    {same, "110"},
+    {same_ends, "11000"},
+    {explain, "10000"},
+    {hint, "10"},
+    {srid, "100"},
+    {infer, "100"},
+    {lines, "110"},
+    {lines_some, "1100"},
+    {column_canonical, "1811840"},
+    {read_events, "18u000"},
+    {arrays, "108ww"},
+    {column_arrays, "18104488w8w84"},
+    {from_arrays, "8ww10"},
+    {column_from_arrays, "4488w8w811840"},
 };
 #define FUNCTIONS (sizeof functions / sizeof *functions)
 
@@ -97,7 +110,8 @@ static void test_null(const function *of, int i) {
 
 /* One item more than PTRDIFF_MAX bytes hold, and the most that a size can be. */
 static void test_long(const function *of, int i) {
-    size_t width = (size_t)(of->widths[i] - '0');
+    const char digit = of->widths[i];
+    size_t width = digit == 'w' ? sizeof(size_t) : digit == 'u' ? 16 : (size_t)(digit - '0');
     if (!width) return;
     reset(8);
     sizes[i] = PTRDIFF_MAX / width + 1;
