@@ -3,6 +3,7 @@
 # build.sh [FOLDER]: into that folder, else into capi/out. What stands there as it should is left as it is.
 # The proved library is the archive WKT_C_LIB; else crates/wkt_c/out/libwkt_c.a, which `rt lib` in crates/wkt_c leaves once it
 # is proved; else, or with WKT_C_LIB=dist, the object in dist/. CC may be a compiler for another processor: then it is dist's.
+# Where dist/ has no object for the system, and with WKT_C_LIB=portable, it is compiled of the portable C in dist/c.
 set -eu
 here=$(cd "$(dirname "$0")" && pwd)
 out=$(mkdir -p "${1:-$here/out}" && cd "${1:-$here/out}" && pwd)
@@ -20,8 +21,8 @@ proved=$here/../crates/wkt_c/out/libwkt_c.a
 if [ -z "${WKT_C_LIB:-}" ]; then
     case $($CC -dumpmachine) in x86_64*) ;; *) proved=none ;; esac
     if [ -e "$proved" ]; then WKT_C_LIB=$proved; else WKT_C_LIB=dist; fi
-elif [ "$WKT_C_LIB" != dist ]; then
-    WKT_C_LIB=$(realpath "$WKT_C_LIB")
+else
+    case $WKT_C_LIB in dist | portable) ;; *) WKT_C_LIB=$(realpath "$WKT_C_LIB") ;; esac
 fi
 export WKT_C_LIB
 # Flags of a make that calls this are for its own sources.

@@ -66,6 +66,8 @@ for processor in $processors; do
     noticed "$processor"
     compared "$processor"
 done
+# (It compares the module that it is of with wasm/wkt.wasm.)
+[ ! -e dist/c/wkt_module.c.xz ] || dist/objects.sh "$work" wkt_module.c || exit 1
 # With today's header, C and keys. (Of this processor.)
 RUN='' WKT_C_LIB=dist make -s -C dist check O="$work/out" > "$work/said" 2>&1 || { tail -n 20 "$work/said"; fail "doesn't fit these sources: dist/refresh.sh renews it"; }
 sed 's/^/dist: /' "$work/said"

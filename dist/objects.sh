@@ -1,32 +1,52 @@
 #!/bin/sh
 # objects.sh FOLDER NAME..: puts the proved objects NAME.o (wkt_c, wkt_command, wktline, wktstream) into the folder, for the
 # processor that $CC (cc) compiles for, or that ARCH names, and checks their sums. It needs xz or python3.
-# objects.sh: says in a line which those are.
-# Where WKT_C_LIB names an archive that the prover left, wkt_c is that one's.
+# objects.sh FOLDER wkt_module.c: puts the C of the module there, which is for any processor (c/make.sh makes it).
+# objects.sh: says in a line which those are: where there are no objects for the system, portable C.
+# Where WKT_C_LIB names an archive that the prover left, wkt_c is that one's. WKT_C_LIB=portable asks for portable C.
 set -eu
 here=$(cd "$(dirname "$0")" && pwd)
 archive=${WKT_C_LIB:-}
-[ "$archive" != dist ] || archive=
+case $archive in dist | portable) archive= ;; esac
 stop() { echo "dist: $*" >&2; exit 1; }
+# unpacked FILE.xz: what it holds
+unpacked() {
+    if command -v xzcat > /dev/null; then
+        xzcat "$1"
+    elif command -v python3 > /dev/null; then
+        python3 -c 'import lzma, shutil, sys; shutil.copyfileobj(lzma.open(sys.argv[1]), sys.stdout.buffer)' "$1"
+    else
+        stop "neither xz nor python3 is there, to unpack $1: install xz-utils"
+    fi
+}
+sum_of() { sha256sum < "$1" | cut -c 1-64; }
 
+if [ "$*" = "${1:-} wkt_module.c" ]; then
+    if [ -e "$here/c/wkt_module.c.xz" ]; then unpacked "$here/c/wkt_module.c.xz" > "$1/wkt_module.c"; else "$here/c/make.sh" "$1/wkt_module.c"; fi
+    # A system without sha256sum has the word of the release's sums.
+    ! command -v sha256sum > /dev/null || sed q "$1/wkt_module.c" | grep -q "$(sum_of "$here/wasm/wkt.wasm")" ||
+        stop "c/wkt_module.c.xz is of another module than wasm/wkt.wasm: c/make.sh makes it"
+    exit
+fi
 machine=${ARCH:+$ARCH-linux}
 if [ -z "$machine" ]; then
     machine=$(${CC:-cc} -dumpmachine 2> /dev/null) || stop "there is no C compiler ${CC:-cc}: install gcc, or name one by CC"
 fi
 processor=${machine%%-*}
-if [ $# = 0 ] && [ -n "$archive" ]; then
-    echo "$machine: proved here: $(sha256sum < "$archive" | cut -c 1-64)"
-    exit
-fi
-if [ -z "$archive" ] || [ "$*" != "${1:-} wkt_c" ]; then
-    [ -e "$here/$processor/PROVENANCE" ] && [ "$machine" != "${machine#*linux}" ] ||
-        stop "no objects for $machine; there are those for Linux on $(cd "$here" && echo */wkt_c.o.xz | sed 's,/wkt_c.o.xz,,g')." \
-            "With the prover (rt), dist/refresh.sh $processor proves and builds them"
-fi
+fits() { [ -e "$here/$processor/PROVENANCE" ] && [ "$machine" != "${machine#*linux}" ]; }
 if [ $# = 0 ]; then
-    echo "$machine: dist, of commit $(sed -n 's/^commit  *//p' "$here/$processor/PROVENANCE"): $(sed -n 's/  wkt_c\.o$//p' "$here/$processor/PROVENANCE")"
+    if [ -n "$archive" ]; then
+        echo "$machine: proved here: $(sum_of "$archive")"
+    elif [ "${WKT_C_LIB:-}" != portable ] && fits; then
+        echo "$machine: dist, of commit $(sed -n 's/^commit  *//p' "$here/$processor/PROVENANCE"): $(sed -n 's/  wkt_c\.o$//p' "$here/$processor/PROVENANCE")"
+    else
+        echo "$machine: portable C, of the module $(sed -n 's/  wkt\.wasm$//p' "$here/wasm/PROVENANCE")"
+    fi
     exit
 fi
+[ -n "$archive" ] && [ "$*" = "$1 wkt_c" ] || fits ||
+    stop "no objects for $machine; there are those for Linux on $(cd "$here" && echo */wkt_c.o.xz | sed 's,/wkt_c.o.xz,,g')." \
+        "With the prover (rt), dist/refresh.sh $processor proves and builds them"
 to=$1
 shift
 for name in "$@"; do
@@ -34,14 +54,7 @@ for name in "$@"; do
         "${AR:-ar}" p "$archive" > "$to/$name.o"
         continue
     fi
-    packed=$here/$processor/$name.o.xz
-    if command -v xzcat > /dev/null; then
-        xzcat "$packed" > "$to/$name.o"
-    elif command -v python3 > /dev/null; then
-        python3 -c 'import lzma, shutil, sys; shutil.copyfileobj(lzma.open(sys.argv[1]), sys.stdout.buffer)' "$packed" > "$to/$name.o"
-    else
-        stop "neither xz nor python3 is there, to unpack $packed: install xz-utils"
-    fi
-    sum=$(sha256sum < "$to/$name.o")
-    grep -qx "${sum%% *}  $name.o" "$here/$processor/PROVENANCE" || stop "$processor/$name.o has another sum than in PROVENANCE"
+    unpacked "$here/$processor/$name.o.xz" > "$to/$name.o"
+    sum=$(sum_of "$to/$name.o")
+    grep -qx "$sum  $name.o" "$here/$processor/PROVENANCE" || stop "$processor/$name.o has another sum than in PROVENANCE"
 done

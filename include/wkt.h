@@ -14,7 +14,8 @@
  * Every call refuses, before it reads anything:
  * - with WKT_NOT_SUPPORTED, everything where wkt_supported() is 0;
  * - with WKT_NULL_POINTER, a pointer that is NULL. A buffer or text of size 0 may be NULL;
- * - with WKT_TOO_LONG, a buffer or text of more than PTRDIFF_MAX bytes. A size counts items, of 1, 4, 8 or 16 bytes each.
+ * - with WKT_TOO_LONG, a buffer or text of more than PTRDIFF_MAX bytes. A size counts items, of 1, 4, 8 or 16 bytes each. Where
+ *   the library is portable C (dist/README), a call that doesn't fit into 4 GiB with its texts and answers is refused so, too.
  * Of the last two, the first parameter that is wrong decides.
  *
  * If two of the other statuses hold, the call returns the first of 27, 23, 26, 20, 1 to 14, 24, 25, 30, 21. Of two texts, 20

@@ -6,6 +6,10 @@
 #include <stdlib.h>
 #include <string.h>
 #include <unistd.h>
+#ifdef _WIN32
+#include <fcntl.h>
+#include <io.h>
+#endif
 
 typedef struct {
     uint8_t *at;
@@ -41,6 +45,10 @@ static int write_answers(const uint8_t *held, size_t len, uint32_t last, buffer 
 int main(void) {
     buffer in = {NULL, 0}, out = {NULL, 0};
     size_t held = 0, done = 0;
+#ifdef _WIN32
+    /* Else line ends are changed, and a byte of 26 ends the input. */
+    if (_setmode(0, _O_BINARY) < 0 || _setmode(1, _O_BINARY) < 0) return 1;
+#endif
     if (!has_grown(&in, 1 << 17) || !has_grown(&out, 1 << 17)) return 1;
     for (;;) {
         ssize_t came = read(0, in.at + held, in.size - held);

@@ -2,6 +2,9 @@
  * the other files of this folder, with -Wl,--wrap=malloc -Wl,--wrap=realloc. */
 #include "calls.h"
 
+long allocations;
+
+#if !PORTABLE
 #ifdef __cplusplus
 extern "C" {
 #endif
@@ -13,13 +16,13 @@ void *__wrap_realloc(void *block, size_t size);
 }
 #endif
 
-long allocations;
 static long refuse_at; /* 0 refuses none */
 
 void *__wrap_malloc(size_t size) { return ++allocations == refuse_at ? NULL : __real_malloc(size); }
 void *__wrap_realloc(void *block, size_t size) {
     return ++allocations == refuse_at ? NULL : __real_realloc(block, size);
 }
+#endif
 
 uint8_t out[ROOM];
 size_t needed, end_at;
@@ -51,6 +54,7 @@ int untouched(void) {
     return 1;
 }
 
+#if !PORTABLE
 /* One call of each function over a text that takes memory. */
 static wkt_status call(int which) {
     /* More than 200 bytes: a shorter one takes no memory. */
@@ -125,6 +129,8 @@ static void refusals(void) {
     }
 }
 
+#endif
+
 int main(void) {
 #ifdef PROCESSOR
     test_processor();
@@ -136,7 +142,9 @@ int main(void) {
     test_events();
     test_columns();
     test_pointers();
+#if !PORTABLE
     refusals();
+#endif
     printf("%d checks hold\n", checks);
     return 0;
 }

@@ -7,18 +7,8 @@
 #include <setjmp.h>
 #include <stdlib.h>
 #include <string.h>
-#define NDEBUG 1
-/* These the module's C includes too; their functions aren't to be hidden. */
-#include <assert.h>
-#include <math.h>
-#pragma GCC diagnostic push
-#pragma GCC diagnostic ignored "-Wunused-function"
-#pragma GCC diagnostic ignored "-Wunused-value"
-#pragma GCC diagnostic ignored "-Wunused-parameter"
-#pragma GCC visibility push(hidden)
+#define WKT_MODULE_HEAD
 #include "wkt_module.c"
-#pragma GCC visibility pop
-#pragma GCC diagnostic pop
 
 /* Where the plain one also saves which signals are blocked, it asks the system, at each call. */
 #if defined __APPLE__ || defined __FreeBSD__ || defined __NetBSD__ || defined __OpenBSD__ || defined __DragonFly__
@@ -50,21 +40,6 @@ void wasm_rt_allocate_memory(wasm_rt_memory_t *memory, uint32_t pages, uint32_t 
     memory->max_pages = max_pages < MOST_PAGES ? max_pages : MOST_PAGES;
     memory->pages = memory->data ? pages : 0;
     memory->size = (uint64_t)memory->pages * PAGE;
-}
-
-/* A large calloc gives pages that are there once they are written, which those of a realloc have to be at once. */
-uint32_t wasm_rt_grow_memory(wasm_rt_memory_t *memory, uint32_t pages) {
-    uint32_t old = memory->pages;
-    uint8_t *data;
-    if (pages > memory->max_pages - old || (uint64_t)(old + pages) * PAGE > SIZE_MAX / 2) return UINT32_MAX;
-    data = calloc(old + pages, PAGE);
-    if (!data) return UINT32_MAX;
-    memcpy(data, memory->data, (size_t)memory->size);
-    free(memory->data);
-    memory->data = data;
-    memory->pages = old + pages;
-    memory->size = (uint64_t)memory->pages * PAGE;
-    return old;
 }
 
 void wasm_rt_free_memory(wasm_rt_memory_t *memory) { free(memory->data); }
@@ -121,14 +96,28 @@ static uint64_t lay(machine *m, uint64_t count, unsigned width) {
     return at;
 }
 
+/* Makes the memory larger by so many pages, between calls of the module; whether there is so much. A large calloc gives pages
+ * that are there once they are written, which those of a realloc have to be at once. */
+static int grows(wasm_rt_memory_t *memory, uint32_t pages) {
+    const uint32_t sum = memory->pages + pages;
+    if (pages > memory->max_pages - memory->pages || (uint64_t)sum * PAGE > SIZE_MAX / 2) return 0;
+    uint8_t *data = calloc(sum, PAGE);
+    if (!data) return 0;
+    memcpy(data, memory->data, (size_t)memory->size);
+    free(memory->data);
+    memory->data = data;
+    memory->pages = sum;
+    memory->size = (uint64_t)sum * PAGE;
+    return 1;
+}
+
 /* Whether the memory holds what is laid out: 0, or else the status. It grows by half at once if it can. */
 static wkt_status holds(machine *m) {
     wasm_rt_memory_t *memory = &m->module.w2c_memory;
     if (m->laid <= memory->size) return WKT_OK;
     if (m->laid > MOST) return WKT_TOO_LONG;
-    uint32_t lacking = (uint32_t)((m->laid - memory->size + PAGE - 1) / PAGE), half = memory->pages / 2;
-    if (lacking < half && wasm_rt_grow_memory(memory, half) != UINT32_MAX) return WKT_OK;
-    return wasm_rt_grow_memory(memory, lacking) == UINT32_MAX ? WKT_NO_MEMORY : WKT_OK;
+    const uint32_t lacking = (uint32_t)((m->laid - memory->size + PAGE - 1) / PAGE), half = memory->pages / 2;
+    return (lacking < half && grows(memory, half)) || grows(memory, lacking) ? WKT_OK : WKT_NO_MEMORY;
 }
 
 static uint8_t *at(machine *m, uint64_t address) { return m->module.w2c_memory.data + address; }
@@ -180,7 +169,7 @@ static void take(machine *m, uint64_t from, unsigned width, void *to, size_t cou
 #define LAY(it, width, ...) const uint64_t it##_at = lay(m, it##_len, width);
 /* Of a buffer no more is laid out than an answer may have. */
 #define LAY_ANSWER(it, width, count, most) \
-    const size_t it##_size = (size_t)least_of(it##_len, most); \
+    const size_t it##_size = (size_t)least_of(it##_len, TIMES * (most)); \
     const uint64_t it##_at = lay(m, it##_size, width);
 #define WIDTH_uint8_t 1
 #define WIDTH_uint32_t 4
@@ -196,10 +185,11 @@ static void take(machine *m, uint64_t from, unsigned width, void *to, size_t cou
 #define PUT_RESULTS(it) \
     put(m, it##_at, 4, it, HEAD_OF(it), 4); \
     put(m, it##_at + 4 * HEAD_OF(it), 8, (const char *)(it) + 4 * HEAD_OF(it), SIZES_OF(it), sizeof(size_t));
-/* More than the buffer holds is an error of the module's code, and is never copied. */
+/* An item of 16 bytes is two of 8. More than the buffer holds is an error of the module's code, and is never copied. */
+#define WORDS(width) ((width) == 16 ? 2 : 1)
 #define TAKE(it, width, count, most) \
-    if ((count) > it##_size) wasm_rt_trap(WASM_RT_TRAP_OOB); \
-    take(m, it##_at, width, it, count, sizeof *(it));
+    if ((count) > it##_size) wasm_rt_trap(OOB); \
+    take(m, it##_at, (width) / WORDS(width), it, (count)*WORDS(width), sizeof *(it) / WORDS(width));
 #define TAKE_RESULT(it, width) take(m, it##_at, width, it, 1, sizeof *(it));
 #define TAKE_RESULTS(it) \
     take(m, it##_at, 4, it, HEAD_OF(it), 4); \
@@ -208,11 +198,12 @@ static void take(machine *m, uint64_t from, unsigned width, void *to, size_t cou
 #define ADDRESS(it, ...) const uint64_t it = it##_at;
 #define ADDRESS_ANSWER(it, ...) const uint64_t it = it##_at, it##_len = it##_size;
 #define BARE(...) __VA_ARGS__
-#define NO_ROOMS(ROOM)
 
-/* The functions of capi/pointers.c call these by their names; each has an instance of its own. */
-#define FUNCTION_IN_ROOMS(name, LIST, ROOMS, parameters, passed, proved, call) \
+/* The functions of capi/pointers.c call these by their names; each has an instance of its own. An answer may be so many `times`
+ * as long as LIST says: in dialects as often as the text that is read is longer, by read_size. */
+#define MACHINE_FUNCTION(name, LIST, times, ROOMS, parameters, passed, call) \
     static wkt_status inner_##name(machine *m, BARE parameters) { \
+        enum { TIMES = times }; \
         uint64_t before = 0; \
         wkt_status status = WKT_NO_MEMORY; \
         for (unsigned turn = 0; status == WKT_NO_MEMORY; turn++) { \
@@ -242,7 +233,11 @@ static void take(machine *m, uint64_t from, unsigned width, void *to, size_t cou
         if (SET_JUMP(m->trap)) return trapped(m); \
         return kept(m, inner_##name(m, BARE passed)); \
     }
-#define FUNCTION(name, LIST, parameters, passed) \
-    FUNCTION_IN_ROOMS(name, LIST, NO_ROOMS, parameters, passed, parameters, passed)
+#define FUNCTION(name, LIST, parameters, passed) MACHINE_FUNCTION(name, LIST, 1, NO_ROOMS, parameters, passed, passed)
+#define FUNCTION_IN_ROOMS(name, LIST, ROOMS, parameters, passed, proved, call) \
+    MACHINE_FUNCTION(name, LIST, 1, ROOMS, parameters, passed, call)
+#define FUNCTION_IN_DIALECTS(name, LIST, ROOMS, parameters, passed, proved, call, ITS_ROOMS, its_proved, its_call) \
+    MACHINE_FUNCTION(name, LIST, 1, ROOMS, parameters, passed, call) \
+    MACHINE_FUNCTION(name##_in, LIST, 12, ITS_ROOMS, parameters, passed, its_call)
 
 #include "../../capi/functions.h"

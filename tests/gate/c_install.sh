@@ -90,7 +90,7 @@ for folder in sqlite postgres; do
 done
 says 'install gcc.*then run capi/build.sh again' env CC=nowhere-gcc capi/build.sh "$dir/none"
 printf '#!/bin/sh\necho riscv64-linux-gnu\n' > "$dir/cc" && chmod 755 "$dir/cc"
-says 'dist/refresh.sh riscv64 proves and builds them' env CC="$dir/cc" WKT_C_LIB=dist capi/build.sh "$dir/none"
+says 'riscv64-linux-gnu: portable C' env CC="$dir/cc" WKT_C_LIB=dist capi/build.sh "$dir/none"
 says 'capi/build.sh in a clone of wkt makes it' env WKT_LIB_DIR=/nowhere python3 -c 'import sys; sys.path.insert(0, "python"); import backend; backend.build_wheel(sys.argv[1])' "$dir"
 if ! skips rust; then
     says 'capi/build.sh in a clone of wkt makes it' env WKT_LIB_DIR=/nowhere CARGO_HOME="$dir/cargo" CARGO_TARGET_DIR="$dir/target" \
