@@ -21,6 +21,7 @@ there() {
         types) command -v tsc ;;
         esbuild | webpack) command -v "$1" ;;
         rollup) command -v rollup && [ -e /usr/share/nodejs/@rollup/plugin-node-resolve ] ;;
+        wabt) command -v wasm2c ;;
         page) command -v chromium && command -v chromedriver && module selenium ;;
         fuzz) command -v clang && command -v ld.lld ;;
         flake8 | shellcheck | clang-format) command -v "$1" ;;
@@ -49,6 +50,7 @@ packages=(
     "postgres postgresql postgresql-server-dev-all"
     "sqlite sqlite3 libsqlite3-dev"
     "web nodejs binaryen"
+    "wabt wabt"
     "types node-typescript"
     "esbuild esbuild"
     "rollup rollup node-rollup-plugin-node-resolve"
