@@ -235,8 +235,8 @@ FUNCTION_IN_DIALECTS(wkt_arrays, ARRAYS, ARRAYS_ROOMS,
                       words_room_len, sizes, numbers, numbers_len, rings, rings_len, polygons, polygons_len))
 
 FUNCTION(wkt_read_events, READ_EVENTS,
-         (const uint8_t *text, size_t text_len, uint32_t places, uint64_t *events, size_t events_len,
-          WktUnits *numbers, size_t numbers_len, size_t *event_count, size_t *number_count, size_t *end),
+         (const uint8_t *text, size_t text_len, uint32_t places, uint64_t *events, size_t events_len, WktUnits *numbers,
+          size_t numbers_len, size_t *event_count, size_t *number_count, size_t *end),
          (text, text_len, places, events, events_len, numbers, numbers_len, event_count, number_count, end))
 
 FUNCTION_IN_ROOMS(

@@ -16,8 +16,7 @@ void fail_with_places(int32 most) {
 static void fail_with_dialect(const char *name, size_t length) {
     int shown = pg_mbcliplen(name, (int)length, 60);
     const char *hint = DIALECT_HINT, *more = (size_t)shown < length ? ".." : "";
-    ereport(ERROR, (errcode(ERRCODE_INVALID_PARAMETER_VALUE),
-                    errmsg("unknown dialect: \"%.*s%s\"", shown, name, more),
+    ereport(ERROR, (errcode(ERRCODE_INVALID_PARAMETER_VALUE), errmsg("unknown dialect: \"%.*s%s\"", shown, name, more),
                     errhint("%c%s.", pg_toupper((unsigned char)hint[0]), hint + 1)));
 }
 
@@ -114,8 +113,8 @@ static wkt_status canonical_in(Call *call, size_t room) {
 /* The canonical text of a whole text, if `answer` is asked for; false where it is refused. */
 bool canonical_of(const Question *asked, text **answer) {
     Call call = {.asked = asked};
-    wkt_status status = answer ? canonical_in(&call, room_for(asked->length))
-                               : make_call(call_canonical, &call, asked->length);
+    wkt_status status =
+        answer ? canonical_in(&call, room_for(asked->length)) : make_call(call_canonical, &call, asked->length);
 
     if (status == WKT_TOO_SMALL && !answer) return true; /* there was no room, and nothing else was wrong */
     if (status == WKT_TOO_SMALL && call.needed <= MOST_BYTES) status = canonical_in(&call, call.needed);

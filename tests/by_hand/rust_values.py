@@ -5,8 +5,8 @@
     cargo build --release --manifest-path bench/rust/Cargo.toml
     tests/by_hand/rust_values.py rust/target/release/examples/values bench/rust/target/release/values [COUNT]
 
-The texts are those of texts.py, COUNT of them (350000), some of them damaged. Each difference has to fall under a row of
-rust/FROM_WKT.md; the first that don't are printed, and the status is 1.
+The texts are those of texts.py, COUNT of them (350000), some of them damaged. Each difference has to fall under a row
+of rust/FROM_WKT.md; the first that don't are printed, and the status is 1.
 """
 import collections
 import random
@@ -40,7 +40,8 @@ def both_read(here, there, shown_here, shown_there):
         rows.append("a panic")
     elif shown_here != shown_there:
         text = re.sub(r"-0(?![.\d])", "0", shown_there)
-        rows.append("the text, by ()" if "()" in text else "the text, by the sign of zero" if text == shown_here else "")
+        rows.append("the text, by ()" if "()" in text else
+                    "the text, by the sign of zero" if text == shown_here else "")
     return " and ".join(rows) if rows[-1] else None
 
 
