@@ -73,7 +73,7 @@ PGUSER=tenant fails rented "create event trigger seen on ddl_command_end execute
 tenant 'create schema "Big Place"' "create schema \"it's \"\"here\"" 'create extension wkt schema "Big Place"' "create extension wkt_postgis schema \"it's \"\"here\""
 is "tenant: quoted schemas" "t|t" "$(used '"Big Place"')"
 PGUSER=tenant fails rented 'alter extension wkt set schema m' 'does not support SET SCHEMA'
-PGUSER=tenant fails rented 'drop function "Big Place".wkt_canonical' 'requires it'
+PGUSER=tenant fails rented 'drop function "Big Place".wkt_canonical(text, int)' 'requires it'
 PGUSER=tenant fails rented "create or replace function \"Big Place\".wkt_canonical(text, places int default 18) returns text language sql return ''" 'must be owner of function'
 tenant "drop extension wkt_postgis" "drop extension wkt"
 PGUSER=tenant fails rented "create extension wkt schema \"it's \"\"here\"" 'must not contain any of'
