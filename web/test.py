@@ -5,7 +5,7 @@ PAGE is dist/web/index.html where it is left out. It is opened without a server,
 server's log. MB is the size of the large file, 8 where it is left out. FOLDER gets pictures of the page, light and
 dark, wide and narrow. It needs the Debian packages chromium, chromium-driver and python3-selenium.
 
-Here are the tests that nothing leaves the page; those of texts, files, causes, access, and of what it takes in
+Here are the tests that nothing leaves the page; those of texts, files, causes, dialects, access, and of what it takes in
 and gives out are in web/test.
 """
 import argparse
@@ -22,6 +22,7 @@ sys.path.insert(0, os.path.dirname(os.path.abspath(__file__)) + "/test")
 from access import Access  # noqa: E402 (found by the line above)
 from causes import Causes  # noqa: E402
 from chromium import Page, Quiet  # noqa: E402
+from dialects import Dialects  # noqa: E402
 from files import Files  # noqa: E402
 from give import Give  # noqa: E402
 from many import Many  # noqa: E402
@@ -30,7 +31,7 @@ from texts import Texts  # noqa: E402
 
 TOP = os.path.dirname(os.path.dirname(os.path.abspath(__file__)))
 # The tests that unittest.main finds in this module besides its own.
-TESTS = (Texts, Files, Access, Give, Causes, Many)
+TESTS = (Texts, Files, Access, Give, Causes, Dialects, Many)
 
 # What a page could send or load, and the directive of the policy that refuses it.
 LEAVING = {

@@ -48,13 +48,15 @@ function plainText({ type, coordinates }) {
 let seed = 1;
 const some = () => (seed = (seed * 48271) % 2147483647) / 2147483647;
 const position = () => `${(some() * 360 - 180).toFixed(6)} ${(some() * 180 - 90).toFixed(6)}`;
+const long = () => `${(some() * 360 - 180).toFixed(15)} ${(some() * 180 - 90).toFixed(15)}`;
 const positions = (n) => Array.from({ length: n }, position).join(', ');
 const WORKLOADS = {
   points: Array.from({ length: 20000 }, () => `POINT(${position()})`),
+  'points of 15 decimals': Array.from({ length: 20000 }, () => `POINT(${long()})`),
   polygons: Array.from({ length: 2000 }, () => `POLYGON((${positions(20)}, 0 0))`),
   lines: Array.from({ length: 20 }, () => `LINESTRING(${positions(2000)})`),
 };
-const READERS = { toGeoJSONObject: (text) => wkt.toGeoJSONObject(text), 'JSON.parse(toGeoJSON)': (text) => JSON.parse(wkt.toGeoJSON(text)), arrays: (text) => wkt.arrays(text), 'a plain reader': plain };
+const READERS = { toGeoJSONObject: (text) => wkt.toGeoJSONObject(text), 'JSON.parse(toGeoJSON)': (text) => JSON.parse(wkt.toGeoJSON(text)), arrays: (text) => wkt.arrays(text, { places: 15 }), 'a plain reader': plain };
 
 /** The best speeds of some calls, each of which has things of its own, of a size in all. */
 function speeds(calls, size) {
@@ -74,6 +76,6 @@ for (const [name, texts] of Object.entries(WORKLOADS)) {
   const size = texts.reduce((n, text) => n + text.length, 0);
   const read = Object.fromEntries(Object.entries(READERS).map(([call, made]) => [call, [made, texts]]));
   console.log(`${name}: ${speeds(read, size)}`);
-  const written = { fromArrays: [(it) => wkt.fromArrays(it), texts.map((text) => wkt.arrays(text))], 'a plain writer': [plainText, texts.map(plain)] };
+  const written = { fromArrays: [(it) => wkt.fromArrays(it), texts.map((text) => wkt.arrays(text, { places: 15 }))], 'a plain writer': [plainText, texts.map(plain)] };
   console.log(`${name}: ${speeds(written, size)}`);
 }

@@ -394,7 +394,11 @@ export class Engine {
 
   /** So many numbers of 64 bits there, as a list of its own. */
   numbers(at, count) {
-    return this.longs.slice(at / 8, at / 8 + count);
+    const from = at / 8;
+    if (count > SHORT) return this.longs.slice(from, from + count);
+    const out = new BigInt64Array(count);
+    for (let i = 0; i < count; i++) out[i] = this.longs[from + i];
+    return out;
   }
 
   /** So many offsets there: numbers of 64 bits, whose upper halves are 0, since a text has less than 2^32 bytes. */

@@ -5,9 +5,9 @@ from chromium import Page
 from selenium.webdriver.common.by import By
 from selenium.webdriver.common.keys import Keys
 
-# The sentences of these causes, by docs/names.tsv.
-SRID = "SRID=..; of EWKT is not read; ST_AsText leaves it out"
-EXPONENT = "exponents are not read; write 0.0000001 for 1e-7"
+# The sentences of these causes, by docs/names.tsv, and the boxes that may have such texts read.
+SRID = "SRID=..; of EWKT is not read; ST_AsText leaves it out; or choose “SRID=4326;” under “Also read”"
+EXPONENT = "exponents are not read; write 0.0000001 for 1e-7; or choose “Exponents” under “Also read”"
 
 
 def line(n):
