@@ -25,16 +25,31 @@ const isBigInt = (units) => typeof units === 'bigint';
 const isLong = (units) => BigInt.asIntN(64, units) === units;
 const isOffset = (at) => Number.isSafeInteger(at) && at >= 0;
 const isList = (list) => Array.isArray(list) || ArrayBuffer.isView(list);
+const checked = (good) => {
+  if (!good) throw new WktError(STATUS.NOT_ARRAYS);
+};
 
-/** The numbers of a kind and a dimension, where given arrays have such, and lists of numbers that the module can be passed. */
+/** Copies of lists, since what a caller's list runs when it is read could call the module too. */
+function longsOf(numbers) {
+  if (numbers instanceof BigInt64Array) return new BigInt64Array(numbers);
+  const all = Array.from(numbers);
+  if (!all.every(isBigInt)) throw new TypeError('numbers are of BigInt');
+  checked(all.every(isLong));
+  return BigInt64Array.from(all);
+}
+
+function offsetsOf(offsets) {
+  if (offsets instanceof Uint32Array) return new Uint32Array(offsets);
+  const all = Array.from(offsets);
+  checked(all.every(isOffset));
+  return all;
+}
+
+/** Given arrays as the module takes them: the numbers of the kind and of the dimension, and three lists. */
 export function given({ kind, dimension, numbers, rings, polygons }) {
   if (![numbers, rings, polygons].every(isList)) throw new TypeError('numbers, rings and polygons are arrays');
-  const long = numbers instanceof BigInt64Array;
-  if (!long && !Array.prototype.every.call(numbers, isBigInt)) throw new TypeError('numbers are of BigInt');
-  const numberOfKind = KINDS.indexOf(kind);
-  const numberOfDimension = DIMENSIONS.indexOf(dimension);
-  const known = numberOfKind >= 0 && numberOfDimension >= 0 && (long || Array.prototype.every.call(numbers, isLong))
-    && [rings, polygons].every((list) => Array.prototype.every.call(list, isOffset));
-  if (!known) throw new WktError(STATUS.NOT_ARRAYS);
-  return [numberOfKind, numberOfDimension];
+  const units = longsOf(numbers);
+  const named = [KINDS.indexOf(kind), DIMENSIONS.indexOf(dimension)];
+  checked(!named.includes(-1));
+  return [...named, units, offsetsOf(rings), offsetsOf(polygons)];
 }

@@ -366,22 +366,20 @@ export class Engine {
       cell[0], cell[1], cell[2]);
   }
 
-  /** The text of arrays, whose lists stand at these addresses, at `this.answer`; its length is size 0. */
-  fromArrays(kind, dimension, [numbers, numbersLength], [rings, ringsLength], [polygons, polygonsLength], places) {
-    const most = numbersLength * (places + 23) + 7 * (ringsLength + polygonsLength) + 74;
+  /** Begins with arrays: their text stands at `this.answer` then, and its length is size 0. */
+  fromArrays([kind, dimension, numbers, rings, polygons], places) {
+    this.reset();
+    const numbersAt = this.lay(8 * numbers.length);
+    this.longs.set(numbers, numbersAt / 8);
+    const [ringsAt, polygonsAt] = [this.putOffsets(rings), this.putOffsets(polygons)];
+    const most = numbers.length * (places + 23) + 7 * (rings.length + polygons.length) + 74;
     const room = this.passed(most);
     this.answer = this.lay(most);
-    return this.call('wkt_from_arrays', kind, dimension, big(numbers), big(numbersLength), big(rings), big(ringsLength),
-      big(polygons), big(polygonsLength), places, big(room[0]), big(room[1]), big(this.answer), big(most), this.cellAt[0]);
+    return this.call('wkt_from_arrays', kind, dimension, big(numbersAt), big(numbers.length), big(ringsAt), big(rings.length),
+      big(polygonsAt), big(polygons.length), places, big(room[0]), big(room[1]), big(this.answer), big(most), this.cellAt[0]);
   }
 
-  /** Lays out numbers of 64 bits, or places of so many, and returns where they stand and how many there are. */
-  putNumbers(numbers) {
-    const at = this.lay(8 * numbers.length);
-    new BigInt64Array(this.memory.buffer, at, numbers.length).set(numbers);
-    return [at, numbers.length];
-  }
-
+  /** Lays out offsets as numbers of 64 bits. */
   putOffsets(offsets) {
     const at = this.lay(8 * offsets.length);
     const { words } = this;
@@ -389,7 +387,7 @@ export class Engine {
       words[at / 4 + 2 * i] = offsets[i]; // modulo 2^32
       words[at / 4 + 2 * i + 1] = offsets[i] / 2 ** 32;
     }
-    return [at, offsets.length];
+    return at;
   }
 
   /** So many numbers of 64 bits there, as a list of its own. */

@@ -14,7 +14,7 @@ import { LineAnswers, joined } from './lines.js';
 const WHOLE = 256; // WKT_WHOLE of include/wkt.h
 const MOST_PLACES = 36;
 
-// Numbers of few places are read faster as doubles. With so many more places a number of as many bits as that may be refused.
+// Doubles are made faster of numbers of few places. With up to so many places more no number of 64 bits is refused.
 const FEW = [6, 15];
 const MORE = 19;
 
@@ -32,9 +32,8 @@ function askingLines({ places = 18, dialect = '' }) {
   return asking(places);
 }
 
-function ofM(m) {
+function checkM(m) {
   if (!['refuse', 'drop', 'keep'].includes(m)) throw new TypeError("m is 'refuse', 'drop' or 'keep'");
-  return m;
 }
 
 const isRefusal = (status) => status <= STATUS.LAST_REFUSAL || status === STATUS.NOT_WHOLE;
@@ -124,10 +123,7 @@ export class Wkt {
   fromArrays({ kind, dimension = 'XY', numbers, rings, polygons, places = 6 }) {
     const engine = this.#engine;
     asking(places);
-    const [numberOfKind, numberOfDimension] = given({ kind, dimension, numbers, rings, polygons });
-    engine.reset();
-    const lists = [engine.putNumbers(numbers), engine.putOffsets(rings), engine.putOffsets(polygons)];
-    const status = engine.fromArrays(numberOfKind, numberOfDimension, ...lists, places);
+    const status = engine.fromArrays(given({ kind, dimension, numbers, rings, polygons }), places);
     if (status !== STATUS.OK) throw new WktError(status);
     return engine.ascii(engine.answer, engine.size(0));
   }
@@ -188,11 +184,13 @@ export class Wkt {
     });
   }
 
-  toGeoJSON(text, { m = 'refuse', ...asked } = {}) {
-    return geoJSONOf(this.canonical(text, asked), ofM(m));
+  toGeoJSON(text, { places = 18, whole = true, m = 'refuse', dialect = '' } = {}) {
+    checkM(m);
+    return geoJSONOf(this.canonical(text, { places, whole, dialect }), m);
   }
 
   toGeoJSONObject(text, { places = 18, whole = true, m = 'refuse', dialect = '' } = {}) {
+    checkM(m);
     const engine = this.#engine;
     const read = this.#read(text, asking(places, whole, dialect));
     const before = engine.at;
@@ -200,7 +198,7 @@ export class Wkt {
       if (few >= places || places - few > MORE) continue;
       engine.at = before;
       if (engine.events(read.at, read.length, read.asked - places + few) !== STATUS.OK) continue;
-      const made = geoJSONObjectOf(engine.words, engine.eventsAt, few, ofM(m), false);
+      const made = geoJSONObjectOf(engine.words, engine.eventsAt, few, m, false);
       if (made === null) continue;
       // The next text is likely to have as many.
       if (few !== this.#few[0]) this.#few = [few, this.#few[0]];
@@ -208,7 +206,7 @@ export class Wkt {
     }
     engine.at = before;
     this.#events(text, read);
-    return geoJSONObjectOf(engine.words, engine.eventsAt, places, ofM(m), true);
+    return geoJSONObjectOf(engine.words, engine.eventsAt, places, m, true);
   }
 
   fromGeoJSON(geometry, { places = 18 } = {}) {

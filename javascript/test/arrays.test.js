@@ -103,6 +103,18 @@ test('arrays of no geometry', () => {
     assert.deepEqual([error.status, error.message], [STATUS.NOT_ARRAYS, 'The arrays are of no geometry'], JSON.stringify([kind, rings, polygons]));
   }
   const point = { kind: 'Point', numbers: [1n, 2n], rings: [0, 1], polygons: [0, 1] };
+  assert.equal(thrown(() => wkt.fromArrays({ ...point, rings: [, 1] })).status, STATUS.NOT_ARRAYS);
+  assert.equal(thrown(() => wkt.fromArrays({ ...point, rings: [0, 2 ** 32 + 1] })).status, STATUS.NOT_ARRAYS);
+  assert.throws(() => wkt.fromArrays({ ...point, numbers: [1n, ,] }), TypeError);
+  // A list that calls the module while it is read, and one that isn't as long as it says.
+  const calling = Object.defineProperty([0, 1], 0, { get: () => wkt.canonical('LINESTRING(7 7,7 7)').length && 0 });
+  assert.equal(wkt.fromArrays({ ...point, rings: calling, polygons: calling }), 'POINT(0.000001 0.000002)');
+  const longer = class extends BigInt64Array {
+    get length() {
+      return 100;
+    }
+  };
+  assert.equal(wkt.fromArrays({ ...point, numbers: longer.of(1n, 2n) }), 'POINT(0.000001 0.000002)');
   assert.equal(thrown(() => wkt.fromArrays({ ...point, dimension: 'XYT' })).status, STATUS.NOT_ARRAYS);
   assert.equal(thrown(() => wkt.fromArrays({ ...point, places: 37 })).status, STATUS.NO_PLACES);
   for (const numbers of [[1, 2], ['1', '2'], 'ab', undefined]) assert.throws(() => wkt.fromArrays({ ...point, numbers }), TypeError);
