@@ -5,8 +5,8 @@ PAGE is dist/web/index.html where it is left out. It is opened without a server,
 server's log. MB is the size of the large file, 8 where it is left out. FOLDER gets pictures of the page, light and
 dark, wide and narrow. It needs the Debian packages chromium, chromium-driver and python3-selenium.
 
-Here are the tests that nothing leaves the page; those of texts, files, causes, dialects, access, and of what it takes in
-and gives out are in web/test.
+Here are the tests that nothing leaves the page; those of texts, files, causes, dialects, access, and of what it
+takes in and gives out are in web/test.
 """
 import argparse
 import functools

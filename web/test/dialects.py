@@ -7,12 +7,13 @@ NAMES = {"srid": "SRID=4326;", "untagged": "Z without a word", "exponents": "Exp
 TEXT = "SRID=4326;POINT(1e3 2 3)\nPOINT(nan nan)\nPOINT(1 2)\nPOINT(-nan 1)"
 # What the row of a cause says, with the box that isn't chosen.
 SENTENCES = {
-    "srid": "SRID=..; of EWKT is not read; ST_AsText leaves it out; or choose “SRID=4326;” under “Also read”",
-    "dimension": "a third number needs Z or M, as in POINT Z(1 2 3), and a fourth ZM; or choose “Z without a word” under"
-    " “Also read”",
+    "srid": "SRID=..; of EWKT is not read; ST_AsText leaves it out; or choose “SRID=4326;”"
+    " under “Also read”",
+    "dimension": "a third number needs Z or M, as in POINT Z(1 2 3), and a fourth ZM; or choose “Z without a word”"
+    " under “Also read”",
     "exponent": "exponents are not read; write 0.0000001 for 1e-7; or choose “Exponents” under “Also read”",
-    "no_number": "NaN and infinity are no decimals; EMPTY says that there is no point; or choose “nan as EMPTY” under"
-    " “Also read”",
+    "no_number": "NaN and infinity are no decimals; EMPTY says that there is no point; or choose “nan as EMPTY”"
+    " under “Also read”",
 }
 
 
