@@ -121,7 +121,8 @@ def passed_by_engine(text, name):
     while depth:
         depth += {"(": 1, ")": -1}.get(text[end], 0)
         end += 1
-    return [any(word in one for word in ("big(", "cell", "lists.")) for one in parameters(text[call.end():end - 1])]
+    passed = parameters(text[call.end():end - 1])
+    return [any(word in one for word in ("big(", "cell", "lists.")) for one in passed]
 
 
 def differences(texts):
