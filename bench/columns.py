@@ -2,7 +2,8 @@
 
 columns.py sizes [TURNS [FORM]]: each form of list and of column, of rows of 33 bytes to 90 KB, 8 to 16 MB in all, and a
 loop of single calls, in turn in one process: milliseconds of a processor, the least; how many times that of the loop it
-is; and of two that come in turn, the median of that. The last stands the noise of a loaded machine.
+is; of two that come in turn, the median of that, which stands the noise of a loaded machine; and the page faults of a
+call.
 
 columns.py threads [ROWS]: threads over parts of one column of Arrow: the least time by the clock, and what a thread
 spends on a processor, waiting for one, and waiting for something else, such as the lock of the interpreter.
@@ -165,9 +166,10 @@ def forms():
     def two(one, other):
         return [wkt.same(*both) for both in zip(one, other)]
 
-    def of_arrow(call):
+    def of_arrow(call, column_of=arrow_of):
         """Beside a loop over the texts themselves."""
-        return lambda texts: (arrow_of(texts), texts), lambda both: call(both[0]), lambda both: list(map(call, both[1]))
+        made = lambda texts: (column_of(texts), texts)  # noqa: E731
+        return made, lambda both: call(both[0]), lambda both: list(map(call, both[1]))
 
     made = {call.__name__: (list, call, one_by_one(call)) for call in (wkt.canonical, wkt.reads, wkt.infer, wkt.lines)}
     return {
@@ -186,23 +188,26 @@ def forms():
         ),
         "canonical, Arrow": of_arrow(wkt.canonical),
         "reads, Arrow": of_arrow(wkt.reads),
+        "canonical, Arrow's dictionary of all different": of_arrow(wkt.canonical, unshared),
+        "read_events": (list, wkt.read_events, one_by_one(wkt.read_events)),
     }
 
 
 def in_turn(calls, given, turns):
-    """Of each call the seconds of a processor of so many turns. Whichever came last begins the next turn."""
+    """Of each call the seconds of a processor and the page faults of so many turns. Who came last begins the next."""
     import time
 
-    spent = [[] for _ in calls]
+    spent, faults = [[] for _ in calls], [[] for _ in calls]
     for turn in range(-1, turns):  # the first isn't counted
         for i in range(len(calls))[:: -1 if turn % 2 else 1]:
-            start = time.process_time()
+            before, start = resource.getrusage(resource.RUSAGE_SELF).ru_minflt, time.process_time()
             answer = calls[i](given)
-            end = time.process_time()
+            end, after = time.process_time(), resource.getrusage(resource.RUSAGE_SELF).ru_minflt
             del answer
             if turn >= 0:
                 spent[i].append(end - start)
-    return spent
+                faults[i].append(after - before)
+    return spent, faults
 
 
 def sizes(turns=40, only=None):
@@ -214,9 +219,9 @@ def sizes(turns=40, only=None):
             continue
         cells = []
         for size in SIZES.values():
-            form_spent, loop_spent = in_turn((form, loop), prepare(list(lines_of(*size))), turns)
+            (form_spent, loop_spent), faults = in_turn((form, loop), prepare(list(lines_of(*size))), turns)
             ratios = min(form_spent) / min(loop_spent), median(a / b for a, b in zip(form_spent, loop_spent))
-            cells.append("%.1f, %.2f, %.2f" % (1000 * min(form_spent), *ratios))
+            cells.append("%.1f, %.2f, %.2f, %d" % (1000 * min(form_spent), *ratios, median(faults[0])))
         print("| %s | %s |" % (name, " | ".join(cells)), flush=True)
 
 

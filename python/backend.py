@@ -6,10 +6,12 @@ later and has its headers: it then serves 3.11 and each later Python. Free-threa
 gets a wheel of its version. Where that module can't be compiled, a line on stderr says why, and the wheel is for Python
 3.8 on and calls the library by ctypes alone. WKT_FAST=0 makes that wheel too, and WKT_FAST=1 fails where the module
 can't be compiled. WKT_LIB_DIR names the folder with libwkt.so, and with the command `wkt` if it has one; without it
-capi/build.sh and dist/Makefile make both of the proved objects, in a second and without the prover. CC names the C
-compiler; CFLAGS and LDFLAGS are those of the fast module and of the command.
+capi/build.sh and dist/Makefile make both of the proved objects, in a second and without the prover. Where the processor
+has none, the library is made of portable C (dist/c), in minutes, and the wheel has no command. CC names the C
+compiler; CFLAGS and LDFLAGS are those of the fast module, of the command and of portable C.
 
-A source package has the proved objects and the C files in native/, so it needs neither a clone nor the prover.
+A source package has the proved objects and the C files in native/, and portable C where wasm2c of wabt, which makes it,
+is there: so it needs neither a clone nor the prover.
 The bytes of a package depend on its files alone; its times are SOURCE_DATE_EPOCH, or 1980.
 """
 import base64
@@ -43,7 +45,7 @@ with open(os.path.join(here, "wkt", "_version.py"), encoding="utf-8") as file:
 INFO = "%s-%s.dist-info/" % (NAME, VERSION)
 # What a source package has of the rest of a clone.
 NATIVE = ("include/wkt.h", "capi/build.sh", "capi/*.c", "capi/*.h", "dist/Makefile", "dist/NOTICE", "dist/objects.sh",
-          "dist/system.c", "dist/*/*.xz", "dist/*/PROVENANCE", "LICENSE-*")  # fmt: skip
+          "dist/system.c", "dist/*/*.xz", "dist/*/PROVENANCE", "dist/c/*.[ch]", "LICENSE-*")  # fmt: skip
 OWN = ("pyproject.toml", "backend.py", "README.md", "DASK.md", "wkt/*.py", "wkt/*.pyi", "wkt/py.typed",
        "src/*.[ch]", "examples/*.py", "tests/*.py", "tests/*.[ch]", "tests/*.sh")  # fmt: skip
 # The command, as pip puts it beside Python: it becomes the proved program.
@@ -74,17 +76,42 @@ def _library(folder):
             "this package needs libwkt.so: run capi/build.sh in a clone of wkt, and name its folder, capi/out, by "
             "WKT_LIB_DIR (pip before 21.3 builds in a copy of this folder)"
         )
-    # Its own words say what is lacking.
+    # Each says itself what is lacking.
+    objects = subprocess.run([os.path.join(top, "dist", "objects.sh")], stdout=subprocess.DEVNULL, check=False)
+    if objects.returncode:
+        return _portable(folder)
     if subprocess.run([build, folder], check=False).returncode:
         raise SystemExit("capi/build.sh fails, which makes the library of this package")
     return folder
 
 
+def _portable(folder):
+    """The folder with libwkt.so of portable C, for processors that no proved objects are for."""
+    out, made = os.path.join(folder, "portable"), os.path.join(folder, "libwkt.so")
+    # A source package has no module, of which make would make the C anew.
+    known = [] if os.path.exists(os.path.join(top, "dist", "wasm")) else ["-o", "c/wkt_module.c"]
+    words = ["make", "-s", "-C", os.path.join(top, "dist"), *known, "O=" + folder, os.path.join(out, "libwkt.a")]
+    link = [*shlex.split(os.environ.get("CC", "cc")), "-shared", "-pthread", "-Wl,-soname,libwkt.so.0"]
+    link += ["-Wl,-z,relro,-z,now", "-Wl,--whole-archive", os.path.join(out, "libwkt.a"), "-Wl,--no-whole-archive"]
+    link += [*_flags("LDFLAGS"), "-o", made]
+    print("wkt: so the library is made of portable C, and the package has no command", file=sys.stderr)
+    for call in (words, link):
+        if subprocess.run(call, check=False).returncode:
+            raise SystemExit("the library can't be made of portable C: %s fails" % call[0])
+    with open(os.path.join(top, "dist", "c", "wkt_module.c"), encoding="utf-8") as file:
+        said = file.readline().strip("/* \n")
+    with open(os.path.join(folder, "FROM"), "w", encoding="utf-8") as file:
+        file.write("portable C: %s\n" % said)
+    return folder
+
+
 def _command(folder, library):
-    """The proved command: that beside the library, or linked of its proved object."""
+    """The proved command: that beside the library, or linked of its proved object; None beside portable C."""
     made = os.path.join(library, "wkt")
     if os.path.exists(made):
         return made
+    if os.path.exists(os.path.join(library, "portable")):
+        return None
     if not os.path.exists(os.path.join(top, "dist", "Makefile")):
         raise SystemExit(
             "this package needs the command wkt: make -C dist in a clone of wkt makes it, "
@@ -95,6 +122,13 @@ def _command(folder, library):
     if subprocess.run(["make", "-s", "-C", os.path.join(top, "dist"), "O=" + out, made], check=False).returncode:
         raise SystemExit("make -C dist fails, which makes the command wkt of this package")
     return made
+
+
+def _module_in_c():
+    """Makes the portable C of a clone, if it isn't there, or says that the source package goes without it."""
+    words = ["make", "-s", "-C", os.path.join(top, "dist"), "c/wkt_module.c"]
+    if not shutil.which("wasm2c") or subprocess.run(words, check=False).returncode:
+        print("wkt: wasm2c of wabt would make portable C: the source package goes without it", file=sys.stderr)
 
 
 def _flags(name):
@@ -141,7 +175,10 @@ def _compiled(folder):
 def _built(folder):
     """What is compiled for the package, by its name in it, and the folder of the library."""
     library = _library(folder)
-    built = {"libwkt.so": os.path.join(library, "libwkt.so"), "_command": _command(folder, library)}
+    built = {"libwkt.so": os.path.join(library, "libwkt.so")}
+    command = _command(folder, library)
+    if command:
+        built["_command"] = command
     fast = _compiled(folder)
     if fast:
         built[os.path.basename(fast)] = fast
@@ -223,8 +260,9 @@ def _wheel(folder, held, built, library):
     elif "abi3" in modules[0]:
         python = "cp311-abi3-"
     tag = python + _platform(built)
+    script = [("%s-%s.data/scripts/wkt" % (NAME, VERSION), SCRIPT)] if "_command" in built else []
     held = held + [
-        ("%s-%s.data/scripts/wkt" % (NAME, VERSION), SCRIPT),
+        *script,
         (INFO + "METADATA", _about()),
         (INFO + "WHEEL", ("Wheel-Version: 1.0\nGenerator: wkt\nRoot-Is-Purelib: false\nTag: %s\n" % tag).encode()),
         (INFO + "sboms/wkt.cdx.json", _parts(built, library).encode()),
@@ -286,6 +324,8 @@ def _own(front=""):
 
 def build_sdist(sdist_directory, config_settings=None):
     root = "%s-%s" % (NAME, VERSION)
+    if os.path.exists(os.path.join(top, "dist", "wasm")):
+        _module_in_c()
     files = [("%s/%s" % (root, os.path.relpath(path, here)), path) for path in _own()]
     for pattern in NATIVE:
         for path in sorted(glob.glob(os.path.join(top, pattern))):
