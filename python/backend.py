@@ -45,7 +45,7 @@ with open(os.path.join(here, "wkt", "_version.py"), encoding="utf-8") as file:
 INFO = "%s-%s.dist-info/" % (NAME, VERSION)
 # What a source package has of the rest of a clone.
 NATIVE = ("include/wkt.h", "capi/build.sh", "capi/*.c", "capi/*.h", "dist/Makefile", "dist/NOTICE", "dist/objects.sh",
-          "dist/system.c", "dist/*/*.xz", "dist/*/PROVENANCE", "dist/c/*.[ch]", "LICENSE-*")  # fmt: skip
+          "dist/system.c", "dist/*/*.xz", "dist/*/PROVENANCE", "dist/c/*", "dist/wasm/*.wasm", "LICENSE-*")  # fmt: skip
 OWN = ("pyproject.toml", "backend.py", "README.md", "DASK.md", "wkt/*.py", "wkt/*.pyi", "wkt/py.typed",
        "src/*.[ch]", "examples/*.py", "tests/*.py", "tests/*.[ch]", "tests/*.sh")  # fmt: skip
 # The command, as pip puts it beside Python: it becomes the proved program.
@@ -88,8 +88,8 @@ def _library(folder):
 def _portable(folder):
     """The folder with libwkt.so of portable C, for processors that no proved objects are for."""
     out, made = os.path.join(folder, "portable"), os.path.join(folder, "libwkt.so")
-    # A source package has no module, of which make would make the C anew.
-    known = [] if os.path.exists(os.path.join(top, "dist", "wasm")) else ["-o", "c/wkt_module.c"]
+    # In a source package the module's C isn't made anew, whatever times its files have.
+    known = [] if _is_clone() else ["-o", "wasm/wkt.wasm", "-o", "c/make.sh"]
     words = ["make", "-s", "-C", os.path.join(top, "dist"), *known, "O=" + folder, os.path.join(out, "libwkt.a")]
     link = [*shlex.split(os.environ.get("CC", "cc")), "-shared", "-pthread", "-Wl,-soname,libwkt.so.0"]
     link += ["-Wl,-z,relro,-z,now", "-Wl,--whole-archive", os.path.join(out, "libwkt.a"), "-Wl,--no-whole-archive"]
@@ -122,6 +122,10 @@ def _command(folder, library):
     if subprocess.run(["make", "-s", "-C", os.path.join(top, "dist"), "O=" + out, made], check=False).returncode:
         raise SystemExit("make -C dist fails, which makes the command wkt of this package")
     return made
+
+
+def _is_clone():
+    return os.path.basename(top) != "native"
 
 
 def _module_in_c():
@@ -324,7 +328,7 @@ def _own(front=""):
 
 def build_sdist(sdist_directory, config_settings=None):
     root = "%s-%s" % (NAME, VERSION)
-    if os.path.exists(os.path.join(top, "dist", "wasm")):
+    if _is_clone():
         _module_in_c()
     files = [("%s/%s" % (root, os.path.relpath(path, here)), path) for path in _own()]
     for pattern in NATIVE:
