@@ -6,12 +6,12 @@ later and has its headers: it then serves 3.11 and each later Python. Free-threa
 gets a wheel of its version. Where that module can't be compiled, a line on stderr says why, and the wheel is for Python
 3.8 on and calls the library by ctypes alone. WKT_FAST=0 makes that wheel too, and WKT_FAST=1 fails where the module
 can't be compiled. WKT_LIB_DIR names the folder with libwkt.so, and with the command `wkt` if it has one; without it
-capi/build.sh and dist/Makefile make both of the proved objects, in a second and without the prover. Where the processor
-has none, the library is made of portable C (dist/c), in minutes, and the wheel has no command. CC names the C
-compiler; CFLAGS and LDFLAGS are those of the fast module, of the command and of portable C.
+capi/build.sh and dist/Makefile make both of the proved objects, in a second and without the prover. Where dist/ has none
+for the system, the library is compiled of portable C, in a minute or more, and the wheel has no command. CC names the C
+compiler; CFLAGS and LDFLAGS are those of the fast module and of the command.
 
-A source package has the proved objects and the C files in native/, and portable C where wasm2c of wabt, which makes it,
-is there: so it needs neither a clone nor the prover.
+A source package has the proved objects, portable C and the C files in native/, so it needs neither a clone nor the
+prover.
 The bytes of a package depend on its files alone; its times are SOURCE_DATE_EPOCH, or 1980.
 """
 import base64
@@ -45,7 +45,8 @@ with open(os.path.join(here, "wkt", "_version.py"), encoding="utf-8") as file:
 INFO = "%s-%s.dist-info/" % (NAME, VERSION)
 # What a source package has of the rest of a clone.
 NATIVE = ("include/wkt.h", "capi/build.sh", "capi/*.c", "capi/*.h", "dist/Makefile", "dist/NOTICE", "dist/objects.sh",
-          "dist/system.c", "dist/*/*.xz", "dist/*/PROVENANCE", "dist/c/*", "dist/wasm/*.wasm", "LICENSE-*")  # fmt: skip
+          "dist/system.c", "dist/*/*.xz", "dist/*/PROVENANCE", "dist/c/*.[ch]", "dist/c/make.sh", "dist/wasm/*.wasm",
+          "LICENSE-*")  # fmt: skip
 OWN = ("pyproject.toml", "backend.py", "README.md", "DASK.md", "wkt/*.py", "wkt/*.pyi", "wkt/py.typed",
        "src/*.[ch]", "examples/*.py", "tests/*.py", "tests/*.[ch]", "tests/*.sh")  # fmt: skip
 # The command, as pip puts it beside Python: it becomes the proved program.
@@ -76,32 +77,9 @@ def _library(folder):
             "this package needs libwkt.so: run capi/build.sh in a clone of wkt, and name its folder, capi/out, by "
             "WKT_LIB_DIR (pip before 21.3 builds in a copy of this folder)"
         )
-    # Each says itself what is lacking.
-    objects = subprocess.run([os.path.join(top, "dist", "objects.sh")], stdout=subprocess.DEVNULL, check=False)
-    if objects.returncode:
-        return _portable(folder)
+    # Its own words say what is lacking.
     if subprocess.run([build, folder], check=False).returncode:
         raise SystemExit("capi/build.sh fails, which makes the library of this package")
-    return folder
-
-
-def _portable(folder):
-    """The folder with libwkt.so of portable C, for processors that no proved objects are for."""
-    out, made = os.path.join(folder, "portable"), os.path.join(folder, "libwkt.so")
-    # In a source package the module's C isn't made anew, whatever times its files have.
-    known = [] if _is_clone() else ["-o", "wasm/wkt.wasm", "-o", "c/make.sh"]
-    words = ["make", "-s", "-C", os.path.join(top, "dist"), *known, "O=" + folder, os.path.join(out, "libwkt.a")]
-    link = [*shlex.split(os.environ.get("CC", "cc")), "-shared", "-pthread", "-Wl,-soname,libwkt.so.0"]
-    link += ["-Wl,-z,relro,-z,now", "-Wl,--whole-archive", os.path.join(out, "libwkt.a"), "-Wl,--no-whole-archive"]
-    link += [*_flags("LDFLAGS"), "-o", made]
-    print("wkt: so the library is made of portable C, and the package has no command", file=sys.stderr)
-    for call in (words, link):
-        if subprocess.run(call, check=False).returncode:
-            raise SystemExit("the library can't be made of portable C: %s fails" % call[0])
-    with open(os.path.join(top, "dist", "c", "wkt_module.c"), encoding="utf-8") as file:
-        said = file.readline().strip("/* \n")
-    with open(os.path.join(folder, "FROM"), "w", encoding="utf-8") as file:
-        file.write("portable C: %s\n" % said)
     return folder
 
 
@@ -110,7 +88,8 @@ def _command(folder, library):
     made = os.path.join(library, "wkt")
     if os.path.exists(made):
         return made
-    if os.path.exists(os.path.join(library, "portable")):
+    if ": portable C, " in _made_of(library):
+        print("wkt: the package is of portable C, and without the command wkt", file=sys.stderr)
         return None
     if not os.path.exists(os.path.join(top, "dist", "Makefile")):
         raise SystemExit(
@@ -124,15 +103,10 @@ def _command(folder, library):
     return made
 
 
-def _is_clone():
-    return os.path.basename(top) != "native"
-
-
-def _module_in_c():
-    """Makes the portable C of a clone, if it isn't there, or says that the source package goes without it."""
-    words = ["make", "-s", "-C", os.path.join(top, "dist"), "c/wkt_module.c"]
-    if not shutil.which("wasm2c") or subprocess.run(words, check=False).returncode:
-        print("wkt: wasm2c of wabt would make portable C: the source package goes without it", file=sys.stderr)
+def _made_of(library):
+    """What the library in a folder was made of, in a line."""
+    said = os.path.join(library, "FROM")
+    return _bytes(said).decode().strip() if os.path.exists(said) else "?"
 
 
 def _flags(name):
@@ -211,9 +185,6 @@ def _platform(built):
 
 def _parts(built, library):
     """What is compiled and what it was made of, for whoever lists what they install (CycloneDX, PEP 770)."""
-    made_of = "?"
-    if os.path.exists(os.path.join(library, "FROM")):
-        made_of = _bytes(os.path.join(library, "FROM")).decode().strip()
     licence = [{"expression": "MIT OR Apache-2.0"}]
     parts = []
     for name, path in sorted(built.items()):
@@ -225,7 +196,7 @@ def _parts(built, library):
             "hashes": [{"alg": "SHA-256", "content": hashlib.sha256(_bytes(path)).hexdigest()}],
         }
         if name == "libwkt.so":
-            part["properties"] = [{"name": "wkt:from", "value": made_of}]
+            part["properties"] = [{"name": "wkt:from", "value": _made_of(library)}]
         parts.append(part)
     whole = {"type": "library", "name": "wkt-proved", "version": VERSION, "licenses": licence}
     return json.dumps(
@@ -328,8 +299,6 @@ def _own(front=""):
 
 def build_sdist(sdist_directory, config_settings=None):
     root = "%s-%s" % (NAME, VERSION)
-    if _is_clone():
-        _module_in_c()
     files = [("%s/%s" % (root, os.path.relpath(path, here)), path) for path in _own()]
     for pattern in NATIVE:
         for path in sorted(glob.glob(os.path.join(top, pattern))):

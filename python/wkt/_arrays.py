@@ -189,7 +189,7 @@ def _column_arrays(texts: Any, places: int, progress: Progress) -> ColumnArrays:
     are_lent, indices = _arrow.is_texts(texts), None
     if are_lent:
         chunk = _buffers.whole(_arrow.taken(texts))
-        indices, column, count = chunk.indices, chunk.given, chunk.count
+        indices, column, count = chunk.indices, chunk.given, chunk.size
     else:
         column = column_of(texts)
         count = len(column)

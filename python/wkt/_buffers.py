@@ -34,10 +34,10 @@ class Chunk(NamedTuple):
 
     @property
     def rows(self) -> int:
-        return self.count if self.indices is None else len(self.indices)
+        return self.size if self.indices is None else len(self.indices)
 
     @property
-    def count(self) -> int:
+    def size(self) -> int:
         """How many texts there are."""
         return int(self.texts.rows if isinstance(self.texts, Packed) else len(self.texts))
 
