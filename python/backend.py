@@ -6,8 +6,8 @@ later and has its headers: it then serves 3.11 and each later Python. Free-threa
 gets a wheel of its version. Where that module can't be compiled, a line on stderr says why, and the wheel is for Python
 3.8 on and calls the library by ctypes alone. WKT_FAST=0 makes that wheel too, and WKT_FAST=1 fails where the module
 can't be compiled. WKT_LIB_DIR names the folder with libwkt.so, and with the command `wkt` if it has one; without it
-capi/build.sh and dist/Makefile make both of the proved objects, in a second and without the prover. Where dist/ has none
-for the system, the library is compiled of portable C, in a minute or more, and the wheel has no command. CC names the C
+capi/build.sh and dist/Makefile make both of the proved objects, in a second and without the prover. Where dist/ has no
+such objects, the library is compiled of portable C, in a minute or more, and the wheel has no command. CC names the C
 compiler; CFLAGS and LDFLAGS are those of the fast module and of the command.
 
 A source package has the proved objects, portable C and the C files in native/, so it needs neither a clone nor the

@@ -309,8 +309,8 @@ PyObject *fast_canonical_buffers(PyObject *self, PyObject *const *args, Py_ssize
     int more;
     if (!has_count(count, 3) || (places = PyLong_AsUnsignedLong(args[1])) > UINT32_MAX) return NULL;
     more = walk_buffers(&walk, state, args[0], args[2]);
-    if (more == 0 && (room_holds(&ends, (size_t)walk.count + 1) < 0 ||
-                      room_holds(&out, walk.bytes + walk.bytes / 8 + MORE_ROOM) < 0))
+    if (more == 0 &&
+        (room_is(&ends, (size_t)walk.count + 1) < 0 || room_is(&out, walk.bytes + walk.bytes / 8 + MORE_ROOM) < 0))
         more = (PyErr_NoMemory(), -1);
     if (more == 0) ((int64_t *)ends.items)[ends.used++] = 0;
     while (more >= 0 && (more = walk_next(&walk)) > 0) {

@@ -83,6 +83,7 @@ typedef struct {
     size_t size, used, room;
 } Room;
 int room_holds(Room *room, size_t more);
+int room_is(Room *room, size_t wanted); /* so many items, which are no fewer than are used, and not 0 */
 /* A buffer that keeps its owner, or, with none, memory of realloc, which it frees. */
 PyObject *lent(State *state, const void *data, Py_ssize_t length, PyObject *owner);
 PyObject *lent_room(State *state, Room *room, int writable);

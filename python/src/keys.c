@@ -110,9 +110,8 @@ static int has_room(Kept *kept, const Walk *walk) {
     while (size < 2 * rows) size *= 2;
     kept->mask = size - 1;
     if ((kept->slots = calloc(size, sizeof *kept->slots)) == NULL) return 0;
-    if (room_holds(&kept->data, walk->bytes + walk->bytes / 8 + MORE_ROOM) < 0 ||
-        room_holds(&kept->ends, rows + 1) < 0 || room_holds(&kept->statuses, rows + 1) < 0 ||
-        room_holds(&kept->numbers, rows + 1) < 0)
+    if (room_is(&kept->data, walk->bytes + walk->bytes / 8 + MORE_ROOM) < 0 || room_is(&kept->ends, rows + 1) < 0 ||
+        room_is(&kept->statuses, rows + 1) < 0 || room_is(&kept->numbers, rows + 1) < 0)
         return 0;
     ((int64_t *)kept->ends.items)[kept->ends.used++] = 0;
     return 1;

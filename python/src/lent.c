@@ -1,16 +1,18 @@
 /* Memory that grows, and memory and texts that are lent to Python. */
 #include "fast.h"
 
-int room_holds(Room *room, size_t more) {
-    size_t wanted;
+int room_is(Room *room, size_t wanted) {
     void *grown;
-    if (room->room - room->used >= more) return 0;
-    wanted = room->used + more;
-    if (wanted < more || wanted > PY_SSIZE_T_MAX / room->size) return -1;
-    if (room->room != 0 && wanted < PY_SSIZE_T_MAX / room->size / 2) wanted += wanted / 2;
-    if ((grown = realloc(room->items, wanted * room->size)) == NULL) return -1;
+    if (wanted > PY_SSIZE_T_MAX / room->size || (grown = realloc(room->items, wanted * room->size)) == NULL) return -1;
     room->items = grown, room->room = wanted;
     return 0;
+}
+
+int room_holds(Room *room, size_t more) {
+    size_t wanted = room->used + more;
+    if (room->room - room->used >= more) return 0;
+    if (wanted < more) return -1;
+    return room_is(room, wanted < PY_SSIZE_T_MAX / room->size / 2 ? wanted + wanted / 2 : wanted);
 }
 
 /* Bytes as a buffer that keeps what they are of. */
