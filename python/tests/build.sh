@@ -1,7 +1,7 @@
 #!/usr/bin/env bash
 # build.sh: the ways in which the package is built and installed, without an index: pip install of the folder, of a git
-# repository and as editable, python3 -m build, a wheel of a source package; and that two wheels have the same bytes. It needs
-# git, pip, venv and python3-build (tests/needs.sh). PYTHON names another Python.
+# repository and as editable, python3 -m build, a wheel of a source package, with objects and of portable C; and that two wheels
+# have the same bytes. It needs git, pip, venv and python3-build (tests/needs.sh). PYTHON names another Python.
 set -eu
 here=$(cd "$(dirname "$0")" && pwd)
 top=$(cd "$here/../.." && pwd)
@@ -66,6 +66,18 @@ cmp "$work"/one/*.whl "$work"/two/*.whl && cmp "$work"/one/*.whl "$work"/three/*
 mkdir "$work/again" && (cd "$work/clone/python" && "$python" -m build -s --no-isolation -o "$work/again" . > /dev/null)
 cmp "$work"/built/*.tar.gz "$work"/again/*.tar.gz || fail "two source packages have other bytes"
 echo "two wheels, and that of the source package, have the same bytes"
+
+# Where no objects fit, the source package gives a wheel of portable C, without the command.
+mkdir "$work/bare" && tar -xzf "$work"/built/*.tar.gz -C "$work/bare" && rm -r "$work"/bare/wkt_proved-*/native/dist/{x86_64,aarch64}
+(cd "$work"/bare/wkt_proved-*/ && MODULE_FLAGS=-O0 "$python" -m pip wheel -q --no-index --no-deps -w "$work/portable" . > "$work/said" 2>&1) || { cat "$work/said"; fail "no wheel of portable C"; }
+"$python" -m venv "$work/plain" && pip plain install --no-index "$work"/portable/*.whl
+(cd / && "$work/plain/bin/python" -c 'import wkt, wkt._fast; assert wkt.canonical(["point(1 2.0)", None]) == ["POINT(1 2)", None]
+found = wkt.explain("POINT(1 x)")
+assert found.start == 8, found
+assert wkt.canonical("SRID=1;POINT(1e1 2)", dialect="ewkt,exponents") == "POINT(10 2)"') || fail "portable C: other answers"
+[ ! -e "$work/plain/bin/wkt" ] && (cd / && ! "$work/plain/bin/python" -m wkt --version > "$work/said" 2>&1) || fail "portable C: it has a command"
+grep -q 'portable C' "$work"/plain/lib/python3*/site-packages/wkt_proved-*/sboms/wkt.cdx.json || fail "portable C: the parts say another origin"
+echo "a wheel of portable C is built of the source package"
 
 # Where the fast module can't be compiled, the wheel goes without it, and says so; WKT_FAST=1 fails.
 # without WORDS CODE [VARIABLE=VALUE..]
