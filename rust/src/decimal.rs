@@ -48,20 +48,26 @@ impl<const PLACES: u8> Decimal<PLACES> {
 }
 
 /// The nearest `f64` to so many units of ten to the minus `places`.
-#[allow(clippy::cast_precision_loss)]
+#[inline]
+#[allow(
+    clippy::cast_precision_loss,
+    clippy::cast_possible_truncation,
+    clippy::cast_possible_wrap
+)]
 pub(crate) fn nearest(units: i128, places: u32) -> f64 {
-    let size = units.unsigned_abs();
-    let zeros = size.leading_zeros();
-    if places > 21 || size == 0 {
-        return units_text(units, places).parse().unwrap_or(f64::NAN);
-    }
-    // The quotient has 55 bits or more. Its last one says whether there is a remainder, too, so it is rounded as the exact
-    // quotient would be.
-    let shifted = size << zeros;
     let unit = POWERS[places as usize];
-    let quotient = shifted / unit;
-    let rest = u128::from(quotient * unit != shifted);
-    let rounded = (quotient | rest) as f64 * f64::from_bits(u64::from(1023 - zeros) << 52);
+    let size = units.unsigned_abs();
+    // With so many bits more the quotient has 62 or 63.
+    let more = (62 + size.leading_zeros()).checked_sub(unit.leading_zeros());
+    let (unit, more) = match (u64::try_from(unit), more) {
+        (Ok(unit), Some(more)) => (unit, more),
+        _ => return units_text(units, places).parse().unwrap_or(f64::NAN),
+    };
+    let shifted = size << more;
+    let quotient = (shifted / u128::from(unit)) as u64;
+    // Its last bit says whether there is a remainder, too, so it is rounded as the exact quotient would be.
+    let rest = u64::from(quotient.wrapping_mul(unit) != shifted as u64);
+    let rounded = (quotient | rest) as i64 as f64 * f64::from_bits(u64::from(1023 - more) << 52);
     if units < 0 {
         -rounded
     } else {
@@ -79,33 +85,44 @@ const POWERS: [u128; 37] = {
     powers
 };
 
-// A sign, a point and all digits.
-const MOST_DIGITS: usize = 41;
+/// Where the digits of a number end, behind a sign, a point and 39 digits at most. What stands behind them means nothing.
+pub(crate) const DIGITS_END: usize = 48;
+/// Digits, from the last one on; zeros at first.
+pub(crate) type Digits = [u8; 2 * DIGITS_END];
 
-/// Adds so many units of ten to the minus `places` as a decimal.
+/// Puts so many units of ten to the minus `places` as a decimal, and returns where it begins.
 #[inline]
-pub(crate) fn push_units(text: &mut Vec<u8>, units: i128, places: u32) {
-    let unit = POWERS[places as usize];
+pub(crate) fn put_units(digits: &mut Digits, units: i128, places: u32) -> usize {
     let size = units.unsigned_abs();
-    // Ten is two times five, and a division of 64 bits is faster.
-    let whole = match u64::try_from(size >> places) {
-        Ok(half) if places <= 27 => u128::from(half / 5_u64.pow(places)),
-        _ => size / unit,
-    };
-    // From the last digit on.
-    let mut digits = [b'0'; MOST_DIGITS];
-    let mut begin = MOST_DIGITS;
-    if size != whole * unit {
-        let (fraction, places) = without_zeros(size - whole * unit, places as usize);
-        begin = put_digits(&mut digits, begin, fraction, places) - 1;
+    let (whole, fraction) = divided(size, places);
+    let mut begin = DIGITS_END;
+    if fraction != 0 {
+        let (fraction, places) = without_zeros(fraction, places as usize);
+        begin = put_digits(digits, begin, fraction, places) - 1;
         digits[begin] = b'.';
     }
-    begin = put_digits(&mut digits, begin, whole, 1);
+    begin = put_digits(digits, begin, whole, 1);
     if units < 0 {
         begin -= 1;
         digits[begin] = b'-';
     }
-    text.extend_from_slice(&digits[begin..]);
+    begin
+}
+
+/// A size divided by ten to the `places`, and the remainder.
+#[inline]
+#[allow(clippy::cast_possible_truncation)]
+fn divided(size: u128, places: u32) -> (u128, u128) {
+    let unit = POWERS[places as usize];
+    match u64::try_from(size >> places) {
+        // Ten is two times five, and a division of 64 bits is faster. The remainder has 64 bits, too.
+        Ok(half) if places <= 19 => {
+            let whole = half / 5_u64.pow(places);
+            let rest = (size as u64).wrapping_sub(whole.wrapping_mul(unit as u64));
+            (whole.into(), rest.into())
+        }
+        _ => (size / unit, size % unit),
+    }
 }
 
 /// A fraction without the zeros at its end, and how many places it then has.
@@ -136,7 +153,7 @@ fn without_zeros(fraction: u128, places: usize) -> (u128, usize) {
 
 /// Puts the digits of a number before `end`, so many at least, and returns where they begin. Zeros stand there already.
 #[allow(clippy::cast_possible_truncation)]
-fn put_digits(digits: &mut [u8], end: usize, number: u128, least: usize) -> usize {
+fn put_digits(digits: &mut Digits, end: usize, number: u128, least: usize) -> usize {
     let (mut begin, mut number) = (end, number);
     while number > u64::MAX.into() {
         begin -= 1;
@@ -169,9 +186,9 @@ const PAIRS: [[u8; 2]; 100] = {
 };
 
 fn units_text(units: i128, places: u32) -> String {
-    let mut text = Vec::new();
-    push_units(&mut text, units, places);
-    String::from_utf8(text).unwrap_or_default()
+    let mut digits = [b'0'; 2 * DIGITS_END];
+    let begin = put_units(&mut digits, units, places);
+    String::from_utf8_lossy(&digits[begin..DIGITS_END]).into_owned()
 }
 
 impl<const PLACES: u8> fmt::Display for Decimal<PLACES> {

@@ -23,7 +23,7 @@ use crate::types::{
     Polygon,
 };
 use crate::wkt::Wkt;
-use crate::write::{ascii, Written};
+use crate::write::Written;
 use geo_types::{CoordNum, Geometry};
 use std::io::Read;
 
@@ -46,7 +46,7 @@ const EMPTY_POINT: Error = Error::NoForm("A point of geo-types can't be empty");
 /// [`Refused`](Error::Refused), with the place in the text that it writes first: a coordinate is NaN or infinite, has more
 /// than `places` digits after the point, or is too large. `NoPlaces`, `NoMemory`.
 pub fn to_text(geometry: &Geometry<f64>, places: u32) -> Result<String, Error> {
-    canonical(ascii(&geometry.to_wkt().written()), places)
+    canonical(&geometry.to_wkt().written(), places)
 }
 
 /// The geometry that a text is, whose numbers have up to `places` digits after the point. Each becomes the nearest `f64`.

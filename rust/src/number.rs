@@ -1,8 +1,8 @@
 //! The types of numbers.
-use crate::decimal::{nearest, push_units, Decimal};
+use crate::decimal::{nearest, Decimal};
 use crate::error::{Error, Hint, Refusal};
-use std::fmt;
-use std::io::Write;
+use crate::write::Out;
+use std::fmt::{self, Write};
 
 /// A number of a [`Wkt`](crate::Wkt): a [`Decimal`], an `i64` or an `f64`. There are no others.
 pub trait WktNum: Number {}
@@ -22,7 +22,7 @@ pub trait Number: Copy + PartialEq + PartialOrd + fmt::Debug + fmt::Display {
     fn of_units(units: i128, places: u32) -> Option<Self>;
 
     /// Adds its text.
-    fn push(self, text: &mut Vec<u8>);
+    fn push(self, out: &mut Out<'_>);
 }
 
 impl<const PLACES: u8> Number for Decimal<PLACES> {
@@ -33,8 +33,8 @@ impl<const PLACES: u8> Number for Decimal<PLACES> {
         Some(Decimal::from_units(units))
     }
 
-    fn push(self, text: &mut Vec<u8>) {
-        push_units(text, self.units(), Self::PLACES);
+    fn push(self, out: &mut Out<'_>) {
+        out.units(self.units(), Self::PLACES);
     }
 }
 
@@ -46,12 +46,23 @@ impl Number for i64 {
         units.try_into().ok()
     }
 
-    fn push(self, text: &mut Vec<u8>) {
-        push_units(text, self.into(), 0);
+    fn push(self, out: &mut Out<'_>) {
+        out.units(self.into(), 0);
     }
 }
 
-/// Each is the nearest to a decimal, and is written as the shortest decimal that it is the nearest to.
+/// The nearest to the largest number of 18 and of 30 places, each of which is larger than that. The shortest decimals would not
+/// be read, so they are written as so many units of so many places.
+const LARGEST: [(f64, i128, u32); 2] = [
+    (
+        170_141_183_460_469_243_904.0,
+        i128::MAX / 10_i128.pow(18),
+        0,
+    ),
+    (170_141_183.460_469_25, i128::MAX / 10_i128.pow(20), 10),
+];
+
+/// Each is the nearest to a decimal, and is written as the shortest decimal that it is the nearest to, but for the largest.
 impl Number for f64 {
     const PLACES: u32 = 18;
     // Numbers up to a hundred million have so many.
@@ -61,15 +72,28 @@ impl Number for f64 {
         Some(nearest(units, places))
     }
 
+    #[inline]
     #[allow(clippy::cast_possible_truncation, clippy::float_cmp)]
-    fn push(self, text: &mut Vec<u8>) {
+    fn push(self, out: &mut Out<'_>) {
         // Decimals of up to 15 digits are nearest to different numbers. So one of them that a number is nearest to is its shortest.
         let units = (self * 1e7).round();
         if units.abs() < 1e15 && units / 1e7 == self {
-            push_units(text, units as i128, 7);
+            out.units(i128::from(units as i64), 7);
         } else {
-            // It never fails for a list.
-            let _ = write!(text, "{self}");
+            push_long(self, out);
+        }
+    }
+}
+
+/// Adds the text of an `f64` that may have more digits.
+#[inline(never)]
+fn push_long(number: f64, out: &mut Out<'_>) {
+    let bits = number.abs().to_bits();
+    match LARGEST.iter().find(|largest| largest.0.to_bits() == bits) {
+        Some((_, units, places)) => out.units(if number < 0.0 { -units } else { *units }, *places),
+        None => {
+            // Where that fails, it is said at the end.
+            let _ = write!(out, "{number}");
         }
     }
 }

@@ -22,13 +22,15 @@ pub(crate) fn read<T: WktNum>(text: &str, places: u32) -> Result<Wkt<T>, Error> 
 }
 
 /// Each takes its events and its numbers from the front.
-impl Events<'_> {
-    fn event(&mut self) -> Result<usize, Error> {
+impl<'a> Events<'a> {
+    #[inline]
+    fn event(&mut self) -> Result<u64, Error> {
         let (first, rest) = self.list.split_first().ok_or(LATER)?;
         self.list = rest;
         Ok(*first)
     }
 
+    #[inline]
     fn begin(&mut self) -> Result<(GeometryType, Dimension), Error> {
         let header = self.event()?.checked_sub(BEGIN).ok_or(LATER)?;
         let header = u32::try_from(header).map_err(|_| LATER)?;
@@ -38,6 +40,7 @@ impl Events<'_> {
     }
 
     /// The end of a geometry, behind what it holds.
+    #[inline]
     fn ended<P>(&mut self, held: P) -> Result<P, Error> {
         match self.event()? {
             END => Ok(held),
@@ -45,54 +48,56 @@ impl Events<'_> {
         }
     }
 
-    /// All parts up to the end of a geometry.
+    /// All parts up to the end of a geometry. Of parts that are an event each there are as many as events before that end.
     fn parts<P>(
         &mut self,
+        likely: usize,
         mut part: impl FnMut(&mut Self) -> Result<P, Error>,
     ) -> Result<Vec<P>, Error> {
-        let mut parts = Vec::new();
+        let mut parts = Vec::with_capacity(likely);
         while self.list.first() != Some(&END) {
             parts.push(part(self)?);
         }
         self.ended(parts)
     }
 
-    /// Gives each coordinate of a list.
-    fn each_coord<T: WktNum>(
-        &mut self,
-        dim: Dimension,
-        mut take: impl FnMut(Coord<T>, usize),
-    ) -> Result<(), Error> {
-        let (count, size) = (self.event()?, dim.size());
-        let end = count.checked_mul(size).ok_or(LATER)?;
-        let numbers = self.numbers.get(..end).ok_or(LATER)?;
-        self.numbers = &self.numbers[end..];
-        for numbers in numbers.chunks_exact(size) {
-            take(
-                coord(numbers, dim, self.places).ok_or(Error::TooLarge)?,
-                count,
-            );
-        }
-        Ok(())
+    /// How many events stand before the next end.
+    fn before_end(&self) -> usize {
+        let end = self.list.iter().position(|event| *event == END);
+        end.unwrap_or(0)
     }
 
+    /// The numbers of a list of coordinates.
+    #[inline]
+    fn list(&mut self, dim: Dimension) -> Result<&'a [WktUnits], Error> {
+        let count = usize::try_from(self.event()?).map_err(|_| LATER)?;
+        let end = count.checked_mul(dim.size()).ok_or(LATER)?;
+        let numbers = self.numbers.get(..end).ok_or(LATER)?;
+        self.numbers = &self.numbers[end..];
+        Ok(numbers)
+    }
+
+    #[inline]
     fn point<T: WktNum>(&mut self, dim: Dimension) -> Result<Point<T>, Error> {
-        let mut at = None;
-        self.each_coord(dim, |coord, _| at = Some(coord))?;
+        let at = match self.list(dim)? {
+            [] => None,
+            numbers => Some(coord(numbers, dim, self.places).ok_or(Error::TooLarge)?),
+        };
         Ok(Point::new(at, dim))
     }
 
     fn line<T: WktNum>(&mut self, dim: Dimension) -> Result<LineString<T>, Error> {
-        let mut coords = Vec::new();
-        self.each_coord(dim, |coord, count| {
-            coords.reserve_exact(count - coords.len());
-            coords.push(coord);
-        })?;
+        let numbers = self.list(dim)?;
+        let mut coords = Vec::with_capacity(numbers.len() / dim.size());
+        for numbers in numbers.chunks_exact(dim.size()) {
+            coords.push(coord(numbers, dim, self.places).ok_or(Error::TooLarge)?);
+        }
         Ok(LineString::new(coords, dim))
     }
 
     fn polygon<T: WktNum>(&mut self, dim: Dimension) -> Result<Polygon<T>, Error> {
-        Ok(Polygon::new(self.parts(|events| events.line(dim))?, dim))
+        let rings = self.parts(self.before_end(), |events| events.line(dim))?;
+        Ok(Polygon::new(rings, dim))
     }
 
     fn geometry<T: WktNum>(&mut self, level: usize) -> Result<Wkt<T>, Error> {
@@ -108,13 +113,15 @@ impl Events<'_> {
             }
             GeometryType::Polygon => self.polygon(dim)?.into(),
             GeometryType::MultiPoint => {
-                MultiPoint::new(self.parts(|events| events.point(dim))?, dim).into()
+                let points = self.parts(self.before_end(), |events| events.point(dim))?;
+                MultiPoint::new(points, dim).into()
             }
             GeometryType::MultiLineString => {
-                MultiLineString::new(self.parts(|events| events.line(dim))?, dim).into()
+                let lines = self.parts(self.before_end(), |events| events.line(dim))?;
+                MultiLineString::new(lines, dim).into()
             }
             GeometryType::MultiPolygon => {
-                let polygons = self.parts(|events| {
+                let polygons = self.parts(0, |events| {
                     let (_, dim) = events.begin()?;
                     events.polygon(dim)
                 })?;
@@ -122,7 +129,7 @@ impl Events<'_> {
             }
             GeometryType::GeometryCollection if level == MOST_LEVELS => return Err(TOO_DEEP),
             GeometryType::GeometryCollection => {
-                let members = self.parts(|events| events.geometry(level + 1))?;
+                let members = self.parts(0, |events| events.geometry(level + 1))?;
                 GeometryCollection::new(members, dim).into()
             }
         })
@@ -130,27 +137,20 @@ impl Events<'_> {
 }
 
 /// The coordinate of these numbers, if its type holds them.
+#[inline]
 fn coord<T: WktNum>(numbers: &[WktUnits], dim: Dimension, places: u32) -> Option<Coord<T>> {
-    let number = |at: usize| {
-        numbers
-            .get(at)
-            .and_then(|units| T::of_units(whole_units(*units), places))
-    };
+    let number = |at: usize| T::of_units(whole_units(*numbers.get(at)?), places);
+    let (x, y) = (number(0)?, number(1)?);
     let (z, m) = match dim {
         Dimension::XY => (None, None),
         Dimension::XYZ => (Some(number(2)?), None),
         Dimension::XYM => (None, Some(number(2)?)),
         Dimension::XYZM => (Some(number(2)?), Some(number(3)?)),
     };
-    Some(Coord {
-        x: number(0)?,
-        y: number(1)?,
-        z,
-        m,
-    })
+    Some(Coord { x, y, z, m })
 }
 
-#[allow(clippy::cast_possible_wrap)]
-fn whole_units([low, high]: WktUnits) -> i128 {
-    (u128::from(high) << 64 | u128::from(low)) as i128
+#[inline]
+fn whole_units(units: WktUnits) -> i128 {
+    i128::from(units.high) << 64 | i128::from(units.low)
 }

@@ -7,7 +7,7 @@ use crate::text::canonical;
 use crate::types::{
     GeometryCollection, LineString, MultiLineString, MultiPoint, MultiPolygon, Point, Polygon,
 };
-use crate::write::{ascii, Written};
+use crate::write::Written;
 use std::fmt;
 use std::str::FromStr;
 
@@ -88,7 +88,7 @@ impl<T: WktNum> Wkt<T> {
     /// too many digits, or is missing. `NoMemory`.
     pub fn text(&self) -> Result<String, Error> {
         let text = self.written();
-        by_places::<T, _>(|places| canonical(ascii(&text), places))
+        by_places::<T, _>(|places| canonical(&text, places))
     }
 }
 

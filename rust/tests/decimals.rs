@@ -88,6 +88,8 @@ fn texts_and_nearest_numbers() {
     has_its_text::<1>(&mut chance);
     has_its_text::<6>(&mut chance);
     has_its_text::<18>(&mut chance);
+    has_its_text::<19>(&mut chance);
+    has_its_text::<20>(&mut chance);
     has_its_text::<21>(&mut chance);
     has_its_text::<22>(&mut chance);
     has_its_text::<36>(&mut chance);

@@ -271,6 +271,88 @@ fn the_table() {
     assert_eq!(count, 4766);
 }
 
+/// What is shown is the text that the library writes, with each number of places of the file.
+fn keys<const PLACES: u8>(column: usize) -> usize {
+    let path = Path::new(env!("CARGO_MANIFEST_DIR")).join("../tests/data/keys.tsv");
+    let file = std::fs::read_to_string(path).unwrap();
+    let rows = file.lines().filter(|row| !row.starts_with('#'));
+    let mut count = 0;
+    for row in rows {
+        let fields: Vec<_> = row.split('\t').collect();
+        match fields[0].parse::<Wkt<Decimal<PLACES>>>() {
+            Ok(wkt) => {
+                assert_eq!(wkt.to_string(), fields[column], "{}", fields[0]);
+                let wkt: Result<Wkt, _> = fields[0].parse();
+                if let Ok(wkt) = wkt {
+                    let shown = wkt.to_string();
+                    assert_eq!(wkt.text().as_ref(), Ok(&shown));
+                    assert_eq!(shown.parse::<Wkt>().unwrap().to_string(), shown);
+                }
+                count += 1;
+            }
+            // The keys are of what the texts begin with.
+            Err(error) if error.refusal().unwrap().status == 30 => {}
+            Err(_) => assert_eq!(fields[column], "refused", "{}", fields[0]),
+        }
+    }
+    count
+}
+
+#[test]
+fn the_keys() {
+    let counts = [
+        keys::<0>(1),
+        keys::<6>(2),
+        keys::<15>(3),
+        keys::<18>(4),
+        keys::<24>(5),
+        keys::<36>(6),
+    ];
+    assert!(counts.iter().all(|count| *count > 150), "{counts:?}");
+}
+
+/// An `f64` is what Rust reads from the number, and of what is shown of it the same is read.
+#[test]
+fn nearest_numbers() {
+    let mut seed = 1_u64;
+    let mut next = || {
+        seed ^= seed << 13;
+        seed ^= seed >> 7;
+        seed ^= seed << 17;
+        seed
+    };
+    let check = |other: &str, number: &str| {
+        let wkt: Wkt = format!("POINT({other} {number})").parse().unwrap();
+        assert_eq!(wkt.to_string().parse().as_ref(), Ok(&wkt), "{number}");
+        match wkt {
+            Wkt::Point(point) => assert_eq!(Ok(point.coord().unwrap().y), number.parse()),
+            other => panic!("{other}"),
+        }
+    };
+    for _ in 0..20_000 {
+        let (whole, fraction) = (next() >> (next() % 63), next() >> (next() % 63));
+        let fraction = format!("{fraction}");
+        let most = fraction.len().min(18);
+        check("1", &format!("-{whole}.{}", &fraction[..most]));
+        check("1", &format!("0.{:0>18}", &fraction[..most]));
+    }
+    // The largest numbers.
+    for number in [
+        "170141183460469231731.687303715884105727",
+        "-170141183460469231731.687303715884105728",
+        "170141183.460469231731687303715884105727",
+        "-170141183.460469231731687303715884105728",
+    ] {
+        check("1", number);
+    }
+    for number in [
+        "170141183.460469231731687303715884105727",
+        "-170141183.460469231731687303715884105728",
+    ] {
+        check("0.000000000000000000000000000001", number);
+    }
+}
+
 /// Texts of all lengths, so that short lists and long ones are read.
 #[test]
 fn lengths() {
