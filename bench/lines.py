@@ -1,7 +1,7 @@
 #!/usr/bin/env python3
-"""Writes the workloads: lines.py mixed|points|nested|refused|empty DECIMALS BYTES > FILE.
+"""Writes the workloads: lines.py mixed|points|polygons|nested|refused|empty DECIMALS BYTES > FILE.
 
-`points` are lines of one POINT each; `mixed` are lines of all kinds, short and long; `nested` are collections in
+`points` are lines of one POINT each, `polygons` of one POLYGON; `mixed` are lines of all kinds, short and long; `nested` are collections in
 collections, up to eight levels; `refused` are points with a fault each; `empty` are lines with nothing in them. Half of
 the lines have a space after the kind word and after each comma, as some databases print them. Numbers have DECIMALS
 decimals, from 0 to 14 or from 16 on; where DECIMALS is 15, thirteen to fifteen. The same arguments give the same bytes
@@ -111,7 +111,7 @@ class Lines:
             return ""
         kinds = ["POINT"] * 31 + ["LINESTRING"] * 6 + ["POLYGON"] * 10 + ["MULTIPOINT"] * 1
         kinds += ["MULTILINESTRING"] * 1 + ["MULTIPOLYGON"] * 1 + ["GEOMETRYCOLLECTION"] * 1
-        kind = "POINT" if workload == "points" else kinds[self.numbers.below(len(kinds))]
+        kind = {"points": "POINT", "polygons": "POLYGON"}.get(workload) or kinds[self.numbers.below(len(kinds))]
         return self.geometry(kind, 900 if kind == "LINESTRING" else 400)
 
 
