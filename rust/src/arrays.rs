@@ -1,7 +1,7 @@
 //! A geometry as flat arrays.
 use crate::error::Error;
 use crate::kinds::{Dimension, GeometryType};
-use crate::text::{error_of, known, whole, written, LATER};
+use crate::text::{error_of, known, whole, written, LATER, WHOLE};
 use crate::{ffi, names};
 
 /// A geometry that is no collection as flat arrays.
@@ -43,7 +43,11 @@ pub struct Arrays {
 /// # Errors
 /// [`Refused`](Error::Refused), as of [`canonical`](crate::canonical). `Collection`, `TooLarge`, `NoPlaces`, `NoMemory`.
 pub fn arrays(text: &str, places: u32) -> Result<Arrays, Error> {
-    let flags = whole(places)?;
+    arrays_of(text, whole(places)?)
+}
+
+/// The same, as `places` for the C library says.
+pub(crate) fn arrays_of(text: &str, flags: u32) -> Result<Arrays, Error> {
     let mut sizes = ffi::WktSizes {
         numbers: text.len() / 2 + 4,
         rings: 8,
@@ -80,7 +84,7 @@ pub fn arrays(text: &str, places: u32) -> Result<Arrays, Error> {
         return Ok(Arrays {
             kind: GeometryType::from_number(sizes.kind).ok_or(LATER)?,
             dimension: Dimension::from_number(sizes.dimension).ok_or(LATER)?,
-            places,
+            places: flags % WHOLE,
             numbers,
             rings,
             polygons,

@@ -5,7 +5,7 @@ use crate::{ffi, names};
 use std::ffi::CStr;
 use std::os::raw::c_char;
 
-/// Added to `places` for the C library: a text is to be one geometry as a whole.
+/// Added to `places`, which are less, for the C library: a text is to be one geometry as a whole.
 pub(crate) const WHOLE: u32 = 256;
 /// The most places that numbers have.
 const MOST_PLACES: u32 = 36;
@@ -93,7 +93,7 @@ pub(crate) fn error_of(status: u32, text: &str, places: u32) -> Error {
 }
 
 /// Where and why a text is refused, as `places` for the C library says.
-fn refusal_of(text: &str, places: u32) -> Result<Option<Refusal>, Error> {
+pub(crate) fn refusal_of(text: &str, places: u32) -> Result<Option<Refusal>, Error> {
     let (mut status, mut start, mut stop, mut expected, mut hint) = (0, 0, 0, 0, 0);
     // SAFETY: the pointer goes with the length of its text, and nothing that is written is borrowed elsewhere.
     let answer = unsafe {
@@ -126,7 +126,7 @@ fn refusal_of(text: &str, places: u32) -> Result<Option<Refusal>, Error> {
         line: before.bytes().filter(|byte| *byte == b'\n').count() as u64 + 1,
         column: line.chars().count() + 1,
         expected,
-        hint: Hint::of_number(hint, places & !WHOLE),
+        hint: Hint::of_number(hint, places % WHOLE),
         message: message(status),
         status,
     }))
@@ -143,7 +143,11 @@ fn refusal_of(text: &str, places: u32) -> Result<Option<Refusal>, Error> {
 /// # Errors
 /// [`Refused`](Error::Refused): the text is no geometry, or more than white space follows it. `NoPlaces`, `NoMemory`.
 pub fn canonical(text: &str, places: u32) -> Result<String, Error> {
-    let places = whole(places)?;
+    canonical_of(text, whole(places)?)
+}
+
+/// The same, as `places` for the C library says.
+pub(crate) fn canonical_of(text: &str, places: u32) -> Result<String, Error> {
     match canonical_at(text, places) {
         Ok((answer, _)) => Ok(answer),
         Err(status) => Err(error_of(status, text, places)),
@@ -155,7 +159,11 @@ pub fn canonical(text: &str, places: u32) -> Result<String, Error> {
 /// # Errors
 /// As of [`canonical`], of the first text that is refused.
 pub fn same(one: &str, other: &str, places: u32) -> Result<bool, Error> {
-    let places = whole(places)?;
+    same_of(one, other, whole(places)?)
+}
+
+/// The same, as `places` for the C library says.
+pub(crate) fn same_of(one: &str, other: &str, places: u32) -> Result<bool, Error> {
     let mut same = 0;
     // SAFETY: each pointer goes with the length of its text, and what is written is borrowed nowhere else.
     let status = unsafe {
