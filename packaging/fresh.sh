@@ -3,7 +3,7 @@
 # seconds of each. The commands and the packages are taken out of README.
 #
 # fresh.sh SUITE [FOLDER]: bookworm, trixie; the Debian is put into FOLDER, and kept there, or into a temporary one. It needs
-# debootstrap, root and a network. Cargo takes the crates of Debian (librust-geo-types-dev), and so needs only Debian's mirror.
+# debootstrap, root and a network. Cargo takes the crates of Debian (librust-geo-types-dev, librust-cc-dev), and so needs only Debian's mirror.
 set -u
 here=$(cd "$(dirname "$0")" && pwd)
 root=$(dirname "$here")
@@ -62,7 +62,7 @@ row "make check" python3 "$(sed -n 's/^\(make -C dist check\) *#.*/\1/p' "$root/
 row Python "$(packages Python)" "python3 -m venv /tmp/venv && . /tmp/venv/bin/activate; $(first Python)
 cd /; python -c \"import wkt; assert wkt.canonical('point ( 1 2.50 )') == '$answer'\"; rm -rf /tmp/venv"
 row "C, C++" "" "$(first "C, C++")"
-row Rust "$(packages Rust) librust-geo-types-dev" "rm -rf /tmp/mine && cargo new -q /tmp/mine && tests/lib/cargo_home.sh ~/.cargo && cd /tmp/mine; $(first Rust | sed 's,CLONE,/clone,')
+row Rust "$(packages Rust) librust-geo-types-dev librust-cc-dev" "rm -rf /tmp/mine && cargo new -q /tmp/mine && tests/lib/cargo_home.sh ~/.cargo && cd /tmp/mine; $(first Rust | sed 's,CLONE,/clone,')
 echo 'fn main() { print!(\"{}\", wkt_proved::canonical(\"point ( 1 2.50 )\", 6).unwrap()) }' > src/main.rs; [ \"\$(cargo run -q --offline)\" = '$answer' ]"
 row JavaScript "$(packages JavaScript)" "echo \"$(first JavaScript); console.log((await load()).canonical('point ( 1 2.50 )'))\" > try.mjs; node try.mjs | grep -qxF '$answer'"
 printf '%s;\n' "$(cell PostgreSQL 2 | sed -n 2p)" "SELECT wkt_canonical('point ( 1 2.50 )')" 'DROP EXTENSION wkt' > "$debian/row.sql"

@@ -1,5 +1,6 @@
-//! Links libwkt: that of the folder `WKT_LIB_DIR`; in a clone of the project the one that ../capi/build.sh makes, without the
-//! prover; elsewhere the one that pkg-config finds.
+//! Links libwkt: that of the folder `WKT_LIB_DIR`; in the package that package.sh makes the one of portable C, which is in its
+//! folder `native`; in a clone of the project the one that ../capi/build.sh makes, without the prover; elsewhere the one that
+//! pkg-config finds.
 use std::env;
 use std::path::Path;
 use std::process::Command;
@@ -12,12 +13,37 @@ fn main() {
         return;
     }
     let clone = format!("{}/..", env!("CARGO_MANIFEST_DIR"));
+    let native = Path::new(env!("CARGO_MANIFEST_DIR")).join("native");
     match env::var("WKT_LIB_DIR") {
         Ok(folder) if Path::new(&folder).join("libwkt.a").exists() => link_static(&folder),
         Ok(folder) => panic!("WKT_LIB_DIR: there is no libwkt.a in {folder}: capi/build.sh in a clone of wkt makes it"),
+        Err(_) if native.exists() => compile(&native),
         Err(_) if Path::new(&clone).join("capi/build.sh").exists() => link_static(&built(&clone)),
         Err(_) => link_as_pkg_config_says(),
     }
+}
+
+/// Compiles portable C and links it.
+fn compile(native: &Path) {
+    println!("cargo:rerun-if-changed={}", native.display());
+    let (c, capi) = (native.join("dist/c"), native.join("capi"));
+    let mut build = cc::Build::new();
+    build
+        .include(&c)
+        .define("WKT_HAS_CPU", "1")
+        .define("WKT_NO_ROOMS", None)
+        .flag_if_supported("-fvisibility=hidden")
+        .warnings(false);
+    // The module's C is some hundred thousand lines: more than this takes minutes.
+    let mut module = build.clone();
+    let module = module.opt_level(1).file(c.join("wkt_module.c"));
+    build
+        .opt_level(2)
+        .file(c.join("wkt_portable.c"))
+        .file(capi.join("pointers.c"))
+        .file(capi.join("heap.c"))
+        .compile("wkt");
+    module.compile("wkt_module");
 }
 
 /// The folder in which capi/build.sh makes the library, for the processor that cargo builds for.
@@ -27,8 +53,7 @@ fn built(clone: &str) -> String {
     let mut command = Command::new(format!("{clone}/capi/build.sh"));
     command.arg(&out);
     if of("HOST") != of("TARGET") && of("CC").is_empty() {
-        let processor = of("CARGO_CFG_TARGET_ARCH");
-        command.env("CC", format!("{processor}-linux-gnu-gcc"));
+        command.env("CC", cc::Build::new().get_compiler().path());
     }
     for part in ["capi", "dist", "include", "crates/wkt_c/out/libwkt_c.a"] {
         let path = format!("{clone}/{part}");

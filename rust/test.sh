@@ -3,7 +3,10 @@
 # cargo and rustc, the oldest that the crate promises; over a library with numbers of later versions; its package; its
 # documentation without a library; the example of README.md and the program of FROM_WKT.md; and clippy and rustfmt, where
 # the cargo that is found has them.
-# The crates come from Debian's registry (librust-geo-types-dev), so no network is needed.
+# test.sh TARGET: its tests on another system, by Debian's Rust, as far as the library and the values go. With
+# x86_64-pc-windows-gnu it needs libstd-rust-dev-windows, gcc-mingw-w64-x86-64 and wine64; with s390x-unknown-linux-gnu, say,
+# libstd-rust-dev:s390x, gcc-s390x-linux-gnu and qemu-user-static.
+# The crates come from Debian's registry (librust-geo-types-dev, librust-cc-dev), so no network is needed.
 set -u
 cd "$(dirname "$0")" || exit 1
 fail() { echo "rust: $*"; exit 1; }
@@ -19,6 +22,16 @@ run() {
     "$@" > "$dir/said" 2>&1 || { cat "$dir/said"; fail "$words: fails"; }
     echo "rust: $words: $(awk '/^test result: ok/ { n += $4 } END { print n + 0 }' "$dir/said") tests"
 }
+if [ $# = 1 ]; then
+    name=CARGO_TARGET_$(tr a-z- A-Z_ <<< "$1") processor=${1%%-*}
+    case $1 in
+        *windows*) export "${name}_RUNNER=wine" ;;
+        *) export "${name}_LINKER=$processor-linux-gnu-gcc" "${name}_RUNNER=qemu-$processor-static -L /usr/$processor-linux-gnu" ;;
+    esac
+    run "$1" env -u WKT_LIB_DIR PATH="/usr/bin:$PATH" cargo test --offline --target "$1" --target-dir "$dir/cross" \
+        --test values --test dialects --test decimals --test calls -- --skip nesting
+    exit
+fi
 run "$(cargo --version)" cargo test --offline --target-dir "$dir/found"
 [ -x /usr/bin/cargo ] || fail "no Debian cargo: tests/needs.sh installs it"
 run "$(/usr/bin/cargo --version), geo-types, serde" env PATH="/usr/bin:$PATH" cargo test --offline --all-features --target-dir "$dir/debian"
@@ -32,10 +45,13 @@ objcopy "${renamed[@]}" "$WKT_LIB_DIR/libwkt.a" "$dir/later/libwkt.a" &&
     ar rc "$dir/later/libwkt.a" "$dir/later.o" || fail "later.c"
 run "a later library" env WKT_LIB_DIR="$dir/later" cargo test --offline --test later --target-dir "$dir/found" -- --ignored
 
-# The package that cargo would publish, made and built.
-cargo package --offline --allow-dirty --target-dir "$dir/found" > "$dir/said" 2>&1 || { cat "$dir/said"; fail "cargo package"; }
+# The package that cargo would publish, made and built of portable C.
+env -u WKT_LIB_DIR ./package.sh "$dir/package" > "$dir/said" 2>&1 || { cat "$dir/said"; fail "package.sh"; }
 ! grep 'manifest has no' "$dir/said" || fail "its manifest"
-echo "rust: its package is built"
+tar -C "$dir/package" -xzf "$dir"/package/wkt_proved-*.crate
+said=$(cd "$dir"/package/wkt_proved-*/ && env -u WKT_LIB_DIR cargo run --offline -q --example show --target-dir "$dir/package/target" -- 'point ( 1 2.50 )') || fail "its package"
+[ "$said" = 'POINT(1 2.5)' ] || fail "its package: $said"
+echo "rust: its package is built, and answers"
 
 # As docs.rs builds it: the crate alone, and no library.
 cp -r Cargo.toml README.md build.rs src examples "$dir"

@@ -9,7 +9,7 @@ there() {
         c) command -v gcc && command -v ar && command -v make && command -v pkg-config ;;
         c++) command -v g++ ;;
         valgrind) command -v valgrind ;;
-        rust) command -v cargo && [ -x /usr/bin/cargo ] && ls -d /usr/share/cargo/registry/geo-types-* ;;
+        rust) command -v cargo && [ -x /usr/bin/cargo ] && ls -d /usr/share/cargo/registry/{geo-types,cc}-* ;;
         python) command -v python3 ;;
         numpy | pandas | shapely | mypy | tqdm | matplotlib | build) module "$1" ;;
         dask) module dask && module distributed ;;
@@ -35,7 +35,7 @@ packages=(
     "c gcc libc6-dev binutils make pkg-config"
     "c++ g++"
     "valgrind valgrind"
-    "rust cargo librust-geo-types-dev"
+    "rust cargo librust-geo-types-dev librust-cc-dev"
     "python python3"
     "numpy python3-numpy"
     "pandas python3-pandas"
