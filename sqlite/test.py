@@ -93,7 +93,8 @@ same(
     "error: invalid well-known text: at character 8: a second number was expected",
 )
 # So it is with a dialect that changes.
-call = "group_concat(wkt_same('POINT(1 2 3)', 'POINT Z(1 2 3)', 18, iif(i < 2, 'untagged', 'ewkt')), '') from short where i < 3"
+same_in = "wkt_same('POINT(1 2 3)', 'POINT Z(1 2 3)', 18, iif(i < 2, 'untagged', 'ewkt'))"
+call = f"group_concat({same_in}, '') from short where i < 3"
 same(ask(db, call), "111")
 same(ask(db, call.replace("ewkt", "nan"))[:47], "error: invalid well-known text: at character 11")
 long = "LINESTRING(" + "12.345678 34.567891," * 100_000 + "0 0)"
@@ -153,6 +154,7 @@ with tempfile.TemporaryDirectory() as there:
         same(file.execute("select count(*) from t").fetchone(), (1,))
         same(file.execute("pragma integrity_check").fetchone(), ("ok",))
         file.close()
+
 
 def table(name):
     """The fields of each row, with its escapes read."""

@@ -5,8 +5,8 @@ First the texts of other projects' tests. Debian's source packages of SOURCES ar
 folder, or taken from the folder that SOURCES_DIR names. A text is a string in quotes, the content of an XML element, or
 a field between bars of expected output. It begins with a kind word, or with SRID= and one; behind that stand a
 dimension or none, and EMPTY or a parenthesis, but `POINT(2)` is the type of a column. It has letters, digits, white
-space and `()+-.,;=` alone, and no code joins more to it. So the 46 templates `SRID=@SRID@;..` of PostGIS's tests are none.
-Each is counted once in a package. Why one is refused is the first of REFUSED.
+space and `()+-.,;=` alone, and no code joins more to it. So the 46 templates `SRID=@SRID@;..` of PostGIS's tests are
+none. Each is counted once in a package. Why one is refused is the first of REFUSED.
 
 Then TEXTS (20,000) are generated: in each dialect, in all four, and damaged. The library reads each with all dialects,
 the others read it and its canonical text. Numbers are compared as doubles; a point of NaN is an empty one. Where a

@@ -16,8 +16,8 @@ texts.py, which shares nothing with it. The programs in one_answer/ call the fac
     same, itself         whether it names the geometry of another text; of itself
     srid                 the number of SRID=..; in front
 
-A quarter of the texts are in dialects, which are compared with the reader in in_dialects.py. Calls that take none aren't
-asked for these, and each face says how many of its forms of call take them.
+A quarter of the texts are in dialects, which are compared with the reader in in_dialects.py. Calls that take none
+aren't asked for these, and each face says how many of its forms of call take them.
 
 It needs the library and the programs in WKT_LIB_DIR (dist/out; `make -C dist` makes them), and what tests/needs.sh
 installs. SKIP=NAME,NAME leaves faces out: python, ctypes, rust, javascript, postgres, sqlite, programs.
@@ -134,18 +134,21 @@ class Compared:
         """The rows that every face takes: of ASCII, whole, with 18 places; without dialects, or with them."""
         for n, row in enumerate(self.rows):
             given = row.text + row.other
-            if bool(row.dialects) == in_dialects and row.places == 18 and row.whole and given.isascii() and b"\0" not in given and kind in self.right[n]:
+            plain = row.places == 18 and row.whole and given.isascii() and b"\0" not in given
+            if plain and bool(row.dialects) == in_dialects and kind in self.right[n]:
                 yield n
 
     def said(self):
         """How many answers were given, and each form that differs, with its shortest text; how many forms do."""
         forms, given, seconds = len(self.found), sum(self.found.values()), time.time() - self.began
-        print(f"{self.face}: {forms} forms, {given:,} answers in {seconds:.0f} s; {len(self.wrong)} forms differ", end="; ")
+        differ = f"{len(self.wrong)} forms differ"
+        print(f"{self.face}: {forms} forms, {given:,} answers in {seconds:.0f} s; {differ}", end="; ")
         print(f"{len(self.take)} take dialects" if self.take else "none takes dialects")
         for form, found in sorted(self.wrong.items()):
             _, n, answer, wanted = min(found)
             row = self.rows[n]
-            asked = f"{row.places} places" + ("" if row.whole else ", not whole") + (row.dialects and f", {row.dialects}")
+            asked = f"{row.places} places" + ("" if row.whole else ", not whole")
+            asked += row.dialects and f", {row.dialects}"
             asked += f", beside {row.other!r}" if form.startswith("same.") else ""
             print(f"  {form}: {len(found)} differ, as {row.text!r} ({asked}): {answer}, and not {wanted}")
         lacking = {form: rows for form, rows in self.missing.items() if rows}
