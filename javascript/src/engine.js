@@ -239,8 +239,8 @@ export class Engine {
     const answer = this.lay(most);
     this.answer = answer;
     try {
-      return this.calls.wkt_canonical(big(at), big(length), asked, big(answer), big(most), this.cellAt[0], this.cellAt[1],
-        big(room), big(size));
+      return this.calls.wkt_canonical(big(at), big(length), asked, big(room), big(size), big(answer), big(most),
+        this.cellAt[0], this.cellAt[1]);
     } catch (error) {
       if (error instanceof WebAssembly.RuntimeError) this.start();
       throw error;
@@ -298,7 +298,7 @@ export class Engine {
     if (asked <= MOST_PLAIN) {
       const [room, otherRoom] = [this.passed(2 * length + 65), this.passed(2 * otherLength + 65)];
       return this.call('wkt_same_ends', big(one), big(length), big(other), big(otherLength), asked,
-        cell[0], cell[1], cell[2], big(room[0]), big(room[1]), big(otherRoom[0]), big(otherRoom[1]));
+        big(room[0]), big(room[1]), big(otherRoom[0]), big(otherRoom[1]), cell[0], cell[1], cell[2]);
     }
     return this.inDialects(Math.max(length, otherLength), (times) => {
       const [read, otherRead] = [this.passed(times * length + 1), this.passed(times * otherLength + 1)];

@@ -12,17 +12,17 @@ use wkt_calls::status::{MEMORY, NOT_TEXT};
 pub(crate) fn canonical(
     text: &[u8],
     asked: u32,
+    room: &mut [u8],
     out: &mut [u8],
     needed: &mut usize,
     end: &mut usize,
-    room: &mut [u8],
 ) -> u32
     requires { places_in asked ≤ 36 }
     ensures answers { AnswersCanonical asked text.now result out.old out.new needed.old needed.new end.old end.new }
     ensures lacks { result ≡ MEMORY → length room.old < 2 * length text.now + 65 }
 {
     if text.len() > SHORT {
-        return canonical_long(text, asked, out, needed, end, room);
+        return canonical_long(text, asked, room, out, needed, end);
     }
     canonical_short(text, asked, out, needed, end)
 }
@@ -34,10 +34,10 @@ pub(crate) fn canonical(
 fn canonical_long(
     text: &[u8],
     asked: u32,
+    room: &mut [u8],
     out: &mut [u8],
     needed: &mut usize,
     end: &mut usize,
-    room: &mut [u8],
 ) -> u32
     requires places { places_in asked ≤ 36 }
     requires long { SHORT < length text.now }

@@ -39,7 +39,7 @@ pub(crate) fn answer(
 {
     let mut at = 0;
     let plain = without_dialects(asked);
-    let status = canonical(read.text, plain, out, needed, &mut at, room);
+    let status = canonical(read.text, plain, room, out, needed, &mut at);
     if !says_end(status) {
         return status;
     }
@@ -69,11 +69,11 @@ pub(crate) fn compare(
         one.text,
         other.text,
         without_dialects(asked),
+        room,
+        other_room,
         same,
         &mut at,
         &mut other_at,
-        room,
-        other_room,
     );
     if !says_end(status) {
         return status;

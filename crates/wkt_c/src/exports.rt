@@ -33,10 +33,10 @@ use wkt_num::Places;
 pub extern "C" fn wkt_canonical(
     text: &[u8],
     places: u32,
+    room: &mut [u8],
     out: &mut [u8],
     needed: &mut usize,
     end: &mut usize,
-    room: &mut [u8],
 ) -> u32
     ensures written { result ≡ DONE → (answer : List ℕ) × IsCanonicalOf (read_at (places_in places)) (print_at (places_in places)) text.now answer
         end.new × EndsAsAsked (asks_whole places) text.now end.new × IsHandedOut answer needed.new out.old out.new }
@@ -55,7 +55,7 @@ pub extern "C" fn wkt_canonical(
     if !has_places(places) {
         return NO_PLACES;
     }
-    canonical(text, places, out, needed, end, room)
+    canonical(text, places, room, out, needed, end)
 }
 
 /// Reports whether two texts begin with one geometry: `same` is 1 where their canonical texts are equal, and else
@@ -67,11 +67,11 @@ pub extern "C" fn wkt_same_ends(
     one: &[u8],
     other: &[u8],
     places: u32,
+    room: &mut [u8],
+    other_room: &mut [u8],
     same: &mut u32,
     end: &mut usize,
     other_end: &mut usize,
-    room: &mut [u8],
-    other_room: &mut [u8],
 ) -> u32
     ensures compared { result ≡ DONE → (answer : Bool) × Compares (read_at (places_in places)) (print_at (places_in places)) one.now other.now
         end.new other_end.new answer × (same.new ≡ same_number answer) }
@@ -114,9 +114,9 @@ pub extern "C" fn wkt_same(
     one: &[u8],
     other: &[u8],
     places: u32,
-    same: &mut u32,
     room: &mut [u8],
     other_room: &mut [u8],
+    same: &mut u32,
 ) -> u32
     ensures compared { result ≡ DONE → (end : ℕ) × (other_end : ℕ) × (answer : Bool)
         × Compares (read_at (places_in places)) (print_at (places_in places)) one.now other.now end other_end answer
@@ -138,11 +138,11 @@ pub extern "C" fn wkt_same(
         one,
         other,
         places,
+        room,
+        other_room,
         same,
         &mut end,
         &mut other_end,
-        room,
-        other_room,
     )
 }
 
