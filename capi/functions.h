@@ -8,8 +8,9 @@
  * and none where short texts need none; or the function is called again with those of the next `turn`. A size may be anything
  * that a caller says: more than any memory holds is counted as so many, so that no sum wraps.
  *
- * FUNCTION_IN_DIALECTS(name, LIST, ROOMS, parameters, passed, proved, call, ITS_ROOMS, its_proved, its_call): with dialects added
- * to `places`, which are more than MOST_PLAIN then, the proved function is name_in, which has the last three. */
+ * FUNCTION_IN_DIALECTS(name, LIST, ROOMS, ROOMLESS, parameters, passed, proved, call, ITS_ROOMS, its_proved, its_call): with
+ * dialects added to `places`, which are more than MOST_PLAIN then, the proved function is name_in, which has the last three.
+ * Where no room is needed, and ROOMLESS is SHORT, it may be name_short, which has the parameters of wkt.h. */
 #include "../include/wkt.h"
 
 /* All that can be asked for without a dialect is less. */
@@ -121,7 +122,7 @@ static inline uint64_t arrays_room(size_t numbers, uint32_t places, size_t rings
     ROOM(codes_room, uint32_t, counted(statuses_len))
 /* clang-format on */
 
-FUNCTION_IN_DIALECTS(wkt_canonical, CANONICAL, CANONICAL_ROOMS,
+FUNCTION_IN_DIALECTS(wkt_canonical, CANONICAL, CANONICAL_ROOMS, SHORT,
                      (const uint8_t *text, size_t text_len, uint32_t places, uint8_t *out, size_t out_len,
                       size_t *needed, size_t *end),
                      (text, text_len, places, out, out_len, needed, end),
@@ -132,7 +133,7 @@ FUNCTION_IN_DIALECTS(wkt_canonical, CANONICAL, CANONICAL_ROOMS,
                       uint8_t *room, size_t room_len, uint8_t *out, size_t out_len, size_t *needed, size_t *end),
                      (text, text_len, places, read_room, read_room_len, room, room_len, out, out_len, needed, end))
 
-FUNCTION_IN_DIALECTS(wkt_same, SAME, SAME_ROOMS,
+FUNCTION_IN_DIALECTS(wkt_same, SAME, SAME_ROOMS, SHORT,
                      (const uint8_t *one, size_t one_len, const uint8_t *other, size_t other_len, uint32_t places,
                       uint32_t *same),
                      (one, one_len, other, other_len, places, same),
@@ -147,7 +148,7 @@ FUNCTION_IN_DIALECTS(wkt_same, SAME, SAME_ROOMS,
                       other_read_room_len, room, room_len, other_room, other_room_len, same))
 
 FUNCTION_IN_DIALECTS(
-    wkt_same_ends, SAME_ENDS, SAME_ROOMS,
+    wkt_same_ends, SAME_ENDS, SAME_ROOMS, WITH_NONE,
     (const uint8_t *one, size_t one_len, const uint8_t *other, size_t other_len, uint32_t places, uint32_t *same,
      size_t *end, size_t *other_end),
     (one, one_len, other, other_len, places, same, end, other_end),
@@ -161,7 +162,7 @@ FUNCTION_IN_DIALECTS(
     (one, one_len, other, other_len, places, read_room, read_room_len, other_read_room, other_read_room_len, room,
      room_len, other_room, other_room_len, same, end, other_end))
 
-FUNCTION_IN_DIALECTS(wkt_explain, EXPLAIN, NO_ROOMS,
+FUNCTION_IN_DIALECTS(wkt_explain, EXPLAIN, NO_ROOMS, WITH_NONE,
                      (const uint8_t *text, size_t text_len, uint32_t places, uint32_t *message, size_t *start,
                       size_t *stop, uint32_t *expected),
                      (text, text_len, places, message, start, stop, expected),
@@ -172,13 +173,12 @@ FUNCTION_IN_DIALECTS(wkt_explain, EXPLAIN, NO_ROOMS,
                       uint32_t *message, size_t *start, size_t *stop, uint32_t *expected),
                      (text, text_len, places, read_room, read_room_len, message, start, stop, expected))
 
-FUNCTION_IN_DIALECTS(wkt_hint, HINT, NO_ROOMS, (const uint8_t *text, size_t text_len, uint32_t places, uint32_t *hint),
-                     (text, text_len, places, hint),
-                     (const uint8_t *text, size_t text_len, uint32_t places, uint32_t *hint),
-                     (text, text_len, places, hint), READ_ROOMS,
-                     (const uint8_t *text, size_t text_len, uint32_t places, uint8_t *read_room, size_t read_room_len,
-                      uint32_t *hint),
-                     (text, text_len, places, read_room, read_room_len, hint))
+FUNCTION_IN_DIALECTS(
+    wkt_hint, HINT, NO_ROOMS, WITH_NONE, (const uint8_t *text, size_t text_len, uint32_t places, uint32_t *hint),
+    (text, text_len, places, hint), (const uint8_t *text, size_t text_len, uint32_t places, uint32_t *hint),
+    (text, text_len, places, hint), READ_ROOMS,
+    (const uint8_t *text, size_t text_len, uint32_t places, uint8_t *read_room, size_t read_room_len, uint32_t *hint),
+    (text, text_len, places, read_room, read_room_len, hint))
 
 FUNCTION(wkt_srid, SRID, (const uint8_t *text, size_t text_len, uint32_t *srid, size_t *end),
          (text, text_len, srid, end))
@@ -216,7 +216,7 @@ FUNCTION_IN_ROOMS(
     (texts, texts_len, offsets, offsets_len, valid, valid_len, places, room, room_len, ends_room, ends_room_len,
      codes_room, codes_room_len, out, out_len, out_offsets, out_offsets_len, statuses, statuses_len, needed))
 
-FUNCTION_IN_DIALECTS(wkt_arrays, ARRAYS, ARRAYS_ROOMS,
+FUNCTION_IN_DIALECTS(wkt_arrays, ARRAYS, ARRAYS_ROOMS, WITH_NONE,
                      (const uint8_t *text, size_t text_len, uint32_t places, WktSizes *sizes, int64_t *numbers,
                       size_t numbers_len, size_t *rings, size_t rings_len, size_t *polygons, size_t polygons_len),
                      (text, text_len, places, sizes, numbers, numbers_len, rings, rings_len, polygons, polygons_len),

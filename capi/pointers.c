@@ -58,7 +58,7 @@ static int64_t nothing;
 #ifdef WKT_NO_ROOMS
 #define FUNCTION_IN_ROOMS(name, LIST, ROOMS, parameters, passed, proved_parameters, call) \
     FUNCTION(name, LIST, parameters, passed)
-#define FUNCTION_IN_DIALECTS(name, LIST, ROOMS, parameters, passed, proved_parameters, call, ITS_ROOMS, \
+#define FUNCTION_IN_DIALECTS(name, LIST, ROOMS, ROOMLESS, parameters, passed, proved_parameters, call, ITS_ROOMS, \
                              its_parameters, its_call) \
     extern __typeof__(name) proved_##name, proved_##name##_in; \
     CHECKED(name, LIST, parameters, passed, proved_##name, ASKS_DIALECTS, proved_##name##_in)
@@ -66,7 +66,9 @@ static int64_t nothing;
 #define SIZE_OF(it, type, count) size_t it##_len = (size_t)(count);
 #define SUM_OF(it, type, count) +((it##_len * sizeof(type) + 7) & ~(size_t)7)
 #define NO_ITEM(it, type, count) it##_len = 0;
-#define NO_ROOM(it, type, count) type *it = (type *)&nothing;
+#define NO_ROOM(it, type, count) \
+    type *it = (type *)&nothing; \
+    (void)it;
 #define PLACED(it, type, count) \
     type *it = (type *)(void *)at; \
     at += (it##_len * sizeof(type) + 7) & ~(size_t)7;
@@ -91,25 +93,31 @@ static int64_t nothing;
             before = sum; \
         } \
     }
-#define UNCHECKED(name, ROOMS, parameters, passed, call) \
+#define WITH_NONE(name, passed, call) proved_##name call
+#define SHORT(name, passed, call) proved_##name##_short passed
+#define UNCHECKED(name, ROOMS, ROOMLESS, parameters, passed, call) \
     static inline wkt_status unchecked_##name parameters { \
         const unsigned turn = 0; \
         ROOMS(SIZE_OF) \
         ROOMS(NO_ROOM) \
         (void)turn; \
         if (__builtin_expect(((size_t)0 ROOMS(SUM_OF)) != 0, 0)) return roomy_##name passed; \
-        return proved_##name call; \
+        return ROOMLESS(name, passed, call); \
     }
 #define FUNCTION_IN_ROOMS(name, LIST, ROOMS, parameters, passed, proved_parameters, call) \
     ROOMY(name, ROOMS, parameters, proved_parameters, call) \
-    UNCHECKED(name, ROOMS, parameters, passed, call) \
+    UNCHECKED(name, ROOMS, WITH_NONE, parameters, passed, call) \
     CHECKED(name, LIST, parameters, passed, unchecked_##name, 0, unchecked_##name)
-#define FUNCTION_IN_DIALECTS(name, LIST, ROOMS, parameters, passed, proved_parameters, call, ITS_ROOMS, \
+#define FUNCTION_IN_DIALECTS(name, LIST, ROOMS, ROOMLESS, parameters, passed, proved_parameters, call, ITS_ROOMS, \
                              its_parameters, its_call) \
     ROOMY(name, ROOMS, parameters, proved_parameters, call) \
-    UNCHECKED(name, ROOMS, parameters, passed, call) \
+    UNCHECKED(name, ROOMS, ROOMLESS, parameters, passed, call) \
     ROOMY(name##_in, ITS_ROOMS, parameters, its_parameters, its_call) \
     CHECKED(name, LIST, parameters, passed, unchecked_##name, ASKS_DIALECTS, roomy_##name##_in)
 #endif
+
+/* For short texts, where rooms that are none would cost a twentieth of a call. */
+extern __typeof__(wkt_canonical) proved_wkt_canonical_short;
+extern __typeof__(wkt_same) proved_wkt_same_short;
 
 #include "functions.h"

@@ -236,7 +236,8 @@ static void take(machine *m, uint64_t from, unsigned width, void *to, size_t cou
 #define FUNCTION(name, LIST, parameters, passed) MACHINE_FUNCTION(name, LIST, 1, NO_ROOMS, parameters, passed, passed)
 #define FUNCTION_IN_ROOMS(name, LIST, ROOMS, parameters, passed, proved, call) \
     MACHINE_FUNCTION(name, LIST, 1, ROOMS, parameters, passed, call)
-#define FUNCTION_IN_DIALECTS(name, LIST, ROOMS, parameters, passed, proved, call, ITS_ROOMS, its_proved, its_call) \
+#define FUNCTION_IN_DIALECTS(name, LIST, ROOMS, ROOMLESS, parameters, passed, proved, call, ITS_ROOMS, its_proved, \
+                             its_call) \
     MACHINE_FUNCTION(name, LIST, 1, ROOMS, parameters, passed, call) \
     MACHINE_FUNCTION(name##_in, LIST, 12, ITS_ROOMS, parameters, passed, its_call)
 

@@ -23,7 +23,7 @@ ALIKE = {"wkt_status": "u32", "uint32_t": "u32", "uint8_t": "u8", "size_t": "64"
 EXPORT = r'extern "C" fn (wkt_\w+)\(([^()]*)\)\s*->\s*u32'
 STRUCT = r"#\[repr\(C\)\]\s*#\[derive[^\n]*\s*pub struct (?P<name>\w+) \{(?P<body>.*?)\}"
 # Behind the name of a proved function that is called where dialects are asked for.
-IN = "_in"
+IN, SHORT = "_in", "_short"
 # A list in parentheses behind a comma.
 LISTED = r",\s*\(([^()]*)\)"
 
@@ -83,7 +83,7 @@ def fields_of_c(body):
 def listed(text):
     """Of each function of functions.h: its parameters, what is passed on, its buffers and results in their order, with
     the width of each, its rooms, and the parameters of the proved function with what it is passed. The one in dialects
-    is a function, too."""
+    is a function, too, and so is the one for short texts."""
     body = r"((?:[^\n]*\\\n)*[^\n]*)"
     has = {name: re.findall(r"(GIVEN|ANSWER|RESULTS?)\((\w+)(?:, (\d+))?", it)
            for name, it in re.findall(rf"#define (\w+)\(GIVEN, ANSWER, RESULT, RESULTS\) {body}", text)}
@@ -95,8 +95,10 @@ def listed(text):
     roomy = rf"^FUNCTION_IN_ROOMS\(\s*(\w+), (\w+), (\w+){LISTED * 4}\)"
     for name, its, within, given, passed, taken, call in re.findall(roomy, text, re.S | re.M):
         found[name] = (of_c(given), parameters(passed), has[its], rooms[within], of_c(taken), parameters(call))
-    both = rf"^FUNCTION_IN_DIALECTS\(\s*(\w+), (\w+), (\w+){LISTED * 4},\s*(\w+){LISTED * 2}\)"
-    for name, its, within, given, passed, *proved in re.findall(both, text, re.S | re.M):
+    both = rf"^FUNCTION_IN_DIALECTS\(\s*(\w+), (\w+), (\w+),\s*(\w+){LISTED * 4},\s*(\w+){LISTED * 2}\)"
+    for name, its, within, roomless, given, passed, *proved in re.findall(both, text, re.S | re.M):
+        if roomless == "SHORT":
+            found[name + SHORT] = (of_c(given), parameters(passed), has[its], [], of_c(given), parameters(passed))
         for end, at, (taken, call) in ("", within, proved[:2]), (IN, proved[2], proved[3:]):
             found[name + end] = (of_c(given), parameters(passed), has[its], rooms[at], of_c(taken), parameters(call))
     return found
@@ -133,7 +135,7 @@ def differences(texts):
     lists = listed(texts[LISTS])
     proved = {name: it[4] for name, it in lists.items()}
     yield from named("what wkt_c exports and what functions.h has", proved, exported)
-    called = {name: one[0] for name, one in lists.items() if not name.endswith(IN)}
+    called = {name: one[0] for name, one in lists.items() if not name.endswith((IN, SHORT))}
     yield from named("what functions.h has and what wkt.h declares", declared, called)
     here = {name: declared.get(name) for name in in_rust}
     yield from named("what ffi.rs declares and what wkt.h declares", here, in_rust)
@@ -152,9 +154,7 @@ def differences(texts):
         made.update(structs(STRUCT, texts[one], of_rust))
     rust = structs(STRUCT, texts[RUST], of_rust)
     yield from named("the structs of the crates and of wkt.h", c_structs, made)
-    # ffi.rs has a number of wkt_read_events as an array.
-    listed_there = {name: fields for name, fields in c_structs.items() if name != "WktUnits"}
-    yield from named("the structs of ffi.rs and of wkt.h", listed_there, rust)
+    yield from named("the structs of ffi.rs and of wkt.h", c_structs, rust)
 
 
 def named(what, wanted, found):
