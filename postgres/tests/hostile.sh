@@ -20,7 +20,8 @@ odd="create function odd(type regtype) returns text[] language sql as \$\$ selec
 calls="select format('select %s(%s)', p.oid::regproc, concat_ws(', ', a.v || '::' || type[0]::regtype, b.v || '::' || type[1]::regtype, c.v || '::' || type[2]::regtype, d.v || '::' || type[3]::regtype))
     from pg_proc p join pg_depend on classid = 'pg_proc'::regclass and objid = p.oid and deptype = 'e' join pg_extension e on e.oid = refobjid and extname = 'wkt',
         lateral (select proargtypes::oid[] as type) t, unnest(coalesce(odd(type[0]), '{null}')) a(v), unnest(coalesce(odd(type[1]), '{null}')) b(v), unnest(coalesce(odd(type[2]), '{null}')) c(v), unnest(coalesce(odd(type[3]), '{null}')) d(v)
-    where pronargs between 1 and 4 and 'internal'::regtype <> all (type) and (d.v is null or d.v = quote_literal('ewkt,exponents'))"
+    where pronargs between 1 and 4 and 'internal'::regtype <> all (type) and (d.v is null or d.v = quote_literal('ewkt,exponents'))
+        and (type[2] is distinct from 'text'::regtype or c.v ~ 'ewkt|nan|chr|null')"
 stranger "create schema tried" "set search_path = tried, public" "$odd" "create table calls as $calls" \
     "create function answered(call text) returns text language plpgsql as \$\$ begin execute call; return 'answered'; exception when others then return sqlstate || ' ' || sqlerrm; end \$\$" \
     "create table answers as select answered(format) as said, count(*) as n, min(format) as call from calls group by 1"
