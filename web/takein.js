@@ -18,14 +18,17 @@ function openIn(cell) {
   return depth;
 }
 
+/** A cell without what the dialect srid leaves out. */
+const withoutSrid = (cell) => cell.trim().replace(/^srid=[0-9]{1,9};/i, '');
+
 /** Whether a cell is a text, to the end of its parentheses. */
 function isText(cell) {
-  const text = cell.trim();
+  const text = withoutSrid(cell);
   return isKind(firstWord(text)) && (/\bempty$/i.test(text) || (text.endsWith(')') && openIn(text) === 0));
 }
 
 /** Whether a delimiter cuts a text: then it is none. */
-const isCut = (cell) => isKind(firstWord(cell)) && openIn(cell) > 0;
+const isCut = (cell) => isKind(firstWord(withoutSrid(cell))) && openIn(cell) > 0;
 
 /** Records of a CSV (RFC 4180), each with its cells and its line. A quote inside of a cell is doubled. */
 export function* records(text, delimiter) {

@@ -18,6 +18,7 @@ const FORMS = [
   ['"POINT(1 2)"\n\n\'POINT(3 4)\',\n', ['quotes'], [['POINT(1 2)', 'POINT(3 4)']]],
   ['id,geom\n1,"LINESTRING(0 0,1 1)"\n2,"POINT(1\n2)"\n3,\n', ['csv geom'], [['LINESTRING(0 0,1 1)', 'POINT(1 2)']]],
   ['POINT(1 2);a ""b"";POINT EMPTY\r\nPOINT(3 4);;POINT(5 6)\r\n', ['csv 1', 'csv 3'], [['POINT(1 2)', 'POINT(3 4)'], ['POINT EMPTY', 'POINT(5 6)']]],
+  ['id,geom\n1,"SRID=4326;LINESTRING(0 0,1 1)"\n2,SRID=4326;POINT EMPTY\n', ['csv geom'], [['SRID=4326;LINESTRING(0 0,1 1)', 'SRID=4326;POINT EMPTY']]],
   ['name\tthe_geom\nx\tPOLYGON((0 0,1 0,1 1,0 0))\n', ['csv the_geom'], [['POLYGON((0 0,1 0,1 1,0 0))']]],
   ['{"type":"Point","coordinates":[0.1,12345678901234567890]}', ['geojson'], [['POINT(0.1 12345678901234567890)']]],
   ['{"type":"FeatureCollection","features":[{"type":"Feature","geometry":{"type":"Point","coordinates":[1,2,3]}},{"type":"Feature","geometry":null}]}',

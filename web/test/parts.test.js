@@ -17,6 +17,7 @@ const SPLITS = [
   ['MULTIPOINT(1 2,\nEMPTY)', true], ['FOO\nPOINT(1 2)', false], ['POINT(1 2))\n(3 4)', false], [`POINT(${' '.repeat(1e6)}1\n2)`, true],
 ];
 test('one geometry over lines, or one on each line', () => {
+  for (const text of ['MULTIPOINT(1 2,\nnan nan)', 'SRID=4326;LINESTRING(\n1e1 2,\n3 4)']) assert.equal(piecesOf(text, 'auto').length, 1, text);
   for (const [text, one] of SPLITS) assert.equal(piecesOf(text, 'auto').length < 2, one, text.slice(0, 60));
 });
 
