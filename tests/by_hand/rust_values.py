@@ -3,10 +3,10 @@
 
     cargo build --release --manifest-path rust/Cargo.toml --example values
     cargo build --release --manifest-path bench/rust/Cargo.toml
-    tests/by_hand/rust_values.py rust/target/release/examples/values bench/rust/target/release/values [COUNT]
+    tests/by_hand/rust_values.py rust/target/release/examples/values bench/rust/target/release/values [COUNT [SEED]]
 
-The texts are those of texts.py, COUNT of them (350000), some of them damaged. Each difference has to fall under a row
-of rust/FROM_WKT.md; the first that don't are printed, and the status is 1.
+The texts are those of texts.py, COUNT of them (350000), some of them damaged; SEED (7) says which. Each difference has to
+fall under a row of rust/FROM_WKT.md; the first that don't are printed, and the status is 1.
 """
 import collections
 import random
@@ -20,8 +20,8 @@ VALUE = re.compile(r"(Point|LineString|Polygon|MultiPoint|MultiLineString|MultiP
 NUMBER = re.compile(r"expected \((numbers have at most|the number is too large|exponents|NaN)")
 
 
-def generated(count):
-    chance = random.Random(7)
+def generated(count, seed):
+    chance = random.Random(seed)
     kept = [text.encode() for text in texts.kept_texts()]
     for i in range(count):
         places = chance.choice([0, 1, 3, 6, 6, 6, 9, 12, 15, 15, 17, 18])
@@ -40,13 +40,14 @@ def both_read(here, there, shown_here, shown_there):
         rows.append("a panic")
     elif shown_here != shown_there:
         text = re.sub(r"-0(?![.\d])", "0", shown_there)
-        rows.append("the text, by ()" if "()" in text else
-                    "the text, by the sign of zero" if text == shown_here else "")
+        largest = text.replace("170141183460469240000", "170141183460469231731")
+        rows.append("the text, by ()" if "()" in text else "the text, by the sign of zero" if text == shown_here else
+                    "the text, of the largest number" if largest == shown_here else "")
     return " and ".join(rows) if rows[-1] else None
 
 
-def row(text, here, there, shown_here, shown_there):
-    """Why two answers differ, or None where no row explains it."""
+def row(number, text, here, there, shown_here, shown_there):
+    """Why two answers differ over a type of numbers, or None where no row explains it."""
     if VALUE.match(here) and VALUE.match(there):
         return both_read(here, there, shown_here, shown_there)
     if b"\0" in text:
@@ -65,6 +66,8 @@ def row(text, here, there, shown_here, shown_there):
     if not VALUE.match(there):
         if re.search(rb"[\d.][eE][-+]?\d|nan|inf|\d\.", text, re.I) or b"EMPTY" in text.upper():
             return "another message"
+        if number == "i64" and re.search(rb"\.\d|\d{19}", text):
+            return "another message"
     return None
 
 
@@ -77,12 +80,14 @@ def main():
     if len(sys.argv) < 3:
         print(__doc__.strip())
         return 2
-    given = list(generated(int(sys.argv[3]) if len(sys.argv) > 3 else 350000))
+    words = [int(word) for word in sys.argv[3:]]
+    count, seed = words + [350000, 7][len(words):]
+    given = list(generated(count, seed))
     lines = "".join(text.hex() + "\n" for text in given).encode()
     counts = collections.Counter()
     for text, here, there in zip(given, *(answers(program, lines) for program in sys.argv[1:3])):
         for number, i in (("f64", 0), ("i64", 2)):
-            why = row(text, here[i], there[i], here[i + 1], there[i + 1])
+            why = row(number, text, here[i], there[i], here[i + 1], there[i + 1])
             counts[number, why] += 1
             if why is None and counts[number, why] <= 10:
                 print(text, here[i : i + 2], there[i : i + 2], sep="\n    ")
