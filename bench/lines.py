@@ -2,10 +2,10 @@
 """Writes the workloads: lines.py mixed|points|polygons|nested|refused|empty DECIMALS BYTES > FILE.
 
 `points` are lines of one POINT each, `polygons` of one POLYGON; `mixed` are lines of all kinds, short and long;
-`nested` are collections in collections, up to eight levels; `refused` are points with a fault each; `empty` are lines with nothing in them. Half of
-the lines have a space after the kind word and after each comma, as some databases print them. Numbers have DECIMALS
-decimals, from 0 to 14 or from 16 on; where DECIMALS is 15, thirteen to fifteen. The same arguments give the same bytes
-on every machine.
+`nested` are collections in collections, up to eight levels; `refused` are points with a fault each; `empty` are lines
+with nothing in them. Half of the lines have a space after the kind word and after each comma, as some databases print
+them. Numbers have DECIMALS decimals, from 0 to 14 or from 16 on; where DECIMALS is 15, thirteen to fifteen. The same
+arguments give the same bytes on every machine.
 """
 import sys
 

@@ -5,8 +5,8 @@
     cargo build --release --manifest-path bench/rust/Cargo.toml
     tests/by_hand/rust_values.py rust/target/release/examples/values bench/rust/target/release/values [COUNT [SEED]]
 
-The texts are those of texts.py, COUNT of them (350000), some of them damaged; SEED (7) says which. Each difference has to
-fall under a row of rust/FROM_WKT.md; the first that don't are printed, and the status is 1.
+The texts are those of texts.py, COUNT of them (350000), some of them damaged; SEED (7) says which. Each difference has
+to fall under a row of rust/FROM_WKT.md; the first that don't are printed, and the status is 1.
 """
 import collections
 import random
