@@ -100,39 +100,49 @@ impl<'a> Events<'a> {
         Ok(Polygon::new(rings, dim))
     }
 
+    /// A geometry in so many collections.
     fn geometry<T: WktNum>(&mut self, level: usize) -> Result<Wkt<T>, Error> {
         let (kind, dim) = self.begin()?;
-        Ok(match kind {
-            GeometryType::Point => {
-                let point = self.point(dim)?;
-                self.ended(point)?.into()
-            }
-            GeometryType::LineString => {
-                let line = self.line(dim)?;
-                self.ended(line)?.into()
-            }
-            GeometryType::Polygon => self.polygon(dim)?.into(),
-            GeometryType::MultiPoint => {
-                let points = self.parts(self.before_end(), |events| events.point(dim))?;
-                MultiPoint::new(points, dim).into()
-            }
-            GeometryType::MultiLineString => {
-                let lines = self.parts(self.before_end(), |events| events.line(dim))?;
-                MultiLineString::new(lines, dim).into()
-            }
-            GeometryType::MultiPolygon => {
-                let polygons = self.parts(0, |events| {
+        match kind {
+            GeometryType::Point => self.made(|events| {
+                let point = events.point(dim)?;
+                events.ended(point)
+            }),
+            GeometryType::LineString => self.made(|events| {
+                let line = events.line(dim)?;
+                events.ended(line)
+            }),
+            GeometryType::Polygon => self.made(|events| events.polygon(dim)),
+            GeometryType::MultiPoint => self.made(|events| {
+                let points = events.parts(events.before_end(), |events| events.point(dim))?;
+                Ok(MultiPoint::new(points, dim))
+            }),
+            GeometryType::MultiLineString => self.made(|events| {
+                let lines = events.parts(events.before_end(), |events| events.line(dim))?;
+                Ok(MultiLineString::new(lines, dim))
+            }),
+            GeometryType::MultiPolygon => self.made(|events| {
+                let polygons = events.parts(0, |events| {
                     let (_, dim) = events.begin()?;
                     events.polygon(dim)
                 })?;
-                MultiPolygon::new(polygons, dim).into()
-            }
-            GeometryType::GeometryCollection if level == MOST_LEVELS => return Err(TOO_DEEP),
-            GeometryType::GeometryCollection => {
-                let members = self.parts(0, |events| events.geometry(level + 1))?;
-                GeometryCollection::new(members, dim).into()
-            }
-        })
+                Ok(MultiPolygon::new(polygons, dim))
+            }),
+            GeometryType::GeometryCollection if level == MOST_LEVELS => Err(TOO_DEEP),
+            GeometryType::GeometryCollection => self.made(|events| {
+                let members = events.parts(0, |events| events.geometry(level + 1))?;
+                Ok(GeometryCollection::new(members, dim))
+            }),
+        }
+    }
+
+    /// What is made of a kind. Each has a frame of its own on the stack, so that collections in one another take little of it.
+    #[inline]
+    fn made<T, G: Into<Wkt<T>>>(
+        &mut self,
+        make: impl FnOnce(&mut Self) -> Result<G, Error>,
+    ) -> Result<Wkt<T>, Error> {
+        Ok(make(self)?.into())
     }
 }
 
