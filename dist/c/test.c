@@ -179,7 +179,7 @@ static char *large(size_t size, int points) {
 }
 
 static void gives_back(void) {
-    const size_t size = ((size_t)30 << 20) + 11 - ((size_t)30 << 20) % 4;
+    const size_t size = ((size_t)6 << 20) + 11;
     char *text = large(size, 0), *line = large(size, 1);
     uint8_t *out = malloc(size);
     size_t needed = 0, end = 0, count, i;
