@@ -24,9 +24,9 @@ quiet() {
 python3 tests/fuzz/seeds.py "$dir/texts" crates/wkt_tables/stdin crates/wktline/stdin tests/fuzz/corpus.txt || fail "no texts"
 # answered FOLDER: what its library answers to them, in FOLDER/answered
 answered() {
-    local run=${2:-}
-    quiet "$1: answers.c isn't compiled" "${cc[@]}" -Wall -Wextra -Werror -I"$1" tests/gate/answers.c "$1/libwkt.a" ${link[@]+"${link[@]}"} -o "$1/answers"
-    (cd "$dir/texts" && find . -type f -print0 | LC_ALL=C sort -z | xargs -0 -n 500 $run "$1/answers" | tr -d '\r') > "$1/answered" || fail "$1: a call ends the program"
+    local run=${2:-} exe=${3:-}
+    quiet "$1: answers.c isn't compiled" "${cc[@]}" -Wall -Wextra -Werror -I"$1" tests/gate/answers.c "$1/libwkt.a" ${link[@]+"${link[@]}"} -o "$1/answers$exe"
+    (cd "$dir/texts" && find . -type f -print0 | LC_ALL=C sort -z | xargs -0 -n 500 $run "$1/answers$exe" | tr -d '\r') > "$1/answered" || fail "$1: a call ends the program"
 }
 # as_objects FOLDER WHAT
 as_objects() {
@@ -63,10 +63,10 @@ generated() {
 
 # system NAME
 system() {
-    local run='' packages flags=-O2 out=$dir/$1
+    local run='' exe='' packages flags=-O2 out=$dir/$1
     link=()
     case $1 in
-        windows) cc=(x86_64-w64-mingw32-gcc-posix) run=wine link=(-static) packages="gcc-mingw-w64-x86-64-posix wine64 wine" ;;
+        windows) cc=(x86_64-w64-mingw32-gcc-posix) run=wine exe=.exe link=(-static) packages="gcc-mingw-w64-x86-64-posix wine64 wine" ;;
         s390x | aarch64 | riscv64) cc=("$1-linux-gnu-gcc") run="qemu-$1-static -L /usr/$1-linux-gnu" packages="gcc-$1-linux-gnu libc6-dev-$1-cross qemu-user-static" ;;
         armhf) cc=(arm-linux-gnueabihf-gcc) run="qemu-arm-static -L /usr/arm-linux-gnueabihf" packages="gcc-arm-linux-gnueabihf qemu-user-static" ;;
         m32) cc=(gcc -m32) packages="gcc-12-multilib libc6-dev-i386" ;;
@@ -76,7 +76,7 @@ system() {
     command -v "${cc[0]}" > /dev/null && { [ -z "$run" ] || command -v "${run%% *}" > /dev/null; } || fail "$1: install ${packages/dev-aarch64/dev-arm64}"
     export WINEDEBUG=-all WINEPREFIX=$dir/wine
     quiet "$1: the tests fail" env WKT_C_LIB=portable make -s -C dist tests O="$out" CC="${cc[*]}" RUN="$run" CFLAGS="$flags" LDFLAGS="${link[*]-}"
-    answered "$out" "$run"
+    answered "$out" "$run" "$exe"
     as_objects "$out" "$1"
     [ "$1" != windows ] || lines_of_windows "$out"
     rm -r "$out"
