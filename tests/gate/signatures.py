@@ -176,7 +176,7 @@ CHANGES = [
     (RUST, "pub rings: usize,\n    pub polygons: usize,", "pub polygons: usize,\n    pub rings: usize,"),
     (RUST, "last: u32,\n", ""),
     (RUST, "pub high: i64,", "pub high: u32,"),
-    (ENGINE, "big(rooms[0]), big(sizes[0]), ", ""),
+    (ENGINE, "big(room[0]), big(room[1]), ", ""),
     (LINES, "last ? 1 : 0,", ""),
     (EXPORTS[0], "same: &mut u32,\n    end: &mut usize,", "end: &mut usize,\n    same: &mut u32,"),
     (EXPORTS[1], "numbers: &[i64],", "numbers: &mut [i64],"),
