@@ -135,7 +135,7 @@ module _ (P : ℤ → Type 0) (d : Dimension) where
       let a' = length-append (numbers_in p) (flat_map numbers_in ps) in
       let b' = length-append (numbers_in q) (flat_map numbers_in qs) in
       let first = rings-one p q (areas ps ++ (ends ∷ xs)) (areas qs ++ (ends ∷ ys)) (flat_map numbers_in ps ++ ms) (flat_map numbers_in qs ++ ks) f.0 g.0 (omega (arith, a, a')) (omega (arith, b, b')) tail
-          (sym (append_assoc (numbers_in p) (flat_map numbers_in ps) ms) ∙ h ∙ append_assoc (numbers_in q) (flat_map numbers_in qs) ks) in
+      (sym (append_assoc (numbers_in p) (flat_map numbers_in ps) ms) ∙ h ∙ append_assoc (numbers_in q) (flat_map numbers_in qs) ks) in
       let rest = areas-one ps qs xs ys ms ks f.1 g.1 (omega (arith, a, a')) (omega (arith, b, b')) first.1 first.2 in
       (ap₂ (λ x y. x ∷ y) first.0 rest.0, rest.1, rest.2)
 
@@ -231,13 +231,13 @@ module _ (P : ℤ → Type 0) where
         (ap₂ Value.multi_line_string same one.0, one.1, one.2)
     value-one (Value.multi_point d ps) (Value.multi_point e qs) xs ys ms ks f g a b kk same i h =
         let one = lists-one d e (map option_to_list ps) (map option_to_list qs) xs ys ms ks (members-fit P d ps f) (members-fit P e qs g)
-            (subst (λ l. length l < 2 ^ 63) (members-numbers ps) a) (subst (λ l. length l < 2 ^ 63) (members-numbers qs) b) same
-            (ap (λ l. l ++ (ends ∷ xs)) (sym (members-lengths ps)) ∙ i ∙ ap (λ l. l ++ (ends ∷ ys)) (members-lengths qs))
-            (ap (λ l. l ++ ms) (sym (members-numbers ps)) ∙ h ∙ ap (λ l. l ++ ks) (members-numbers qs)) in
+        (subst (λ l. length l < 2 ^ 63) (members-numbers ps) a) (subst (λ l. length l < 2 ^ 63) (members-numbers qs) b) same
+        (ap (λ l. l ++ (ends ∷ xs)) (sym (members-lengths ps)) ∙ i ∙ ap (λ l. l ++ (ends ∷ ys)) (members-lengths qs))
+        (ap (λ l. l ++ ms) (sym (members-numbers ps)) ∙ h ∙ ap (λ l. l ++ ks) (members-numbers qs)) in
         (ap₂ Value.multi_point same (options-one ps qs one.0), one.1, one.2)
     value-one (Value.multi_polygon d ps) (Value.multi_polygon e qs) xs ys ms ks f g a b kk same i h =
         let one = areas-one P d ps qs xs ys ms ks f (subst (λ x. AllByRecursion (PolygonFits P x) qs) (sym same) g) a b
-            (subst (λ x. areas P d ps ++ (ends ∷ xs) ≡ areas P x qs ++ (ends ∷ ys)) (sym same) i) h in
+        (subst (λ x. areas P d ps ++ (ends ∷ xs) ≡ areas P x qs ++ (ends ∷ ys)) (sym same) i) h in
         (ap₂ Value.multi_polygon same one.0, one.1, one.2)
     value-one (Value.collection d vs) (Value.collection e us) xs ys ms ks f g a b kk same i h =
         let one = values-one vs us xs ys ms ks f g a b i h in
@@ -260,7 +260,7 @@ module _ (P : ℤ → Type 0) where
         let b' = length-append (number_list u) (number_lists us) in
         let (kk, same, inner) = heads v u (event_lists vs ++ (ends ∷ xs)) (event_lists us ++ (ends ∷ ys)) (sym (append_assoc (event_list v) (event_lists vs) (ends ∷ xs)) ∙ i ∙ append_assoc (event_list u) (event_lists us) (ends ∷ ys)) in
         let first = value-one v u (event_lists vs ++ (ends ∷ xs)) (event_lists us ++ (ends ∷ ys)) (number_lists vs ++ ms) (number_lists us ++ ks) f.0 g.0 (omega (arith, a, a')) (omega (arith, b, b')) kk same inner
-            (sym (append_assoc (number_list v) (number_lists vs) ms) ∙ h ∙ append_assoc (number_list u) (number_lists us) ks) in
+        (sym (append_assoc (number_list v) (number_lists vs) ms) ∙ h ∙ append_assoc (number_list u) (number_lists us) ks) in
         let rest = values-one vs us xs ys ms ks f.1 g.1 (omega (arith, a, a')) (omega (arith, b, b')) first.1 first.2 in
         (ap₂ Values.more_values first.0 rest.0, rest.1, rest.2)
 

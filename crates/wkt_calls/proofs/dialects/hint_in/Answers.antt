@@ -18,15 +18,15 @@ hinted asked plain text r w hint places number is read utf8 refusal few hint-is 
   as_read = read;
   utf8 = utf8;
   some = λ n e. let same : number ≡ n = cc in
-    subst (λ m. IsHinted (read_at (places_in m)) (places_in m) r.text.now n) is (record {
-      utf8 = utf8;
-      no_front = refusal.none;
-      start = w.start;
-      stop = w.end;
-      what = w.expected;
-      refused = refusal.place;
-      number_is = sym same ∙ number-is ∙ ap hint_number (hint-is ∙ ap (λ p. hint_at r.text.now w.start w.end w.expected p) few);
-    });
+      subst (λ m. IsHinted (read_at (places_in m)) (places_in m) r.text.now n) is (record {
+        utf8 = utf8;
+        no_front = refusal.none;
+        start = w.start;
+        stop = w.end;
+        what = w.expected;
+        refused = refusal.place;
+        number_is = sym same ∙ number-is ∙ ap hint_number (hint-is ∙ ap (λ p. hint_at r.text.now w.start w.end w.expected p) few);
+      });
   none = λ e. cc;
 }
 
