@@ -114,6 +114,7 @@ END
     [ ! -s "$dir/stderr" ] || fail "progress where no terminal is"
 
     tests/gate/completions.sh "$@" || fail "completions"
+    tests/gate/command_dialects.py "$@" || fail "texts in dialects"
 }
 [ "${REST:-yes}" = no ] || rest "$@"
 

@@ -9,7 +9,7 @@ folder=packaging/release/completions
 failed=0
 # shellcheck source=/dev/null
 . $folder/wkt.bash
-every=$(grep -oh -- '--[a-z][a-z-]*' crates/wkt_command/src/usage.rt $folder/* | sort -u)
+every=$(grep -oh -- '--[a-z][a-z-]*' crates/wkt_options/src/usage.rt $folder/* | sort -u)
 for name in check canon kind dups same; do
     COMP_WORDS=(wkt "$name" -) COMP_CWORD=2
     _wkt

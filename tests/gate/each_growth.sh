@@ -95,6 +95,7 @@ each_test() {
 }
 
 cut -f 1 tests/data/growth.tsv > "$dir/lines"
+{ sed 's/^/SRID=1;/; s/1 2/1e3 2/' "$dir/lines"; printf '%s\n' 'POINT(nan nan)' 'POINT(1e3 nan)'; } > "$dir/dialects"
 each wktline "$dir/lines" 0 1 1
 each wktstream "$dir/lines" 0 1 1
 each wkt_tables tests/data/growth.tsv 0 2 1
@@ -105,6 +106,7 @@ each wkt_command "$dir/lines" 1 2 1 canon --refused refused
 each wkt_command "$dir/lines" 1 2 1 kind --refused refused -q
 each wkt_command "$dir/lines" 1 2 1 dups -p 6 -
 each wkt_command "$dir/lines" 1 2 1 check --max 0
+each wkt_command "$dir/dialects" 1 2 1 canon --dialect ewkt,exponents,nan --refused refused
 each wkt_command /dev/null 0 2 1 same 'LINESTRING(1 2,3 4)' 'linestring ( 1.0 2, 3 +4)'
 each_test wkt
 each_test wkt_machine value_tests::

@@ -15,7 +15,7 @@ HEADER = "include/wkt.h"
 # Where it stands: the group is the version.
 PLACES = [
     (HEADER, rf'^#define WKT_VERSION "({WHOLE})"$'),
-    ("crates/wkt_command/src/usage.rt", rf'VERSION: &str = "wkt ({WHOLE})\\n"'),
+    ("crates/wkt_options/src/usage.rt", rf'VERSION: &str = "wkt ({WHOLE})\\n"'),
     ("tests/data/command/options.txt", rf"^> wkt ({WHOLE})$"),
     ("python/wkt/_version.py", rf'^__version__ = "({WHOLE})"$'),
     ("javascript/package.json", rf'^  "version": "({WHOLE})",$'),

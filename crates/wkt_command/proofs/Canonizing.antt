@@ -12,19 +12,25 @@ use Rattle.wkt_num.specs.Decimal.{decimal_text, read_decimal}
 use Rattle.wkt_access.specs.Shapes.{shape_of}
 use Rattle.wkt_access.specs.Texts.{shape_text}
 use Rattle.wkt_access.specs.Values.{Value}
+use Rattle.wkt_dialects.specs.declared.dialects.Dialects.{Dialects}
+use Rattle.wkt_dialects.proofs.FrontSrid.{no-srid}
+use Rattle.wkt_read.specs.Front.{Front, HasNoFront}
 use Rattle.wkt_read.proofs.OneForm.{front_one}
 use Rattle.wkt_read.proofs.HeaderPlaces.{run_or_ascii}
-use Rattle.wkt_explain.specs.declared.explanation.Explanation.{Explanation}
 use Rattle.wkt_lines.specs.Laws.{IsWholeLines}
 use Rattle.wkt_lines.specs.Lines.{input_lines}
 use Rattle.wkt_lines.specs.Replies.{AreReplies}
 use Rattle.wkt_lines.specs.First.{IsWholeAnswer}
 use Rattle.wkt_lines.proofs.Outcomes.{lines_of_parts}
 use Rattle.wkt_lines.specs.Reading.{GivesLine}
-use Rattle.wkt_command.specs.Canon.{IsReadAs, IsSkipped, IsAnswerTo, refused_line, AreAnswers, text_of, Canonizes, CanonizesAll, IsVerdict}
-use Rattle.wkt_command.specs.declared.options.Options.{Options}
-use Rattle.wkt_command.specs.declared.options.Ends.{Ends}
-use Rattle.wkt_command.specs.declared.options.Ends.TheVariants as ends
+use Rattle.wkt_command.specs.Verdict.{IsVerdict}
+use Rattle.wkt_command.specs.Dialects.{IsTextIn, IsPlacedVerdict, IsVerdictIn}
+use Rattle.wkt_command.specs.Canon.{IsReadAs, IsSkipped, IsAnswerTo, IsNotRead, refused_line, AreAnswers, text_of, Canonizes, CanonizesAll}
+use Rattle.wkt_command.specs.declared.verdict.Verdict.{Verdict}
+use Rattle.wkt_command.specs.declared.verdict.Refused.{Refused as Reason}
+use Rattle.wkt_options.specs.declared.options.Options.{Options}
+use Rattle.wkt_options.specs.declared.options.Ends.{Ends}
+use Rattle.wkt_options.specs.declared.options.Ends.TheVariants as ends
 use Rattle.wkt_command.specs.Place.{other_end}
 use Rattle.wkt_command.specs.declared.verdict.Verdict.TheVariants.{Read, Refused, Rest}
 
@@ -34,42 +40,90 @@ pub ok-map : {A E : Type 0} (r : Result A E) (P Q : Type 0) → (P → Q) → On
 ok-map (Ok x) P Q f h = f h
 ok-map (Err e) P Q f h = tt
 
+-- A text that begins with a geometry is read as itself, in dialects too.
+text-itself : (d : Option Dialects) (places : ℕ) (text : List ℕ) (v : Value ℤ) (end : ℕ) → Front (read_decimal 127 36 (min places 36)) text v end → IsTextIn d places text text
+text-itself None places text v end f = refl
+text-itself (Some d) places text v end f = record {
+  rest = text;
+  split_off = inr (refl, λ asked srid other h. no-srid (read_decimal 127 36 (min places 36)) text other v end srid f h);
+  is = inl ((v, end, f), refl);
+}
+
 module _ (o : Options) (text : List ℕ) (old new : Option (List ℕ)) where
+  abbrev read : List ℕ → Option ℤ
+  read = read_decimal 127 36 (min o.places 36)
+
+  abbrev num : ℤ → List ℕ
+  num = decimal_text (min o.places 36)
+
+  -- the text that is read was judged so
+  abbrev Judged : List ℕ → Verdict → Type 0
+  Judged room v = IsVerdictIn o.dialects o.places o.front text room v
+
+  judged-read : (room other : List ℕ) (len : ℕ) (w : Verdict) → IsVerdict read num o.front other room w → IsPlacedVerdict o.dialects text other w (Read len) → IsVerdict read num o.front other room (Read len)
+  judged-read room other len (Read n) is same = subst (λ k. IsVerdict read num o.front other room (Read k)) (sym same) is
+  judged-read room other len (Refused w) is same = absurd same
+  judged-read room other len (Rest end) is same = absurd same
+
+  judged-refused : (room other : List ℕ) (r : Reason) (w : Verdict) → IsVerdict read num o.front other room w → IsPlacedVerdict o.dialects text other w (Refused r) → HasNoFront read other
+  judged-refused room other r (Read n) is same = absurd same
+  judged-refused room other r (Refused w) is same = is.5
+  judged-refused room other r (Rest end) is same = absurd same
+
+  judged-rest : (room other : List ℕ) (at : ℕ) (w : Verdict) → IsVerdict read num o.front other room w → IsPlacedVerdict o.dialects text other w (Rest at) → (end : ℕ) × IsVerdict read num o.front other room (Rest end)
+  judged-rest room other at (Read n) is same = absurd same
+  judged-rest room other at (Refused w) is same = absurd same
+  judged-rest room other at (Rest end) is same = (end, is)
+
   -- it was read, and its canonical text was put out
-  pub canonizes-read : (room : List ℕ) (len : ℕ) → IsVerdict (read_decimal 127 36 (min o.places 36)) (decimal_text (min o.places 36)) o.front text room (Read len)
-      → IsUtf8 text → Appends old new (take len room ++ 10 ∷ []) → Canonizes o text old new
-  canonizes-read room len (end, w, whole, _) utf8 out = (
-    take len room ++ 10 ∷ [],
-    record {
-      read = λ u v e is.
-          let same = front_one (read_decimal 127 36 (min o.places 36)) text w.value v end e w.front is.front in
-          ap (λ bs. bs ++ 10 ∷ []) (w.is ∙ ap (λ x. shape_text (decimal_text (min o.places 36)) (shape_of x)) same.0);
-      skipped = λ none skip. absurd (none utf8 w.value end (record { front = w.front; whole = whole }));
-      refused = λ none more. absurd (none utf8 w.value end (record { front = w.front; whole = whole }));
-    },
-    out,
-  )
+  pub canonizes-read : (room : List ℕ) (len : ℕ) → Judged room (Read len) → IsUtf8 text → Appends old new (take len room ++ 10 ∷ []) → Canonizes o text old new
+  canonizes-read room len h utf8 out =
+      let (end, w, whole, _) = judged-read room h.other len h.of_other h.is h.placed in (
+      take len room ++ 10 ∷ [],
+      record {
+        other = h.other;
+        read_as = λ _. h.read_as;
+        read = λ u v e is.
+            let same = front_one read h.other w.value v end e w.front is.front in
+            ap (λ bs. bs ++ 10 ∷ []) (w.is ∙ ap (λ x. shape_text num (shape_of x)) same.0);
+        skipped = λ none skip. absurd (none utf8 w.value end (record { front = w.front; whole = whole }));
+        refused = λ none more. absurd (none utf8 w.value end (record { front = w.front; whole = whole }));
+      },
+      out,
+    )
+
+  -- what was put out is UTF-8
+  pub utf8-read : (room : List ℕ) (len : ℕ) → Judged room (Read len) → IsUtf8 (take len room)
+  utf8-read room len h = (judged-read room h.other len h.of_other h.is h.placed).3
 
   -- it is white space, which is passed over
-  pub canonizes-skipped : (IsUtf8 text → (v : Value ℤ) (end : ℕ) → IsReadAs o text v end → ⊥) → IsSkipped o text → Canonizes o text old old
-  canonizes-skipped none skip = ([], record { read = λ u v e is. absurd (none u v e is); skipped = λ _ _. refl; refused = λ _ other. absurd (other skip) }, Appends-nil old)
+  pub canonizes-skipped : IsNotRead o text → IsSkipped o text → Canonizes o text old old
+  canonizes-skipped (other, as, none) skip =
+      ([], record { other = other; read_as = as; read = λ u v e is. absurd (none u v e is); skipped = λ _ _. refl; refused = λ _ more. absurd (more skip) }, Appends-nil old)
 
   -- it wasn't read, and what was asked for was put out
-  pub canonizes-refused : (IsUtf8 text → (v : Value ℤ) (end : ℕ) → IsReadAs o text v end → ⊥) → (IsSkipped o text → ⊥) → Appends old new (refused_line o.refused) → Canonizes o text old new
-  canonizes-refused none other out =
-      (refused_line o.refused, record { read = λ u v e is. absurd (none u v e is); skipped = λ _ skip. absurd (other skip); refused = λ _ _. refl }, out)
+  pub canonizes-refused : IsNotRead o text → (IsSkipped o text → ⊥) → Appends old new (refused_line o.refused) → Canonizes o text old new
+  canonizes-refused (other, as, none) more out =
+      (refused_line o.refused, record { other = other; read_as = as; read = λ u v e is. absurd (none u v e is); skipped = λ _ skip. absurd (more skip); refused = λ _ _. refl }, out)
+
+  -- one that isn't UTF-8 isn't read
+  pub none-bytes : (IsUtf8 text → ⊥) → IsNotRead o text
+  none-bytes no = (text, λ u. absurd (no u), λ u v end is. no u)
 
   -- a text that is refused somewhere isn't read
-  pub none-refused : (room : List ℕ) (why : Explanation) → IsVerdict (read_decimal 127 36 (min o.places 36)) (decimal_text (min o.places 36)) o.front text room (Refused why)
-      → IsUtf8 text → (v : Value ℤ) (end : ℕ) → IsReadAs o text v end → ⊥
-  none-refused room why (same, at, none) utf8 v end is = none v end is.front
+  pub none-refused : (room : List ℕ) (r : Reason) → Judged room (Refused r) → IsNotRead o text
+  none-refused room r h = (h.other, λ _. h.read_as, λ utf8 v end is. judged-refused room h.other r h.of_other h.is h.placed v end is.front)
 
   -- nor is one with more than white space after its front, unless the front alone counts
-  pub none-rest : (room : List ℕ) (stop : ℕ) → IsVerdict (read_decimal 127 36 (min o.places 36)) (decimal_text (min o.places 36)) o.front text room (Rest stop)
-      → IsUtf8 text → (v : Value ℤ) (end : ℕ) → IsReadAs o text v end → ⊥
-  none-rest room stop (whole, (len, w), more) utf8 v end is =
-      let same = front_one (read_decimal 127 36 (min o.places 36)) text v w.value end stop is.front w.front in
-      ⊎_elim (λ (e : o.front ≡ true). let clash : true ≡ false = sym e ∙ whole in cc) (λ white. more (subst (λ n. AllWhite (drop n text)) same.1 white)) is.whole
+  pub none-rest : (room : List ℕ) (at : ℕ) → Judged room (Rest at) → IsNotRead o text
+  none-rest room at h =
+      let (stop, whole, (len, w), more) = judged-rest room h.other at h.of_other h.is h.placed in (
+      h.other,
+      λ _. h.read_as,
+      λ utf8 v end is.
+          let same = front_one read h.other v w.value end stop is.front w.front in
+          ⊎_elim (λ (e : o.front ≡ true). let clash : true ≡ false = sym e ∙ whole in cc) (λ white. more (subst (λ n. AllWhite (drop n h.other)) same.1 white)) is.whole,
+    )
 
 -- White space is text, and so is what it ends with.
 white-ascii : (bs : List ℕ) → AllWhite bs → (i : ℕ) → get_or bs i 0 < 128
@@ -80,11 +134,6 @@ white-ascii (b ∷ bs) h (suc i) = white-ascii bs h.1 i
 pub white-utf8 : (bs : List ℕ) → AllWhite bs → IsUtf8 bs
 white-utf8 bs h = IsUtf8-from_ascii bs (white-ascii bs h)
 
-pub white-drop : (n : ℕ) (bs : List ℕ) → AllWhite bs → AllWhite (drop n bs)
-white-drop zero bs h = h
-white-drop (suc n) [] h = tt
-white-drop (suc n) (b ∷ bs) h = white-drop n bs h.1
-
 pub canonizes-kept : (o : Options) (text : List ℕ) (old middle new : Option (List ℕ)) → Canonizes o text old middle → Keeps middle new → Canonizes o text old new
 canonizes-kept o text old middle new (out, is, went) k = (out, is, Appends-kept old middle new out went k)
 
@@ -94,6 +143,8 @@ module _ (o : Options) (lines : o.ends ≡ ends.Line) where
   whole-answer : (line answer : List ℕ) → IsWholeAnswer (read_decimal 127 36 (min o.places 36)) (decimal_text (min o.places 36)) o.front line answer
       → IsAnswerTo o (text_of o.ends line) (answer ++ 10 ∷ [])
   whole-answer line answer w = subst (λ e. IsAnswerTo o (text_of e line) (answer ++ 10 ∷ [])) (sym lines) (record {
+    other = line;
+    read_as = λ _. text-itself o.dialects o.places line w.is.value w.end w.is.front;
     read = λ u v e is.
         let same = front_one (read_decimal 127 36 (min o.places 36)) line w.is.value v w.end e w.is.front is.front in
         ap (λ bs. bs ++ 10 ∷ []) (w.is.is ∙ ap (λ x. shape_text (decimal_text (min o.places 36)) (shape_of x)) same.0);

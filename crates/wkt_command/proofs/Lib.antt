@@ -1,2 +1,3 @@
 pub mod Canonizing
+pub mod InDialects
 pub mod TextLines

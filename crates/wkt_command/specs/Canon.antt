@@ -1,4 +1,4 @@
--- What becomes of a text, what `wkt canon` writes, and the geometries that were seen.
+-- What `wkt canon` writes, and the geometries that were seen.
 use Rattle.std.specs.Prelude.{◌≡◌, ℕ, List, take, drop, Option, Bool, true, false, ◌⊎◌, ℤ, [], ◌∷◌, ◌++◌, min, Some, None, String, string_bytes, IsUtf8, codes, if◌then◌else◌, map, IfSome}
 use Rattle.std.specs.declared.alloc.Global.{Global}
 use Rattle.std.specs.Io.KnownBytes.{Appends}
@@ -6,34 +6,20 @@ use Rattle.std.specs.Io.Buffered.{writer_contents}
 use Rattle.std.specs.Str.{bytes_eq}
 use Rattle.std.specs.HashMap.{get_by}
 use Rattle.wkt_num.specs.Bytes.{AllWhite}
-use Rattle.wkt_read.specs.Front.{HasNoFront, Front}
-use Rattle.wkt_canonical.specs.Canonical.{IsCanonicalTo}
-use Rattle.wkt_read.specs.Explained.{IsRefusedAt}
-use Rattle.wkt_command.specs.declared.verdict.Verdict.{Verdict}
-use Rattle.wkt_command.specs.declared.verdict.Verdict.TheVariants.{Read, Refused, Rest}
+use Rattle.wkt_read.specs.Front.{Front}
 use Rattle.wkt_num.specs.Decimal.{decimal_text, read_decimal}
 use Rattle.wkt_access.specs.Values.{Value}
 use Rattle.wkt_access.specs.Shapes.{shape_of}
 use Rattle.wkt_access.specs.Texts.{shape_text}
-use Rattle.wkt_command.specs.declared.options.Options.{Options}
-use Rattle.wkt_command.specs.declared.options.Ends.{Ends}
-use Rattle.wkt_command.specs.declared.options.Ends.TheVariants.{Nul}
+use Rattle.wkt_options.specs.declared.options.Options.{Options}
+use Rattle.wkt_options.specs.declared.options.Ends.{Ends}
+use Rattle.wkt_options.specs.declared.options.Ends.TheVariants.{Nul}
 use Rattle.wkt_lines.specs.Lines.{input_lines}
+use Rattle.wkt_command.specs.Dialects.{IsTextIn}
 use Rattle.wkt_command.specs.Place.{other_end}
 use Rattle.wkt_command.specs.declared.output.Output.{Output}
 use Rattle.wkt_command.specs.declared.dups.Seen.{Seen}
 use Rattle.wkt_command.specs.declared.dups.Spot.{Spot}
-
--- What becomes of a text, and what `wkt canon` writes.
-
--- What becomes of a text.
-
-module _ {N : Type 0} (read : List ℕ → Option N) (num : N → List ℕ) where
-  -- A text is read that has a front with nothing but white space after it, or, where the front alone counts, with whatever. Another is refused where the library refuses it, or for what follows its front.
-  abbrev pub IsVerdict : Bool → List ℕ → List ℕ → Verdict → Type 0
-  IsVerdict front text room (Read len) = (end : ℕ) × IsCanonicalTo read num text (take len room) end × ((front ≡ true) ⊎ AllWhite (drop end text)) × IsUtf8 (take len room)
-  IsVerdict front text room (Refused why) = (why.text.now ≡ text) × IsRefusedAt read text why.start why.end why.expected × HasNoFront read text
-  IsVerdict front text room (Rest end) = (front ≡ false) × ((len : ℕ) × IsCanonicalTo read num text (take len room) end) × (AllWhite (drop end text) → ⊥)
 
 -- What `wkt canon` writes.
 
@@ -55,12 +41,18 @@ refused_line (Some word) = if bytes_eq (codes "skip") (string_bytes word) then [
 abbrev pub IsSkipped : Options → List ℕ → Type 0
 IsSkipped o text = (o.skip_blank ≡ true) × AllWhite text
 
--- What `wkt canon` writes for a text: of one that is read the canonical text, with a line feed, of one that is passed over nothing, and of another what was asked for.
+-- What `wkt canon` writes for a text: of one that is read the canonical text, with a line feed, of one that is passed over nothing, and of another what was asked for. In dialects it is that of the text that the text is read as.
 pub record IsAnswerTo (o : Options) (text out : List ℕ) : Type 0 where
-  pub read : IsUtf8 text → (v : Value ℤ) (end : ℕ) → IsReadAs o text v end
+  pub other : List ℕ
+  pub read_as : IsUtf8 text → IsTextIn o.dialects o.places text other
+  pub read : IsUtf8 text → (v : Value ℤ) (end : ℕ) → IsReadAs o other v end
       → out ≡ shape_text (decimal_text (min o.places 36)) (shape_of v) ++ 10 ∷ []
-  pub skipped : (IsUtf8 text → (v : Value ℤ) (end : ℕ) → IsReadAs o text v end → ⊥) → IsSkipped o text → out ≡ []
-  pub refused : (IsUtf8 text → (v : Value ℤ) (end : ℕ) → IsReadAs o text v end → ⊥) → (IsSkipped o text → ⊥) → out ≡ refused_line o.refused
+  pub skipped : (IsUtf8 text → (v : Value ℤ) (end : ℕ) → IsReadAs o other v end → ⊥) → IsSkipped o text → out ≡ []
+  pub refused : (IsUtf8 text → (v : Value ℤ) (end : ℕ) → IsReadAs o other v end → ⊥) → (IsSkipped o text → ⊥) → out ≡ refused_line o.refused
+
+-- The text is read as one that has no value.
+abbrev pub IsNotRead : Options → List ℕ → Type 0
+IsNotRead o text = (other : List ℕ) × (IsUtf8 text → IsTextIn o.dialects o.places text other) × (IsUtf8 text → (v : Value ℤ) (end : ℕ) → IsReadAs o other v end → ⊥)
 
 -- That was written.
 abbrev pub Canonizes : Options → List ℕ → Option (List ℕ) → Option (List ℕ) → Type 0

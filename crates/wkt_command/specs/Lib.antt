@@ -1,3 +1,5 @@
 pub mod Place
+pub mod Verdict
+pub mod Dialects
 pub mod Canon
 pub mod Row

@@ -2,10 +2,11 @@
 ghost use Rattle.std.specs.Prelude.{◌≡◌, None, map};
 ghost use Rattle.wkt_command.specs.Place.{other_end};
 
-use crate::part::{Part, feeds_before};
+use crate::part::{bounds, feeds_before};
 use std::fs::File;
 use std::io::{self, Read, Seek, SeekFrom, Stdin};
 use wkt_bytes::ByteSource;
+use wkt_options::Part;
 
 // What standard input is called.
 const STANDARD_INPUT: &str = "standard input";
@@ -47,7 +48,7 @@ impl Input {
         let Input::File(file, left) = self else {
             return Ok(0);
         };
-        let (begin, end) = part.bounds(file)?;
+        let (begin, end) = bounds(part, file)?;
         let before = if asks { feeds_before(file, begin)? } else { 0 };
         file.seek(SeekFrom::Start(begin))?;
         *left = end.saturating_sub(begin);

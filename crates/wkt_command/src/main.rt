@@ -1,16 +1,15 @@
 //! `wkt`: well-known text, for people. Where texts are refused and what was expected there, their canonical texts, their
 //! kinds, and which of them name one geometry.
 //!
-//! Below stand `wkt_lines`, `wkt_explain` and `wkt_canonical`.
+//! Below stand `wkt_options`, `wkt_lines`, `wkt_explain`, `wkt_dialects` and `wkt_canonical`.
 #![tactic(auto)]
 
 mod csv;
+mod dialects;
 mod dups;
 mod error;
 mod input;
-mod options;
 mod output;
-mod parse;
 mod part;
 mod place;
 mod progress;
@@ -20,7 +19,6 @@ mod run;
 mod same;
 mod session;
 mod shown;
-mod usage;
 mod verdict;
 mod words;
 

@@ -2,47 +2,27 @@
 use std::fs::File;
 use std::io::{self, Read, Seek, SeekFrom};
 use wkt_lines::{after_line, line_end};
+use wkt_options::Part;
 
 // How much is read at once where lines are only counted or passed.
 const BLOCK: usize = 16384;
 
-/// One of so many parts, counted from 1.
-#[derive(Clone, Copy)]
-pub struct Part {
-    index: u64,
-    count: u64,
+/// Where the part begins in the file, and where it ends. Both stand behind a line feed, or at an end of the file, so each
+/// line is in one part.
+///
+/// # Errors
+/// The file can't be read, or has no places to go to.
+pub fn bounds(part: Part, file: &mut File) -> io::Result<(u64, u64)> {
+    let size = file.seek(SeekFrom::End(0))?;
+    let end = line_from(file, share(size, part.index, part.count))?;
+    let begin = line_from(file, share(size, part.index.saturating_sub(1), part.count))?;
+    Ok((begin, end))
 }
 
-impl Part {
-    /// The part that is written as `2/4`.
-    pub fn named(word: &str) -> Option<Part> {
-        let (index, count) = word.split_once('/')?;
-        let index = index.parse::<u64>().ok()?;
-        let count = count.parse::<u64>().ok()?;
-        if 1 <= index && index <= count {
-            Some(Part { index, count })
-        } else {
-            None
-        }
-    }
-
-    /// Where the part begins in the file, and where it ends. Both stand behind a line feed, or at an
-    /// end of the file, so each line is in one part.
-    ///
-    /// # Errors
-    /// The file can't be read, or has no places to go to.
-    pub fn bounds(self, file: &mut File) -> io::Result<(u64, u64)> {
-        let size = file.seek(SeekFrom::End(0))?;
-        let end = line_from(file, self.share(size, self.index))?;
-        let begin = line_from(file, self.share(size, self.index.saturating_sub(1)))?;
-        Ok((begin, end))
-    }
-
-    /// The first byte behind so many parts of so many bytes.
-    fn share(self, size: u64, parts: u64) -> u64 {
-        let whole = u128::from(size).saturating_mul(u128::from(parts));
-        u64::try_from(whole / u128::from(self.count.max(1))).unwrap_or(size)
-    }
+/// The first byte behind so many of the equal parts of so many bytes.
+fn share(size: u64, parts: u64, count: u64) -> u64 {
+    let whole = u128::from(size).saturating_mul(u128::from(parts));
+    u64::try_from(whole / u128::from(count.max(1))).unwrap_or(size)
 }
 
 /// Where the first line begins from this byte on; the file's end where none does.

@@ -2,14 +2,13 @@
 ghost use Rattle.std.specs.Prelude.{◌≡◌, ◌++◌, ◌+◌, ◌-◌, ◌^◌, min, take, OnOk, string_bytes};
 ghost use Rattle.wkt_command.specs.Place.{line_after, place_text, utf8_text};
 
-use crate::options::Ends;
+use wkt_options::Ends;
 use crate::place::{Excerpt, byte_after, place_after};
 use crate::progress::Tally;
-use crate::verdict::written;
+use crate::verdict::{Refused, written};
 use std::alloc::{AllocError, Global};
 use std::fmt;
 use std::fmt::Formatter;
-use wkt_explain::Explanation;
 use wkt_read::words::is_white;
 
 /// Where a text stands: its file's name, and the number of its first line.
@@ -39,7 +38,7 @@ impl<'a> Origin<'a> {
 #[derive(Clone, Copy)]
 pub enum TextRefusal<'a> {
     /// It has no geometry at its front.
-    Text(Explanation<'a>),
+    Text(Refused<'a>),
     /// More than white space follows its geometry, which ends at this byte.
     Rest(&'a str, usize),
     /// It isn't UTF-8 behind these bytes.
@@ -78,7 +77,7 @@ pub fn push_refusal(
     places: u32,
 ) -> Result<(), AllocError> {
     let (text, start, end) = match refusal {
-        TextRefusal::Text(why) => (why.text, why.start, why.end),
+        TextRefusal::Text(refused) => (refused.text, refused.start, refused.end),
         TextRefusal::Rest(text, end) => {
             let rest = past_white(text, end);
             (text, rest, rest)
@@ -87,8 +86,8 @@ pub fn push_refusal(
     };
     push_place(out, origin, written(text.as_bytes(), start))?;
     push_message(out, refusal)?;
-    if let TextRefusal::Text(why) = refusal {
-        if let Some(hint) = why.hint(places) {
+    if let TextRefusal::Text(refused) = refusal {
+        if let Some(hint) = refused.why.hint(places) {
             write!(out, " ({hint})")?;
         }
     }
@@ -102,8 +101,8 @@ pub fn push_refusal(
 /// Out of memory.
 pub fn push_message(out: &mut String, refusal: TextRefusal<'_>) -> Result<(), AllocError> {
     match refusal {
-        TextRefusal::Text(why) => {
-            let expected = why.expected;
+        TextRefusal::Text(refused) => {
+            let expected = refused.why.expected;
             write!(out, "{expected} was expected")
         }
         TextRefusal::Rest(_, _) => out.push_str("more follows the geometry"),

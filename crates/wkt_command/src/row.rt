@@ -1,9 +1,9 @@
 //! A refusal as data: an object of JSON, or fields with tabs between them.
-use crate::options::{Form, Options};
+use wkt_options::{Form, Options};
 use crate::place::byte_after;
 use crate::report::{Origin, TextRefusal, past_white, push_message, push_refusal};
 use crate::shown::{is_plain, write_shown_char};
-use crate::verdict::written;
+use crate::verdict::{Refused, written};
 use crate::words::{END, expected_cause, hint_cause};
 use std::alloc::{AllocError, Global};
 use std::fmt;
@@ -64,7 +64,7 @@ impl<'a> Row<'a> {
         };
         push_message(&mut row.message, refusal)?;
         match refusal {
-            TextRefusal::Text(why) => {
+            TextRefusal::Text(Refused { why, .. }) => {
                 let expected = why.expected;
                 row.cause = expected_cause(expected);
                 write!(row.expected, "{expected}")?;
@@ -113,9 +113,9 @@ impl<'a> Row<'a> {
 /// What stands before the place of a refusal in its text, and how many bytes the place has.
 fn place<'a>(refusal: TextRefusal<'a>) -> (&'a [u8], usize) {
     match refusal {
-        TextRefusal::Text(why) => (
-            written(why.text.as_bytes(), why.start),
-            why.end.saturating_sub(why.start),
+        TextRefusal::Text(refused) => (
+            written(refused.text.as_bytes(), refused.start),
+            refused.end.saturating_sub(refused.start),
         ),
         TextRefusal::Rest(text, end) => {
             let start = past_white(text, end);

@@ -3,21 +3,22 @@ ghost use Rattle.std.specs.Prelude.{◌≡◌, ◌≤◌, [], ◌∷◌, ◌++�
 ghost use Rattle.std.specs.Io.KnownBytes.{Appends};
 ghost use Rattle.wkt_lines.specs.Laws.{IsWholeLines};
 ghost use Rattle.wkt_lines.specs.Reading.{to_come};
-ghost use Rattle.wkt_command.specs.Canon.{out_bytes, refused_line, text_of, IsSkipped, Canonizes, CanonizesAll};
-ghost use Rattle.wkt_command.specs.declared.options.Command.TheVariants.{Canon};
+ghost use Rattle.wkt_command.specs.Canon.{out_bytes, refused_line, text_of, IsNotRead, IsSkipped, Canonizes, CanonizesAll};
+ghost use Rattle.wkt_options.specs.declared.options.Command.TheVariants.{Canon};
 
 use crate::csv::Tables;
+use crate::dialects::verdict_in;
 use crate::dups::{Seen, put_again};
 use crate::error::CommandError;
 use crate::input::{Input, NulLines, shown_name, swap_ends};
-use crate::options::{Command, Ends, Form, Options};
+use wkt_options::{Command, Ends, Form, Options};
 use crate::output::{Output, put_canonical, put_kinds, put_refused};
 use crate::place::place_after;
 use crate::progress::{Progress, Tally};
 use crate::report::{Origin, TextRefusal, count_line};
 use crate::row::push_in_form;
 use crate::shown::Shown;
-use crate::verdict::{Verdict, verdict_at, whole_lines_at, written};
+use crate::verdict::{Verdict, whole_lines_at, written};
 use std::alloc::{AllocError, Global};
 use std::io::{Stderr, Stdout, Write};
 use wkt_bytes::{ByteSource, Counted, ReadAllError, read_all};
@@ -325,16 +326,17 @@ impl<'a, W: Write + Drop> Run<'a, W> {
         };
         let places = self.options.places;
         let front = self.options.front;
-        match verdict_at(self.alloc, text, places, front, &mut self.room)? {
+        let dialects = self.options.dialects;
+        let mut read = Vec::new(self.alloc);
+        let room = &mut self.room;
+        match verdict_in(self.alloc, dialects, text, places, front, &mut read, room)? {
             Verdict::Read(len) => self.put_answer(name, len),
-            Verdict::Refused(why) => {
-                if self.is_skipped(text) {
-                    self.tally.texts = self.tally.texts.saturating_sub(1);
-                    return Ok(());
-                }
-                self.refuse_text(rt, origin, TextRefusal::Text(why))
+            Verdict::Refused(refused) => {
+                self.refuse_text(rt, origin, text, TextRefusal::Text(refused))
             }
-            Verdict::Rest(end) => self.refuse_text(rt, origin, TextRefusal::Rest(text, end)),
+            Verdict::Rest(end) => {
+                self.refuse_text(rt, origin, text, TextRefusal::Rest(text, end))
+            }
         }
     }
 
@@ -348,23 +350,28 @@ impl<'a, W: Write + Drop> Run<'a, W> {
         is_blank(text.as_bytes())
     }
 
-    /// Makes the report of a text that is refused, and refuses it.
+    /// Passes over a text that isn't read, or makes its report and refuses it.
     fn refuse_text(
         &mut self,
         rt: &HostRuntime,
         origin: Origin<'_>,
+        text: &str,
         refusal: TextRefusal<'_>,
     ) -> Result<(), CommandError>
         ensures options { self.new.options ≡ self.old.options }
-        ensures canon { self.old.options.now.command ≡ Canon → OnOk result
-            (Appends (out_bytes W.contents self.old.out) (out_bytes W.contents self.new.out)
-            (refused_line self.old.options.now.refused)) }
+        ensures canon { self.old.options.now.command ≡ Canon → IsNotRead self.old.options.now text.now → OnOk result
+            (Canonizes self.old.options.now text.now
+            (out_bytes W.contents self.old.out) (out_bytes W.contents self.new.out)) }
     {
+        if self.is_skipped(text) {
+            self.tally.texts = self.tally.texts.saturating_sub(1);
+            return Ok(());
+        }
         if !self.options.quiet {
             push_in_form(&mut self.report, self.alloc, self.options, origin, refusal)?;
-            if let TextRefusal::Text(why) = refusal {
+            if let TextRefusal::Text(_) = refusal {
                 if self.options.ends == Ends::Line {
-                    self.tables.look(why.text.as_bytes());
+                    self.tables.look(text.as_bytes());
                 }
             }
         }

@@ -1,8 +1,9 @@
 //! `wkt same`: whether two texts name one geometry.
+use crate::dialects::verdict_in;
 use crate::error::CommandError;
-use crate::options::Options;
+use wkt_options::Options;
 use crate::report::{Origin, TextRefusal, push_refusal};
-use crate::verdict::{Verdict, verdict_at, written};
+use crate::verdict::{Verdict, written};
 use std::alloc::Global;
 
 /// Whether the two texts name one geometry: 0 or 1; 2 where one of them is refused.
@@ -43,9 +44,19 @@ fn canonical(
         Some(text) => text.as_str(),
         None => "",
     };
-    let refusal = match verdict_at(alloc, text, options.places, false, room)? {
+    let mut read = Vec::new(alloc);
+    let verdict = verdict_in(
+        alloc,
+        options.dialects,
+        text,
+        options.places,
+        false,
+        &mut read,
+        room,
+    )?;
+    let refusal = match verdict {
         Verdict::Read(len) => return Ok(Some(len)),
-        Verdict::Refused(why) => TextRefusal::Text(why),
+        Verdict::Refused(refused) => TextRefusal::Text(refused),
         Verdict::Rest(end) => TextRefusal::Rest(text, end),
     };
     let name = if index == 0 {

@@ -1,13 +1,11 @@
 //! A run from its arguments to its status.
 use crate::error::CommandError;
-use crate::options::{Command, Options};
-use crate::parse::{Request, parse};
 use crate::run::Run;
 use crate::same;
 use crate::shown::Shown;
-use crate::usage::{HELP, USAGE, UsageError, VERSION};
 use std::env;
 use std::io::{ErrorKind, Stdout};
+use wkt_options::{Command, HELP, Options, Request, USAGE, UsageError, VERSION, parse};
 
 // What a run's status says besides 0: a text was refused, or two texts name two geometries; and what stops a run.
 const REFUSED: u8 = 1;

@@ -4,7 +4,7 @@ ghost use Rattle.wkt_lines.specs.First.{IsWholeAnswer};
 ghost use Rattle.wkt_lines.specs.Laws.{IsWholeLines};
 ghost use Rattle.wkt_lines.specs.Lines.{input_lines};
 ghost use Rattle.wkt_lines.specs.Replies.{AreReplies};
-ghost use Rattle.wkt_command.specs.Canon.{IsVerdict};
+ghost use Rattle.wkt_command.specs.Verdict.{IsVerdict};
 ghost use Rattle.wkt_num.specs.Decimal.{decimal_text, read_decimal};
 
 use std::alloc::{AllocError, Global};
@@ -21,13 +21,24 @@ pub fn written(room: &[u8], len: usize) -> &[u8]
     &room[..len.min(room.len())]
 }
 
+/// Why a text is refused, and where.
+#[derive(Clone, Copy)]
+pub struct Refused<'a> {
+    /// Why the text that is read is refused.
+    pub why: Explanation<'a>,
+    /// The text as it was given, and from where to where in it.
+    pub text: &'a str,
+    pub start: usize,
+    pub end: usize,
+}
+
 /// What became of a text.
 #[derive(Clone, Copy)]
 pub enum Verdict<'a> {
     /// It is read; its canonical text has so many bytes.
     Read(usize),
     /// It has no geometry at its front.
-    Refused(Explanation<'a>),
+    Refused(Refused<'a>),
     /// More than white space follows its geometry, which ends at this byte.
     Rest(usize),
 }
@@ -51,7 +62,12 @@ pub fn judge<'a, N: Numbers>(
             }
         }
         None => match explain_by(numbers, text) {
-            Some(why) => Ok(Verdict::Refused(why)),
+            Some(why) => Ok(Verdict::Refused(Refused {
+                why,
+                text,
+                start: why.start,
+                end: why.end,
+            })),
             None => unreachable!(),
         },
     }

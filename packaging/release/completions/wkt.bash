@@ -1,6 +1,6 @@
 # Completion of the command wkt, for bash.
 _wkt() {
-    local word=${COMP_WORDS[COMP_CWORD]} before=${COMP_WORDS[COMP_CWORD - 1]} words='--places --quiet --help --version'
+    local word=${COMP_WORDS[COMP_CWORD]} before=${COMP_WORDS[COMP_CWORD - 1]} words='--places --dialect --quiet --help --version'
     COMPREPLY=()
     if [ "$COMP_CWORD" = 1 ]; then
         mapfile -t COMPREPLY < <(compgen -W 'check canon kind dups same help --help --version' -- "$word")
@@ -9,6 +9,10 @@ _wkt() {
     case $before in
         -p | --places)
             mapfile -t COMPREPLY < <(compgen -W "$(echo {0..36})" -- "$word")
+            return
+            ;;
+        --dialect)
+            mapfile -t COMPREPLY < <(compgen -W 'srid untagged exponents nan ewkt' -- "$word")
             return
             ;;
         --refused)

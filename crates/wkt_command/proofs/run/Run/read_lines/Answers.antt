@@ -4,7 +4,7 @@ use Rattle.std.specs.Prelude.{Some}
 use Rattle.std.specs.Io.KnownBytes.{Consumes}
 use Rattle.wkt_lines.specs.Reading.{line_of, to_come}
 use Rattle.wkt_command.specs.Canon.{out_bytes, text_of, IsAnswerTo, Canonizes, CanonizesAll}
-use Rattle.wkt_command.specs.declared.options.Command.TheVariants.{Canon}
+use Rattle.wkt_options.specs.declared.options.Command.TheVariants.{Canon}
 use Rattle.wkt_command.proofs.Canonizing.{answered-none, answered-line, answered-lines, answered-all}
 use Rattle.wkt_command.proofs.run.Run.read_lines.Goals as goal
 

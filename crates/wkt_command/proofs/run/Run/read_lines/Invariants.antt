@@ -2,7 +2,7 @@
 use Rattle.std.proofs.Common.{◌≡◌}
 use Rattle.wkt_lines.specs.Reading.{to_come}
 use Rattle.wkt_command.specs.Canon.{out_bytes, text_of, IsAnswerTo}
-use Rattle.wkt_command.specs.declared.options.Command.TheVariants.{Canon}
+use Rattle.wkt_options.specs.declared.options.Command.TheVariants.{Canon}
 use Rattle.wkt_command.proofs.Canonizing.{Answered}
 use Rattle.wkt_command.proofs.run.Run.read_lines.Given as goal
 

@@ -2,8 +2,8 @@
 use Rattle.std.proofs.Common.{◌≡◌, sym, subst, ◌∙◌, map, OnOk, arith}
 use Rattle.std.proofs.lemmas.Grind.{common_steps}
 use denote.Enum.Bare.{differs_true, differs_false}
-use Rattle.wkt_command.specs.contracts.options.Ends.{the_type}
-use Rattle.wkt_command.specs.declared.options.Ends.TheVariants.{Nul}
+use Rattle.wkt_options.specs.contracts.options.Ends.{the_type}
+use Rattle.wkt_options.specs.declared.options.Ends.TheVariants.{Nul}
 use Rattle.wkt_command.specs.Place.{other_end}
 use Rattle.wkt_command.specs.Canon.{out_bytes, Canonizes}
 use Rattle.wkt_command.proofs.Canonizing.{text-plain, text-swapped}

@@ -2,8 +2,8 @@
 use Rattle.std.proofs.Common.{◌≡◌, sym, subst, ◌∙◌, take, length, arith, IsUtf8}
 use Rattle.std.proofs.lemmas.Grind.{common_steps}
 use denote.Enum.Bare.{differs_false}
-use Rattle.wkt_command.specs.contracts.options.Ends.{the_type}
-use Rattle.wkt_command.specs.declared.options.Ends.TheVariants.{Line}
+use Rattle.wkt_options.specs.contracts.options.Ends.{the_type}
+use Rattle.wkt_options.specs.declared.options.Ends.TheVariants.{Line}
 use Rattle.wkt_command.specs.Canon.{out_bytes}
 use Rattle.wkt_command.proofs.Canonizing.{canonizes-whole, canonizes-none, room-kept}
 use Rattle.std.specs.Io.KnownBytes.{Appends}

@@ -1,8 +1,8 @@
 //! The arguments of a run.
-use crate::options::{Command, Ends, Form, Options};
-use crate::part::Part;
+use crate::options::{Command, Ends, Form, Options, Part, dialects_named};
 use crate::usage::UsageError;
 use std::alloc::{AllocError, Global};
+use wkt_dialects::Dialects;
 
 /// What the arguments ask for.
 #[derive(Drop)]
@@ -15,6 +15,7 @@ pub enum Request {
 #[derive(Clone, Copy, PartialEq, Eq)]
 enum Flag {
     Places,
+    Dialect,
     Whole,
     Null,
     Front,
@@ -49,9 +50,10 @@ const fn option(flag: Flag, letter: char, word: &'static str, takes_value: bool)
 }
 
 // An option with no letter has a blank.
-fn rows() -> [Row; 14] {
+fn rows() -> [Row; 15] {
     [
         option(Flag::Places, 'p', "places", true),
+        option(Flag::Dialect, ' ', "dialect", true),
         option(Flag::Whole, 'w', "whole", false),
         option(Flag::Null, '0', "null", false),
         option(Flag::Front, 'f', "front", false),
@@ -72,7 +74,7 @@ impl Flag {
     /// Whether the command takes the option.
     fn goes_with(self, command: Command) -> bool {
         match self {
-            Flag::Places | Flag::Quiet | Flag::Help | Flag::Version => true,
+            Flag::Places | Flag::Dialect | Flag::Quiet | Flag::Help | Flag::Version => true,
             Flag::Refused => matches!(command, Command::Canon | Command::Kind),
             Flag::Format | Flag::Max => matches!(command, Command::Check),
             // Another part may name the same geometry.
@@ -255,6 +257,7 @@ fn set(
         Flag::Help => return Ok(Some(Request::Help)),
         Flag::Version => return Ok(Some(Request::Version)),
         Flag::Places => options.places = places(alloc, value)?,
+        Flag::Dialect => options.dialects = Some(dialects(alloc, value)?),
         Flag::Format => options.form = form(alloc, value)?,
         Flag::Max => options.max = max(alloc, value)?,
         Flag::Whole => options.ends = ends(options.ends, Ends::File)?,
@@ -282,6 +285,13 @@ fn places(alloc: Global, value: &str) -> Result<u32, UsageError> {
     match value.parse::<u32>() {
         Ok(n) if n <= 36 => Ok(n),
         _ => Err(UsageError::Places(copy(alloc, value)?)),
+    }
+}
+
+fn dialects(alloc: Global, value: &str) -> Result<Dialects, UsageError> {
+    match dialects_named(value) {
+        Some(dialects) => Ok(dialects),
+        None => Err(UsageError::Dialect(copy(alloc, value)?)),
     }
 }
 

@@ -21,6 +21,9 @@ usage: wkt check [OPTIONS] [FILE..]   where texts are refused, and what was expe
 Each line of a FILE is a text of well-known text. With no FILE, or where FILE is -, standard input is read.
 
   -p, --places N    numbers have at most N digits after the point, 0 to 36 (18); nothing is rounded
+  --dialect NAMES   texts are read as other tools write them too, by names with commas between them: srid, untagged,
+                    exponents, nan; ewkt is srid,untagged. Of SRID=4326;POINT(1 2) the SRID is dropped: texts with
+                    two SRIDs can name one geometry
   -w, --whole       a FILE is one text, on any number of lines
   -0, --null        texts end at a NUL, not at a line feed
   -f, --front       what follows a geometry in its text isn't looked at
@@ -66,6 +69,8 @@ pub enum UsageError {
     Value(String),
     #[error("--places takes a number from 0 to 36, not {0}")]
     Places(String),
+    #[error("--dialect takes srid, untagged, exponents, nan or ewkt, with commas between them, not {0}")]
+    Dialect(String),
     #[error("--max takes a number, not {0}")]
     Max(String),
     #[error("--format takes text, json or tsv, not {0}")]

@@ -1,6 +1,6 @@
 //! What a run was asked to do.
-use crate::part::Part;
 use std::alloc::Global;
+use wkt_dialects::Dialects;
 
 /// The commands.
 #[derive(Clone, Copy, PartialEq, Eq, Debug)]
@@ -60,6 +60,51 @@ impl Form {
     }
 }
 
+/// One of so many parts of a file, counted from 1.
+#[derive(Clone, Copy)]
+pub struct Part {
+    pub index: u64,
+    pub count: u64,
+}
+
+impl Part {
+    /// The part that is written as `2/4`.
+    pub fn named(word: &str) -> Option<Part> {
+        let (index, count) = word.split_once('/')?;
+        let index = index.parse::<u64>().ok()?;
+        let count = count.parse::<u64>().ok()?;
+        if 1 <= index && index <= count {
+            Some(Part { index, count })
+        } else {
+            None
+        }
+    }
+}
+
+/// The dialects of these names, which have commas between them.
+pub fn dialects_named(names: &str) -> Option<Dialects> {
+    let mut asked = Dialects {
+        srid: false,
+        untagged: false,
+        exponents: false,
+        nan: false,
+    };
+    for name in names.split(',') {
+        match name {
+            "srid" => asked.srid = true,
+            "untagged" => asked.untagged = true,
+            "exponents" => asked.exponents = true,
+            "nan" => asked.nan = true,
+            "ewkt" => {
+                asked.srid = true;
+                asked.untagged = true;
+            }
+            _ => return None,
+        }
+    }
+    Some(asked)
+}
+
 /// What a run was asked to do.
 #[derive(Drop)]
 pub struct Options {
@@ -67,6 +112,8 @@ pub struct Options {
     pub form: Form,
     /// How many digits a number may have after its point, 0 to 36.
     pub places: u32,
+    /// In which dialects texts are read, if in any.
+    pub dialects: Option<Dialects>,
     pub ends: Ends,
     /// Which part of each file is read, if not all of it.
     pub part: Option<Part>,
@@ -91,6 +138,7 @@ impl Options {
             command,
             form: Form::Text,
             places: 18,
+            dialects: None,
             ends: Ends::Line,
             part: None,
             front: false,
