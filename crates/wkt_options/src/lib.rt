@@ -3,10 +3,10 @@
 //! Below stands `wkt_dialects`; above, `wkt_command`.
 #![tactic(auto)]
 
-pub mod options;
-mod parse;
+mod arguments;
+mod options;
 mod usage;
 
+pub use arguments::{Request, parse};
 pub use options::{Command, Ends, Form, Options, Part};
-pub use parse::{Request, parse};
 pub use usage::{HELP, USAGE, UsageError, VERSION};
