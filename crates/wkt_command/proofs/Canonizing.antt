@@ -1,6 +1,6 @@
 -- What becomes of a text that `wkt canon` answers, bytes that are replaced one by one, and keys that are compared by
 -- their bytes.
-use Rattle.std.proofs.Common.{◌≡◌, ℕ, ℤ, List, [], ◌∷◌, ◌++◌, take, drop, min, Option, Result, Ok, Err, OnOk, IsUtf8, ⊎_elim, true, false, sym, ap, ◌∙◌, subst, refl, Bool, Some, None, if◌then◌else◌, unwrap_or, zero, suc, ◌+◌, ◌<◌, ◌≤◌, length, get_or, slice_set, map, add-one, arith, append_assoc, append-nil, IfSome}
+use Rattle.std.proofs.Common.{◌≡◌, ℕ, ℤ, List, [], ◌∷◌, ◌++◌, take, drop, min, Option, Result, Ok, Err, OnOk, IsUtf8, inl, inr, ⊎_elim, true, false, sym, ap, ◌∙◌, subst, refl, Bool, Some, None, if◌then◌else◌, unwrap_or, zero, suc, ◌+◌, ◌<◌, ◌≤◌, length, get_or, slice_set, map, add-one, arith, append_assoc, append-nil, IfSome}
 use Rattle.std.specs.Io.KnownBytes.{Appends, Consumes, Keeps, IsAtEnd}
 use Rattle.std.proofs.KnownBytes.{Appends-kept, Appends-nil, Appends-trans}
 use Rattle.std.specs.Str.{bytes_eq}
@@ -79,18 +79,18 @@ module _ (o : Options) (text : List ℕ) (old new : Option (List ℕ)) where
   pub canonizes-read : (room : List ℕ) (len : ℕ) → Judged room (Read len) → IsUtf8 text → Appends old new (take len room ++ 10 ∷ []) → Canonizes o text old new
   canonizes-read room len h utf8 out =
       let (end, w, whole, _) = judged-read room h.other len h.of_other h.is h.placed in (
-      take len room ++ 10 ∷ [],
-      record {
-        other = h.other;
-        read_as = λ _. h.read_as;
-        read = λ u v e is.
-            let same = front_one read h.other w.value v end e w.front is.front in
-            ap (λ bs. bs ++ 10 ∷ []) (w.is ∙ ap (λ x. shape_text num (shape_of x)) same.0);
-        skipped = λ none skip. absurd (none utf8 w.value end (record { front = w.front; whole = whole }));
-        refused = λ none more. absurd (none utf8 w.value end (record { front = w.front; whole = whole }));
-      },
-      out,
-    )
+        take len room ++ 10 ∷ [],
+        record {
+          other = h.other;
+          read_as = λ _. h.read_as;
+          read = λ u v e is.
+              let same = front_one read h.other w.value v end e w.front is.front in
+              ap (λ bs. bs ++ 10 ∷ []) (w.is ∙ ap (λ x. shape_text num (shape_of x)) same.0);
+          skipped = λ none skip. absurd (none utf8 w.value end (record { front = w.front; whole = whole }));
+          refused = λ none more. absurd (none utf8 w.value end (record { front = w.front; whole = whole }));
+        },
+        out,
+      )
 
   -- what was put out is UTF-8
   pub utf8-read : (room : List ℕ) (len : ℕ) → Judged room (Read len) → IsUtf8 (take len room)
@@ -98,17 +98,17 @@ module _ (o : Options) (text : List ℕ) (old new : Option (List ℕ)) where
 
   -- it is white space, which is passed over
   pub canonizes-skipped : IsNotRead o text → IsSkipped o text → Canonizes o text old old
-  canonizes-skipped (other, as, none) skip =
-      ([], record { other = other; read_as = as; read = λ u v e is. absurd (none u v e is); skipped = λ _ _. refl; refused = λ _ more. absurd (more skip) }, Appends-nil old)
+  canonizes-skipped (other, reading, none) skip =
+      ([], record { other = other; read_as = reading; read = λ u v e is. absurd (none u v e is); skipped = λ _ _. refl; refused = λ _ more. absurd (more skip) }, Appends-nil old)
 
   -- it wasn't read, and what was asked for was put out
   pub canonizes-refused : IsNotRead o text → (IsSkipped o text → ⊥) → Appends old new (refused_line o.refused) → Canonizes o text old new
-  canonizes-refused (other, as, none) more out =
-      (refused_line o.refused, record { other = other; read_as = as; read = λ u v e is. absurd (none u v e is); skipped = λ _ skip. absurd (more skip); refused = λ _ _. refl }, out)
+  canonizes-refused (other, reading, none) more out =
+      (refused_line o.refused, record { other = other; read_as = reading; read = λ u v e is. absurd (none u v e is); skipped = λ _ skip. absurd (more skip); refused = λ _ _. refl }, out)
 
   -- one that isn't UTF-8 isn't read
   pub none-bytes : (IsUtf8 text → ⊥) → IsNotRead o text
-  none-bytes no = (text, λ u. absurd (no u), λ u v end is. no u)
+  none-bytes other = (text, λ u. absurd (other u), λ u v end is. other u)
 
   -- a text that is refused somewhere isn't read
   pub none-refused : (room : List ℕ) (r : Reason) → Judged room (Refused r) → IsNotRead o text
@@ -117,13 +117,13 @@ module _ (o : Options) (text : List ℕ) (old new : Option (List ℕ)) where
   -- nor is one with more than white space after its front, unless the front alone counts
   pub none-rest : (room : List ℕ) (at : ℕ) → Judged room (Rest at) → IsNotRead o text
   none-rest room at h =
-      let (stop, whole, (len, w), more) = judged-rest room h.other at h.of_other h.is h.placed in (
-      h.other,
-      λ _. h.read_as,
-      λ utf8 v end is.
-          let same = front_one read h.other v w.value end stop is.front w.front in
-          ⊎_elim (λ (e : o.front ≡ true). let clash : true ≡ false = sym e ∙ whole in cc) (λ white. more (subst (λ n. AllWhite (drop n h.other)) same.1 white)) is.whole,
-    )
+      let (stop, (whole, (len, w), more)) = judged-rest room h.other at h.of_other h.is h.placed in (
+        h.other,
+        λ _. h.read_as,
+        λ utf8 v end is.
+            let same = front_one read h.other v w.value end stop is.front w.front in
+            ⊎_elim (λ (e : o.front ≡ true). let clash : true ≡ false = sym e ∙ whole in cc) (λ white. more (subst (λ n. AllWhite (drop n h.other)) same.1 white)) is.whole,
+      )
 
 -- White space is text, and so is what it ends with.
 white-ascii : (bs : List ℕ) → AllWhite bs → (i : ℕ) → get_or bs i 0 < 128

@@ -53,9 +53,9 @@ module _ (places : ℕ) (front : Bool) (text room : List ℕ) where
     -- It is read as another text.
     pub in-other : (other : List ℕ) (v w : Verdict) → HasNoFront read (drop from text) → IsRestAs d (drop from text) other → Judges other v → IsPlacedVerdict (Some d) text other v w
         → IsVerdictIn (Some d) places front text room w
-    in-other other v w none as is placed = record {
+    in-other other v w none written is placed = record {
       other = other;
-      read_as = record { rest = drop from text; split_off = split; is = inr (none, as) };
+      read_as = record { rest = drop from text; split_off = split; is = inr (none, written) };
       of_other = v;
       is = is;
       placed = placed;
@@ -64,11 +64,11 @@ module _ (places : ℕ) (front : Bool) (text room : List ℕ) where
 -- A place of the other text.
 pub placed-in : (d : Dialects) (text other : List ℕ) (from at stop b s e start end : ℕ) → from ≤ length text → IsRest d text (drop from text) → IsRestAs d (drop from text) other
     → IsPlace d (drop from text) (ended_before at (spanned other)) b s e → start ≡ from + s → end ≡ from + e → IsPlaced (Some d) text other at stop start end
-placed-in d text other from at stop b s e start end inside split as place at-start at-end = inr (record {
+placed-in d text other from at stop b s e start end inside split written place at-start at-end = inr (record {
   from = from;
   inside = inside;
   split_off = split;
-  read = as;
+  read = written;
   behind = b;
   next = s;
   over = e;

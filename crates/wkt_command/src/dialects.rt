@@ -22,7 +22,6 @@ pub fn verdict_in<'a>(
     other: &'a mut Vec<u8>,
     room: &mut Vec<u8>,
 ) -> Result<Verdict<'a>, AllocError>
-    requires utf8 { IsUtf8 text.now }
     ensures { IfOk result (IsVerdictIn dialects places front text.now room.new.items) }
 {
     let Some(dialects) = dialects else {
@@ -69,7 +68,7 @@ fn placed<'a>(
     requires rest { IsRest dialects text.now (drop from text.now) }
     requires read { IsRestAs dialects (drop from text.now) read.now }
     requires utf8 { IsUtf8 (drop from text.now) }
-    ensures { IsPlacedVerdict (Some dialects) text.now read.now verdict result }
+    ensures { IsPlacedVerdict (Some dialects) text.now read.now verdict.entry result }
 {
     let rest = behind(text, from).as_bytes();
     match verdict {

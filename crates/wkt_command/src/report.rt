@@ -2,13 +2,13 @@
 ghost use Rattle.std.specs.Prelude.{◌≡◌, ◌++◌, ◌+◌, ◌-◌, ◌^◌, min, take, OnOk, string_bytes};
 ghost use Rattle.wkt_command.specs.Place.{line_after, place_text, utf8_text};
 
-use wkt_options::Ends;
 use crate::place::{Excerpt, byte_after, place_after};
 use crate::progress::Tally;
 use crate::verdict::{Refused, written};
 use std::alloc::{AllocError, Global};
 use std::fmt;
 use std::fmt::Formatter;
+use wkt_options::Ends;
 use wkt_read::words::is_white;
 
 /// Where a text stands: its file's name, and the number of its first line.

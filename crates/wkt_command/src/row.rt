@@ -1,5 +1,4 @@
 //! A refusal as data: an object of JSON, or fields with tabs between them.
-use wkt_options::{Form, Options};
 use crate::place::byte_after;
 use crate::report::{Origin, TextRefusal, past_white, push_message, push_refusal};
 use crate::shown::{is_plain, write_shown_char};
@@ -9,6 +8,7 @@ use std::alloc::{AllocError, Global};
 use std::fmt;
 use std::fmt::Formatter;
 use wkt_lines::line_end;
+use wkt_options::{Form, Options};
 
 /// Adds a refusal in the form that was asked for.
 ///

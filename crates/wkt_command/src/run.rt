@@ -11,7 +11,6 @@ use crate::dialects::verdict_in;
 use crate::dups::{Seen, put_again};
 use crate::error::CommandError;
 use crate::input::{Input, NulLines, shown_name, swap_ends};
-use wkt_options::{Command, Ends, Form, Options};
 use crate::output::{Output, put_canonical, put_kinds, put_refused};
 use crate::place::place_after;
 use crate::progress::{Progress, Tally};
@@ -24,6 +23,7 @@ use std::io::{Stderr, Stdout, Write};
 use wkt_bytes::{ByteSource, Counted, ReadAllError, read_all};
 use wkt_canonical::make_room;
 use wkt_lines::Lines;
+use wkt_options::{Command, Ends, Form, Options};
 use wkt_read::words::is_blank;
 
 /// A run over files, and what came of it so far.
@@ -332,10 +332,10 @@ impl<'a, W: Write + Drop> Run<'a, W> {
         match verdict_in(self.alloc, dialects, text, places, front, &mut read, room)? {
             Verdict::Read(len) => self.put_answer(name, len),
             Verdict::Refused(refused) => {
-                self.refuse_text(rt, origin, text, TextRefusal::Text(refused))
+                self.refuse_or_pass(rt, origin, text, TextRefusal::Text(refused))
             }
             Verdict::Rest(end) => {
-                self.refuse_text(rt, origin, text, TextRefusal::Rest(text, end))
+                self.refuse_or_pass(rt, origin, text, TextRefusal::Rest(text, end))
             }
         }
     }
@@ -350,8 +350,8 @@ impl<'a, W: Write + Drop> Run<'a, W> {
         is_blank(text.as_bytes())
     }
 
-    /// Passes over a text that isn't read, or makes its report and refuses it.
-    fn refuse_text(
+    /// Passes over a text that isn't read, where it is blank and such texts are passed over, and refuses another.
+    fn refuse_or_pass(
         &mut self,
         rt: &HostRuntime,
         origin: Origin<'_>,
@@ -367,11 +367,26 @@ impl<'a, W: Write + Drop> Run<'a, W> {
             self.tally.texts = self.tally.texts.saturating_sub(1);
             return Ok(());
         }
+        self.refuse_text(rt, origin, refusal)
+    }
+
+    /// Makes the report of a text that is refused, and refuses it.
+    fn refuse_text(
+        &mut self,
+        rt: &HostRuntime,
+        origin: Origin<'_>,
+        refusal: TextRefusal<'_>,
+    ) -> Result<(), CommandError>
+        ensures options { self.new.options ≡ self.old.options }
+        ensures canon { self.old.options.now.command ≡ Canon → OnOk result
+            (Appends (out_bytes W.contents self.old.out) (out_bytes W.contents self.new.out)
+            (refused_line self.old.options.now.refused)) }
+    {
         if !self.options.quiet {
             push_in_form(&mut self.report, self.alloc, self.options, origin, refusal)?;
-            if let TextRefusal::Text(_) = refusal {
+            if let TextRefusal::Text(refused) = refusal {
                 if self.options.ends == Ends::Line {
-                    self.tables.look(text.as_bytes());
+                    self.tables.look(refused.text.as_bytes());
                 }
             }
         }

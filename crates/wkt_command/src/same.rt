@@ -1,10 +1,10 @@
 //! `wkt same`: whether two texts name one geometry.
 use crate::dialects::verdict_in;
 use crate::error::CommandError;
-use wkt_options::Options;
 use crate::report::{Origin, TextRefusal, push_refusal};
 use crate::verdict::{Verdict, written};
 use std::alloc::Global;
+use wkt_options::Options;
 
 /// Whether the two texts name one geometry: 0 or 1; 2 where one of them is refused.
 ///

@@ -20,21 +20,18 @@ returns-in-Read g c = record {
 
 pub returns-in-Refused : goal.returns-in-Refused
 returns-in-Refused g c = record {
-  options = c.refuse_text.ensures.options;
+  options = c.refuse_or_pass.ensures.options;
   canon = λ is.
       let out = out_bytes g.W.Write.contents c.args.self.now.out in
       let verdict = rw (c.in-Refused.is, c.in-Ok.ensures.cases.0) at c.in_ok-len.ensures in
-      rw c.in-Ok.ensures.cases.0 at c.refuse_text.ensures.canon is (none-refused c.args.self.now.options.now c.args.text.now out out _ c.in-Refused.refused verdict);
+      rw c.in-Ok.ensures.cases.0 at c.refuse_or_pass.ensures.canon is (none-refused c.args.self.now.options.now c.args.text.now out out _ c.in-Refused.refused verdict);
 }
 
-pub returns-in-Rest : goal.returns-in-Rest
-returns-in-Rest g c = record {
-  options = c.refuse_text-in-Rest.ensures.options;
-  canon = λ is.
-      let out = out_bytes g.W.Write.contents c.args.self.now.out in
-      let verdict = rw (c.in-Rest.is, c.in-Ok.ensures.cases.0) at c.in_ok-len.ensures in
-      rw c.in-Ok.ensures.cases.0 at c.refuse_text-in-Rest.ensures.canon is (none-rest c.args.self.now.options.now c.args.text.now out out _ c.in-Rest.end verdict);
-}
+pub returns-clause-canon : goal.returns-clause-canon
+returns-clause-canon g c = λ is.
+    let out = out_bytes g.W.Write.contents c.args.self.now.out in
+    let verdict = rw (c.in-Rest.is, c.in-Ok.ensures.cases.0) at c.in_ok-len.ensures in
+    rw c.in-Ok.ensures.cases.0 at c.refuse_or_pass-in-Rest.ensures.canon is (none-rest c.args.self.now.options.now c.args.text.now out out _ c.in-Rest.end verdict)
 
 pub returns-in-Err-clause-canon : goal.returns-in-Err-clause-canon
 returns-in-Err-clause-canon g c = λ is.

@@ -2,7 +2,7 @@
 use Rattle.std.proofs.Common.{true, false, ◌≡◌, sym, ◌∙◌}
 use Rattle.wkt_command.specs.Canon.{out_bytes}
 use Rattle.wkt_command.proofs.Canonizing.{ok-map, canonizes-refused, canonizes-skipped}
-use Rattle.wkt_command.proofs.run.Run.refuse_text.Goals as goal
+use Rattle.wkt_command.proofs.run.Run.refuse_or_pass.Goals as goal
 
 pub returns-then-is_skipped-clause-canon : goal.returns-then-is_skipped-clause-canon
 returns-then-is_skipped-clause-canon g c = λ is none.
@@ -11,5 +11,5 @@ returns-then-is_skipped-clause-canon g c = λ is none.
 
 pub returns-clause-canon : goal.returns-clause-canon
 returns-clause-canon g c = λ is none.
-    ok-map c.refuse.result _ _ (canonizes-refused c.args.self.now.options.now c.args.text.now _ _ none
-    (λ skip. let q : true ≡ false = sym (c.is_skipped.ensures.1 skip) ∙ c.if-is_skipped.false in cc)) (c.refuse.ensures.canon is)
+    ok-map c.refuse_text.result _ _ (canonizes-refused c.args.self.now.options.now c.args.text.now _ _ none
+    (λ skip. let q : true ≡ false = sym (c.is_skipped.ensures.1 skip) ∙ c.if-is_skipped.false in cc)) (c.refuse_text.ensures.canon is)
