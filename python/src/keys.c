@@ -11,9 +11,14 @@ typedef struct {
     uint64_t key[2];
     size_t mask;
     Slot *slots;
-    Room data, ends, statuses, numbers;
+    Room data, ends, statuses, numbers, block;
 } Kept;
-enum { END = 64 }; /* the bytes of an end */
+/* A text of a block that was answered, and isn't kept yet. */
+typedef struct {
+    size_t end;
+    uint64_t hash;
+} Answered;
+enum { END = 64, AHEAD = 16 }; /* the bytes of an end; so many slots are on their way from memory */
 
 static uint64_t folded(uint64_t one, uint64_t other) {
     unsigned __int128 made = (unsigned __int128)one * other;
@@ -47,25 +52,28 @@ static Slot *slot_of(const Kept *kept, Cell cell, uint64_t hash, int stops) {
     return &kept->slots[at];
 }
 
-/* The number of the text that was written last, from `start` on; it is taken back if it is there already. */
-static int32_t number_of(Kept *kept, size_t start) {
-    size_t length = kept->data.used - start;
-    Cell cell = {(const char *)kept->data.items + start, (Py_ssize_t)length};
-    uint64_t hash = kept->key[0] ^ length;
-    int is_long = length > 2 * END;
-    Slot *slot;
-    hash = hash_of(kept, hash, cell.text, is_long ? END : length);
-    if (is_long) hash = hash_of(kept, hash, cell.text + length - END, END);
-    slot = slot_of(kept, cell, hash, is_long);
-    if (is_long && slot->number != 0 && !is_text(kept, slot->number, cell)) {
+static int is_long(size_t length) { return length > 2 * END; }
+
+/* The hash by which a text is looked for first. */
+static uint64_t first_hash(const Kept *kept, const char *text, size_t length) {
+    uint64_t hash = hash_of(kept, kept->key[0] ^ length, text, is_long(length) ? END : length);
+    return is_long(length) ? hash_of(kept, hash, text + length - END, END) : hash;
+}
+
+/* The number of a text that stands behind those that are kept: a new one is kept, right behind them. */
+static int32_t number_of(Kept *kept, Cell cell, uint64_t hash) {
+    size_t length = (size_t)cell.length;
+    Slot *slot = slot_of(kept, cell, hash, is_long(length));
+    if (is_long(length) && slot->number != 0 && !is_text(kept, slot->number, cell)) {
         hash = hash_of(kept, ~kept->key[0] ^ length, cell.text, length);
         slot = slot_of(kept, cell, hash, 0);
     }
     if (slot->number == 0) {
+        char *to = (char *)kept->data.items + kept->data.used;
+        if (to != cell.text) memmove(to, cell.text, length);
+        kept->data.used += length;
         *slot = (Slot){(uint32_t)(hash >> 32), (uint32_t)kept->ends.used};
         ((int64_t *)kept->ends.items)[kept->ends.used++] = (int64_t)kept->data.used;
-    } else {
-        kept->data.used = start;
     }
     return (int32_t)slot->number - 1;
 }
@@ -93,15 +101,35 @@ static wkt_status text_key(const Walk *walk, const Cell *cell, const Wanted *wan
     return append_text(&kept->data, cell);
 }
 
+/* Keeps the texts of a block, which stand behind each other from here on. */
+static void keep_block(Kept *kept, size_t rows) {
+    const Answered *block = kept->block.items;
+    const uint32_t *statuses = (uint32_t *)kept->statuses.items + kept->statuses.used - rows;
+    size_t start = kept->data.used;
+    for (size_t i = 0; i < rows; start = block[i++].end) {
+        Cell cell = {(const char *)kept->data.items + start, (Py_ssize_t)(block[i].end - start)};
+        int32_t *number = (int32_t *)kept->numbers.items + kept->numbers.used++;
+        if (i + AHEAD < rows) __builtin_prefetch(&kept->slots[block[i + AHEAD].hash & kept->mask]);
+        *number = statuses[i] == WKT_OK ? number_of(kept, cell, block[i].hash) : -1;
+    }
+}
+
 static wkt_status block_keys(const Walk *walk, const Wanted *wanted, Kept *kept) {
-    for (Py_ssize_t i = 0; i < walk->last - walk->first; i++) {
-        Cell cell = walk_cell(walk, i);
-        size_t start = kept->data.used;
+    size_t rows = (size_t)(walk->last - walk->first), start = kept->data.used;
+    kept->block.used = 0;
+    if (room_holds(&kept->block, rows) < 0) return WKT_NO_MEMORY;
+    for (size_t i = 0; i < rows; i++) {
+        Cell cell = walk_cell(walk, (Py_ssize_t)i);
+        size_t its = kept->data.used;
         wkt_status status = text_key(walk, &cell, wanted, kept);
+        const char *text = (const char *)kept->data.items + its;
         if (status == WKT_NO_MEMORY) return status;
         ((uint32_t *)kept->statuses.items)[kept->statuses.used++] = status;
-        ((int32_t *)kept->numbers.items)[kept->numbers.used++] = status == WKT_OK ? number_of(kept, start) : -1;
+        ((Answered *)kept->block.items)[i] =
+            (Answered){kept->data.used, status == WKT_OK ? first_hash(kept, text, kept->data.used - its) : 0};
     }
+    kept->data.used = start;
+    keep_block(kept, rows);
     return WKT_OK;
 }
 
@@ -135,8 +163,11 @@ static int keys_of(Walk *walk, const Wanted *wanted, Kept *kept) {
  * bytes) -> (data, offsets, statuses, int32 of each text: which of the kept ones it has, or -1) */
 PyObject *fast_keys(PyObject *self, PyObject *const *args, Py_ssize_t count) {
     State *state = state_of(self);
-    Kept kept = {
-        .data = {NULL, 1, 0, 0}, .ends = {NULL, 8, 0, 0}, .statuses = {NULL, 4, 0, 0}, .numbers = {NULL, 4, 0, 0}};
+    Kept kept = {.data = {NULL, 1, 0, 0},
+                 .ends = {NULL, 8, 0, 0},
+                 .statuses = {NULL, 4, 0, 0},
+                 .numbers = {NULL, 4, 0, 0},
+                 .block = {NULL, sizeof(Answered), 0, 0}};
     Wanted wanted = {0};
     PyObject *made = NULL;
     char *key;
@@ -157,5 +188,6 @@ PyObject *fast_keys(PyObject *self, PyObject *const *args, Py_ssize_t count) {
     free(kept.ends.items);
     free(kept.statuses.items);
     free(kept.numbers.items);
+    free(kept.block.items);
     return made;
 }
