@@ -36,7 +36,10 @@ fn compile(native: &Path) {
         .warnings(false);
     // The module's C is some hundred thousand lines: more than this takes minutes.
     let mut module = build.clone();
-    let module = module.opt_level(1).file(c.join("wkt_module.c"));
+    module
+        .opt_level(1)
+        .debug(false)
+        .file(c.join("wkt_module.c"));
     build
         .opt_level(2)
         .file(c.join("wkt_portable.c"))
