@@ -47,6 +47,9 @@ for what in points parts bounds counts; do
     is "$what: other than PostGIS's" "" "$(ask places "select at from ${what}_of where one is distinct from other limit 3")"
 done
 echo "of $(wc -l < "$dir/kept") kept keys PostGIS takes $(ask places "select count(*) from both_of"), with the same points, parts and bounds"
+# As EWKT, but for collections, whose members alone say their dimension there, and for what is empty, of which none is said.
+is "ewkt: other keys than those of ST_AsText, or SRIDs" "" "$(ask places "select at from both_of, lateral (select ST_AsEWKT(ST_SetSRID(g, 4326), 15) t, ST_AsText(g, 15) other) e
+    where wkt_srid(t) is distinct from 4326 or not ST_IsEmpty(g) and ST_GeometryType(g) <> 'ST_GeometryCollection' and not wkt_same(t, other, 18, 'ewkt,exponents') limit 3")"
 # Each double as its shortest decimal, which float8's text is too, in each dimension and kind; what has more places is refused.
 ask places "create function drawn(name text, i int) returns float8 language sql return ('x' || left(md5(name || i), 13))::bit(52)::int8 / (2::float8 ^ 52)" \
     "create table doubles as select drawn('x', i) x, drawn('y', i) y, drawn('z', i) z, drawn('m', i) m from generate_series(1, 10000) i" \
