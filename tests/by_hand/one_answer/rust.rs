@@ -69,12 +69,12 @@ fn explained(why: Result<Option<wkt::Refusal>, wkt::Error>) -> String {
     words.unwrap_or_else(|| "-".to_string())
 }
 
-/// Calls of one text; the crate asks for whole texts, but for `front` and `infer`.
+/// Calls of one text; the crate asks for whole texts, but for `front` and `infer_type`.
 fn single(row: &Row, text: &str) {
     let (n, places) = (row.n, row.places);
     let front = wkt::front(text, places);
     say("front.one", n, or_status(front, |it| format!("{} {}", it.end, it.text)));
-    let kind = wkt::infer(text).map(|(kind, dimension)| format!("{kind} {dimension:?}"));
+    let kind = wkt::infer_type(text).map(|(kind, dimension)| format!("{kind} {dimension:?}"));
     let words = ["", "No kind word", "No space before EMPTY", "Neither a parenthesis nor EMPTY"];
     let number = |error: wkt::InferError| words.iter().position(|it| *it == error.to_string()).unwrap();
     say("infer.one", n, kind.unwrap_or_else(|error| format!("!{}", number(error))));
