@@ -33,23 +33,39 @@ static int64_t nothing;
 #define CHECK_RESULT(at, ...) \
     if (!(at)) return WKT_NULL_POINTER;
 
-/* A function whose proved one is called by `unchecked`; or by `in_dialects`, if dialects are asked for. */
-#define CHECKED(name, LIST, parameters, passed, unchecked, ASKS, in_dialects) \
+#define SIZE_OF(it, type, count) size_t it##_len = (size_t)(count);
+#define SUM_OF(it, type, count) +((it##_len * sizeof(type) + 7) & ~(size_t)7)
+#define NO_ITEM(it, type, count) it##_len = 0;
+#define NO_ROOM(it, type, count) \
+    type *it = (type *)&nothing; \
+    (void)it;
+#define PLACED(it, type, count) \
+    type *it = (type *)(void *)at; \
+    at += (it##_len * sizeof(type) + 7) & ~(size_t)7;
+
+/* A function: `quick` is its answer where nothing may be wrong, no room is needed, and no dialect is asked for. Else it is that
+ * of `slow`, or of `in_dialects`. */
+#define CHECKED(name, LIST, ROOMS, parameters, passed, quick, slow, ASKS, in_dialects) \
     static __attribute__((noinline, cold)) wkt_status checked_##name parameters { \
         if (unseen && !wkt_supported()) return WKT_NOT_SUPPORTED; \
         LIST(CHECK_BUFFER, CHECK_BUFFER, CHECK_RESULT, CHECK_RESULT) \
         if (ASKS) return in_dialects passed; \
-        return unchecked passed; \
+        return slow passed; \
     } \
     wkt_status name parameters { \
-        if (__builtin_expect(MAY_BE_WRONG(LIST) || ASKS, 0)) return checked_##name passed; \
-        return unchecked passed; \
+        const unsigned turn = 0; \
+        ROOMS(SIZE_OF) \
+        ROOMS(NO_ROOM) \
+        (void)turn; \
+        if (__builtin_expect(MAY_BE_WRONG(LIST) || ASKS || ((size_t)0 ROOMS(SUM_OF)) != 0, 0)) \
+            return checked_##name passed; \
+        return quick; \
     }
 #define ASKS_DIALECTS (places > MOST_PLAIN)
 
 #define FUNCTION(name, LIST, parameters, passed) \
     extern __typeof__(name) proved_##name; \
-    CHECKED(name, LIST, parameters, passed, proved_##name, 0, proved_##name)
+    CHECKED(name, LIST, NO_ROOMS, parameters, passed, proved_##name passed, proved_##name, 0, proved_##name)
 
 /* A function that works in rooms: ROOMS has them, their types and how many items each has, `call` what the proved function is
  * passed. All rooms of a call are one block, in which each begins at a multiple of 8; short texts need none. Where it answers
@@ -61,17 +77,9 @@ static int64_t nothing;
 #define FUNCTION_IN_DIALECTS(name, LIST, ROOMS, ROOMLESS, parameters, passed, proved_parameters, call, ITS_ROOMS, \
                              its_parameters, its_call) \
     extern __typeof__(name) proved_##name, proved_##name##_in; \
-    CHECKED(name, LIST, parameters, passed, proved_##name, ASKS_DIALECTS, proved_##name##_in)
+    CHECKED(name, LIST, NO_ROOMS, parameters, passed, proved_##name passed, proved_##name, ASKS_DIALECTS, \
+            proved_##name##_in)
 #else
-#define SIZE_OF(it, type, count) size_t it##_len = (size_t)(count);
-#define SUM_OF(it, type, count) +((it##_len * sizeof(type) + 7) & ~(size_t)7)
-#define NO_ITEM(it, type, count) it##_len = 0;
-#define NO_ROOM(it, type, count) \
-    type *it = (type *)&nothing; \
-    (void)it;
-#define PLACED(it, type, count) \
-    type *it = (type *)(void *)at; \
-    at += (it##_len * sizeof(type) + 7) & ~(size_t)7;
 #define ROOMY(name, ROOMS, parameters, proved_parameters, call) \
     extern wkt_status proved_##name proved_parameters; \
     static __attribute__((noinline)) wkt_status roomy_##name parameters { \
@@ -95,25 +103,15 @@ static int64_t nothing;
     }
 #define WITH_NONE(name, passed, call) proved_##name call
 #define SHORT(name, passed, call) proved_##name##_short passed
-#define UNCHECKED(name, ROOMS, ROOMLESS, parameters, passed, call) \
-    static inline wkt_status unchecked_##name parameters { \
-        const unsigned turn = 0; \
-        ROOMS(SIZE_OF) \
-        ROOMS(NO_ROOM) \
-        (void)turn; \
-        if (__builtin_expect(((size_t)0 ROOMS(SUM_OF)) != 0, 0)) return roomy_##name passed; \
-        return ROOMLESS(name, passed, call); \
-    }
 #define FUNCTION_IN_ROOMS(name, LIST, ROOMS, parameters, passed, proved_parameters, call) \
     ROOMY(name, ROOMS, parameters, proved_parameters, call) \
-    UNCHECKED(name, ROOMS, WITH_NONE, parameters, passed, call) \
-    CHECKED(name, LIST, parameters, passed, unchecked_##name, 0, unchecked_##name)
+    CHECKED(name, LIST, ROOMS, parameters, passed, proved_##name call, roomy_##name, 0, roomy_##name)
 #define FUNCTION_IN_DIALECTS(name, LIST, ROOMS, ROOMLESS, parameters, passed, proved_parameters, call, ITS_ROOMS, \
                              its_parameters, its_call) \
     ROOMY(name, ROOMS, parameters, proved_parameters, call) \
-    UNCHECKED(name, ROOMS, ROOMLESS, parameters, passed, call) \
     ROOMY(name##_in, ITS_ROOMS, parameters, its_parameters, its_call) \
-    CHECKED(name, LIST, parameters, passed, unchecked_##name, ASKS_DIALECTS, roomy_##name##_in)
+    CHECKED(name, LIST, ROOMS, parameters, passed, ROOMLESS(name, passed, call), roomy_##name, ASKS_DIALECTS, \
+            roomy_##name##_in)
 #endif
 
 /* For short texts, where rooms that are none would cost a twentieth of a call. */

