@@ -21,8 +21,8 @@ static int64_t nothing;
 #define ITEMS(at, ...) | (sizeof *(at) == 1 ? 0 : at##_len)
 #define NONE(...)
 #define HIGH_BITS (8 * sizeof(size_t) - 5)
-#define MAY_BE_WRONG(LIST) \
-    ((intptr_t)(unseen LIST(BYTES, BYTES, NONE, NONE) LIST(MISSES, MISSES, MISSES, MISSES)) < 0 || \
+#define MAY_BE_WRONG(LIST, SIZE) \
+    ((intptr_t)(unseen LIST(SIZE, BYTES, NONE, NONE) LIST(MISSES, MISSES, MISSES, MISSES)) < 0 || \
      ((size_t)0 LIST(ITEMS, ITEMS, NONE, NONE)) >> HIGH_BITS)
 
 /* What is wrong. */
@@ -34,6 +34,7 @@ static int64_t nothing;
     if (!(at)) return WKT_NULL_POINTER;
 
 #define SIZE_OF(it, type, count) size_t it##_len = (size_t)(count);
+#define ANY_OF(it, type, count) | it##_len
 #define SUM_OF(it, type, count) +((it##_len * sizeof(type) + 7) & ~(size_t)7)
 #define NO_ITEM(it, type, count) it##_len = 0;
 #define NO_ROOM(it, type, count) \
@@ -45,7 +46,7 @@ static int64_t nothing;
 
 /* A function: `quick` is its answer where nothing may be wrong, no room is needed, and no dialect is asked for. Else it is that
  * of `slow`, or of `in_dialects`. */
-#define CHECKED(name, LIST, ROOMS, parameters, passed, quick, slow, ASKS, in_dialects) \
+#define CHECKED(name, LIST, SIZE, ROOMS, parameters, passed, quick, slow, ASKS, in_dialects) \
     static __attribute__((noinline, cold)) wkt_status checked_##name parameters { \
         if (unseen && !wkt_supported()) return WKT_NOT_SUPPORTED; \
         LIST(CHECK_BUFFER, CHECK_BUFFER, CHECK_RESULT, CHECK_RESULT) \
@@ -57,7 +58,7 @@ static int64_t nothing;
         ROOMS(SIZE_OF) \
         ROOMS(NO_ROOM) \
         (void)turn; \
-        if (__builtin_expect(MAY_BE_WRONG(LIST) || ASKS || ((size_t)0 ROOMS(SUM_OF)) != 0, 0)) \
+        if (__builtin_expect(MAY_BE_WRONG(LIST, SIZE) || ASKS || ((size_t)0 ROOMS(ANY_OF)) != 0, 0)) \
             return checked_##name passed; \
         return quick; \
     }
@@ -65,7 +66,7 @@ static int64_t nothing;
 
 #define FUNCTION(name, LIST, parameters, passed) \
     extern __typeof__(name) proved_##name; \
-    CHECKED(name, LIST, NO_ROOMS, parameters, passed, proved_##name passed, proved_##name, 0, proved_##name)
+    CHECKED(name, LIST, BYTES, NO_ROOMS, parameters, passed, proved_##name passed, proved_##name, 0, proved_##name)
 
 /* A function that works in rooms: ROOMS has them, their types and how many items each has, `call` what the proved function is
  * passed. All rooms of a call are one block, in which each begins at a multiple of 8; short texts need none. Where it answers
@@ -77,7 +78,7 @@ static int64_t nothing;
 #define FUNCTION_IN_DIALECTS(name, LIST, ROOMS, ROOMLESS, parameters, passed, proved_parameters, call, ITS_ROOMS, \
                              its_parameters, its_call) \
     extern __typeof__(name) proved_##name, proved_##name##_in; \
-    CHECKED(name, LIST, NO_ROOMS, parameters, passed, proved_##name passed, proved_##name, ASKS_DIALECTS, \
+    CHECKED(name, LIST, BYTES, NO_ROOMS, parameters, passed, proved_##name passed, proved_##name, ASKS_DIALECTS, \
             proved_##name##_in)
 #else
 #define ROOMY(name, ROOMS, parameters, proved_parameters, call) \
@@ -102,16 +103,19 @@ static int64_t nothing;
         } \
     }
 #define WITH_NONE(name, passed, call) proved_##name call
+#define SIZE_WITH_NONE BYTES
 #define SHORT(name, passed, call) proved_##name##_short passed
+/* A text that needs no room isn't too long. */
+#define SIZE_SHORT NONE
 #define FUNCTION_IN_ROOMS(name, LIST, ROOMS, parameters, passed, proved_parameters, call) \
     ROOMY(name, ROOMS, parameters, proved_parameters, call) \
-    CHECKED(name, LIST, ROOMS, parameters, passed, proved_##name call, roomy_##name, 0, roomy_##name)
+    CHECKED(name, LIST, BYTES, ROOMS, parameters, passed, proved_##name call, roomy_##name, 0, roomy_##name)
 #define FUNCTION_IN_DIALECTS(name, LIST, ROOMS, ROOMLESS, parameters, passed, proved_parameters, call, ITS_ROOMS, \
                              its_parameters, its_call) \
     ROOMY(name, ROOMS, parameters, proved_parameters, call) \
     ROOMY(name##_in, ITS_ROOMS, parameters, its_parameters, its_call) \
-    CHECKED(name, LIST, ROOMS, parameters, passed, ROOMLESS(name, passed, call), roomy_##name, ASKS_DIALECTS, \
-            roomy_##name##_in)
+    CHECKED(name, LIST, SIZE_##ROOMLESS, ROOMS, parameters, passed, ROOMLESS(name, passed, call), roomy_##name, \
+            ASKS_DIALECTS, roomy_##name##_in)
 #endif
 
 /* For short texts, where rooms that are none would cost a twentieth of a call. */
