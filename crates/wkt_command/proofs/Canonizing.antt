@@ -25,7 +25,7 @@ use Rattle.wkt_lines.proofs.Outcomes.{lines_of_parts}
 use Rattle.wkt_lines.specs.Reading.{GivesLine}
 use Rattle.wkt_command.specs.Verdict.{IsVerdict}
 use Rattle.wkt_command.specs.Dialects.{IsTextIn, IsPlacedVerdict, IsVerdictIn}
-use Rattle.wkt_command.specs.Canon.{IsReadAs, IsSkipped, IsAnswerTo, IsNotRead, refused_line, AreAnswers, text_of, Canonizes, CanonizesAll}
+use Rattle.wkt_command.specs.Canon.{IsSkipped, IsAnswerTo, IsNotRead, refused_line, AreAnswers, text_of, Canonizes, CanonizesAll}
 use Rattle.wkt_command.specs.declared.verdict.Verdict.{Verdict}
 use Rattle.wkt_command.specs.declared.verdict.Refused.{Refused as Reason}
 use Rattle.wkt_options.specs.declared.options.Options.{Options}

@@ -1,9 +1,8 @@
 -- What becomes of a text in dialects.
-use Rattle.std.proofs.Common.{◌≡◌, ◌⊎◌, inl, inr, ℕ, ℤ, ◌+◌, ◌≤◌, Bool, List, Option, Some, None, Result, Ok, Err, IfOk, length, length-drop, drop, min, refl, ap, arith, ◌∙◌}
+use Rattle.std.proofs.Common.{◌≡◌, inl, inr, ℕ, ℤ, ◌+◌, ◌≤◌, Bool, List, Option, Some, None, Result, Ok, Err, IfOk, length, drop, min, refl, arith}
 use Rattle.wkt_num.specs.Decimal.{decimal_text, read_decimal}
-use Rattle.wkt_access.specs.Values.{Value}
 use Rattle.wkt_read.specs.Explained.{HasFront}
-use Rattle.wkt_read.specs.Front.{Front, HasNoFront}
+use Rattle.wkt_read.specs.Front.{HasNoFront}
 use Rattle.wkt_read.specs.Spanned.{spanned}
 use Rattle.wkt_dialects.specs.Dialects.{IsRest}
 use Rattle.wkt_dialects.specs.Reading.{IsRestAs, IsPlace, ended_before}

@@ -1,5 +1,5 @@
 -- What stands behind the SRID is read, or another text.
-use Rattle.std.proofs.Common.{◌≡◌, ◌≤◌, ◌+◌, Some, drop, length, sym, subst, IfOk, ◌∙◌}
+use Rattle.std.proofs.Common.{◌≡◌, ◌≤◌, ◌+◌, drop, length, sym, subst, IfOk, ◌∙◌}
 use Rattle.wkt_dialects.specs.Dialects.{IsRest}
 use Rattle.wkt_dialects.specs.Reading.{IsRestAs}
 use Rattle.wkt_command.specs.Dialects.{IsVerdictIn}
