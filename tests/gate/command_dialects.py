@@ -1,5 +1,6 @@
 #!/usr/bin/env python3
-"""Whether the command `wkt` reads the texts of tests/data/dialects.tsv as the table says, and refuses them where it says.
+"""Whether the command `wkt` reads the texts of tests/data/dialects.tsv as the table says, and refuses them where it
+says.
 
 command_dialects.py [WORD..]: the words that call the command; dist/out/wkt without any.
 """
