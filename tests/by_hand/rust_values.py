@@ -66,7 +66,7 @@ def row(number, text, here, there, shown_here, shown_there):
     if not VALUE.match(there):
         if re.search(rb"[\d.][eE][-+]?\d|nan|inf|\d\.", text, re.I) or b"EMPTY" in text.upper():
             return "another message"
-        if number == "i64" and re.search(rb"\.\d|\d{19}", text):
+        if re.search(rb"\.\d|\d{19}" if number == "i64" else rb"\d{21}", text):
             return "another message"
     return None
 
