@@ -64,10 +64,12 @@ for sql in "drop function wkt_canonical(text, int)" "alter type wkt rename to ot
     said=$(stranger "$sql" 2>&1) && [[ $sql == "create type mine" ]] || [[ $said == *"must be"* || $said == *"denied"* ]] || wrong "hostile: $sql: $said"
 done
 # Where memory runs out amid a call its session goes on, also if the canonical text is many times as long as its text.
-if [ -z "${SANITIZED:-}" ] && command -v prlimit > /dev/null; then
-    for mb in 30 60 90 120 160 200 250 300 400; do
-        printf '%s\n' "select pg_backend_pid() as pid \\gset" "\\setenv PID :pid" "\\! prlimit --pid \$PID --as=\$((\$(sed -n 's/^VmSize:[^0-9]*\([0-9]*\) kB/\1/p' /proc/\$PID/status) * 1024 + $mb * 1048576))" \
-            "select length(wkt_canonical('SRID=1;LINESTRING(' || repeat('1e37 2,', 1000000) || '3 4)', 0, 'srid,exponents'));" "\\! prlimit --pid \$PID --as=unlimited" \
+if [ -z "${SANITIZED:-}" ] && as prlimit > /dev/null; then
+    limit=prlimit
+    [ "$(id -u)" != 0 ] || limit="setpriv --reuid postgres --regid postgres --clear-groups prlimit"
+    for mb in 30 60 120 200 300 500 1000 2000; do
+        printf '%s\n' "select pg_backend_pid() as pid \\gset" "\\setenv PID :pid" "\\! $limit --pid \$PID --as=\$((\$(sed -n 's/^VmSize:[^0-9]*\([0-9]*\) kB/\1/p' /proc/\$PID/status) * 1024 + $mb * 1048576)):" \
+            "select length(wkt_canonical('SRID=1;LINESTRING(' || repeat('1e37 2,', 1000000) || '3 4)', 0, 'srid,exponents'));" "\\! $limit --pid \$PID --as=unlimited:" \
             "select wkt_canonical('SRID=1;point(1e1 2)', 0, 'srid,exponents');" | "$bin/psql" -X -q -At -d open 2>&1 | paste -sd ' '
     done > "$dir/said"
     is "hostile: other answers where memory runs out" "" "$(grep -vxE '(41000015|ERROR: +out of memory( DETAIL: .*)?) POINT\(10 2\)' "$dir/said")"
