@@ -74,6 +74,8 @@ fn single(row: &Row, text: &str) {
     let (n, places) = (row.n, row.places);
     let front = wkt::front(text, places);
     say("front.one", n, or_status(front, |it| format!("{} {}", it.end, it.text)));
+    #[cfg(dialects)]
+    say_srid(n, text);
     let kind = wkt::infer_type(text).map(|(kind, dimension)| format!("{kind} {dimension:?}"));
     let words = ["", "No kind word", "No space before EMPTY", "Neither a parenthesis nor EMPTY"];
     let number = |error: wkt::InferError| words.iter().position(|it| *it == error.to_string()).unwrap();
@@ -95,11 +97,16 @@ fn single(row: &Row, text: &str) {
     say("arrays.one", n, or_status(held, words));
 }
 
+#[cfg(dialects)]
+fn say_srid(n: usize, text: &str) {
+    say("srid.one", n, wkt::srid(text).unwrap().map_or_else(|| "null".to_string(), |it| it.0.to_string()));
+}
+
 /// The same of one whole text in dialects, where the crate has calls in them.
 #[cfg(dialects)]
 fn in_dialects(row: &Row, text: &str) {
     let (n, places, dialects) = (row.n, row.places, row.dialects.parse::<wkt::Dialects>().unwrap());
-    say("srid.one", n, wkt::srid(text).unwrap().map_or_else(|| "null".to_string(), |it| it.0.to_string()));
+    say_srid(n, text);
     if !row.whole {
         return;
     }
