@@ -34,7 +34,7 @@ static int64_t nothing;
     if (!(at)) return WKT_NULL_POINTER;
 
 #define SIZE_OF(it, type, count) size_t it##_len = (size_t)(count);
-#define ANY_OF(it, type, count) | it##_len
+#define ANY_OF(it, type, count) || it##_len
 #define SUM_OF(it, type, count) +((it##_len * sizeof(type) + 7) & ~(size_t)7)
 #define NO_ITEM(it, type, count) it##_len = 0;
 #define NO_ROOM(it, type, count) \
@@ -58,8 +58,8 @@ static int64_t nothing;
         ROOMS(SIZE_OF) \
         ROOMS(NO_ROOM) \
         (void)turn; \
-        if (__builtin_expect(MAY_BE_WRONG(LIST, SIZE) || ASKS || ((size_t)0 ROOMS(ANY_OF)) != 0, 0)) \
-            return checked_##name passed; \
+        if (__builtin_expect(0 ROOMS(ANY_OF), 0)) return checked_##name passed; \
+        if (__builtin_expect(MAY_BE_WRONG(LIST, SIZE) || ASKS, 0)) return checked_##name passed; \
         return quick; \
     }
 #define ASKS_DIALECTS (places > MOST_PLAIN)
