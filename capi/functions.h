@@ -216,7 +216,7 @@ FUNCTION_IN_ROOMS(
     (texts, texts_len, offsets, offsets_len, valid, valid_len, places, room, room_len, ends_room, ends_room_len,
      codes_room, codes_room_len, out, out_len, out_offsets, out_offsets_len, statuses, statuses_len, needed))
 
-FUNCTION_IN_DIALECTS(wkt_arrays, ARRAYS, ARRAYS_ROOMS, WITH_NONE,
+FUNCTION_IN_DIALECTS(wkt_arrays, ARRAYS, ARRAYS_ROOMS, SHORT,
                      (const uint8_t *text, size_t text_len, uint32_t places, WktSizes *sizes, int64_t *numbers,
                       size_t numbers_len, size_t *rings, size_t rings_len, size_t *polygons, size_t polygons_len),
                      (text, text_len, places, sizes, numbers, numbers_len, rings, rings_len, polygons, polygons_len),

@@ -121,5 +121,6 @@ static int64_t nothing;
 /* For short texts, where rooms that are none would cost a twentieth of a call. */
 extern __typeof__(wkt_canonical) proved_wkt_canonical_short;
 extern __typeof__(wkt_same) proved_wkt_same_short;
+extern __typeof__(wkt_arrays) proved_wkt_arrays_short;
 
 #include "functions.h"

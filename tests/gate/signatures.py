@@ -14,7 +14,8 @@ import sys
 TOP = os.path.dirname(os.path.dirname(os.path.dirname(os.path.abspath(__file__))))
 HEADER, LISTS, RUST = "include/wkt.h", "capi/functions.h", "rust/src/ffi.rs"
 ENGINE, LINES = "javascript/src/engine.js", "javascript/src/lines.js"
-EXPORTS = [f"crates/wkt_c/src/exports{part}.rt" for part in ("", "_arrays", "_explain", "_events", "_dialects")]
+EXPORTS = [f"crates/wkt_c/src/exports{part}.rt"
+           for part in ("", "_arrays", "_explain", "_events", "_dialects", "_short")]
 SIZES = ["crates/wkt_calls/src/sizes.rt", "crates/wkt_c/src/sizes.rt", "crates/wkt_fill/src/units.rt"]
 FILES = [HEADER, LISTS, RUST, ENGINE, LINES, *EXPORTS, *SIZES]
 # Types that C has by two names. Offsets are of 64 bits, as sizes are, and one below 0 is refused as too large.

@@ -5,7 +5,7 @@ ghost use Rattle.wkt_calls.specs.Answer.{read_at, print_at, places_in, asks_whol
 ghost use Rattle.wkt_c.specs.Chunks.{AnswersSome, AnswersNone};
 ghost use Rattle.wkt_c.specs.Rows.{items_of};
 ghost use Rattle.wkt_c.specs.Rooms.{LackRooms, LackRoom, LacksLineRoom, text_room};
-ghost use Rattle.wkt_calls.specs.Calls.{AnswersCanonical, AnswersSame, ends_here};
+ghost use Rattle.wkt_calls.specs.Calls.{ends_here};
 ghost use Rattle.wkt_c.specs.Column.{AreColumnAnswers, IsColumn, IsNoColumn, row_count};
 ghost use Rattle.wkt_c.specs.ColumnArrays.{IsTextOf, IsNoTextAt};
 ghost use Rattle.wkt_calls.specs.Arrays.{IsNotFlat, HasMoreAt, AreHandedOut, HaveNoRoom};
@@ -17,8 +17,7 @@ use crate::lines::{self, answer_some};
 use crate::told::{GivenArrays, copy_out_text_at};
 use wkt_calls::arrays_call::arrays_short;
 use wkt_calls::asked::{MOST_ASKED, ends_as_asked, has_places};
-use wkt_calls::canonical::{SHORT, canonical_short};
-use wkt_calls::compare::same_short;
+use wkt_calls::canonical::SHORT;
 use wkt_calls::fill::{copy_out, copy_whole};
 use wkt_calls::infer::infer;
 use wkt_calls::lines::is_last;
@@ -59,27 +58,6 @@ pub extern "C" fn wkt_canonical(
     canonical(text, places, room, out, needed, end)
 }
 
-/// Does what `wkt_canonical` does, without a room: the status is 22 for a text of more than 200 bytes. So a call from C of a
-/// shorter one takes 25 instructions less, 6 in 100 for the points of `capi/bench/calls.sh`.
-#[unsafe(no_mangle)]
-pub extern "C" fn wkt_canonical_short(
-    text: &[u8],
-    places: u32,
-    out: &mut [u8],
-    needed: &mut usize,
-    end: &mut usize,
-) -> u32
-    ensures answers { places_in places ≤ 36 →
-        AnswersCanonical places text.now result out.old out.new needed.old needed.new end.old end.new }
-    ensures no_places { 36 < places_in places → result ≡ NO_PLACES }
-    ensures kept { result ≡ NO_PLACES → (out.new ≡ out.old) × (needed.new ≡ needed.old) × (end.new ≡ end.old) }
-{
-    if !has_places(places) {
-        return NO_PLACES;
-    }
-    canonical_short(text, places, out, needed, end)
-}
-
 /// Reports whether two texts begin with one geometry: `same` is 1 where their canonical texts are equal, and else
 /// 0; `end` and `other_end` are where each geometry ends in its text. Numbers are decimals of so many places; with 256
 /// more both whole texts are to be one geometry each. Where a text has more than 200 bytes they are written in the rooms,
@@ -117,35 +95,6 @@ pub extern "C" fn wkt_same_ends(
         Ok(compared) => {
             *end = compared.end;
             *other_end = compared.other_end;
-            if !ends_as_asked(one, compared.end, places) {
-                return NOT_WHOLE;
-            }
-            if !ends_as_asked(other, compared.other_end, places) {
-                return NOT_WHOLE;
-            }
-            *same = if compared.same { 1 } else { 0 };
-            DONE
-        }
-        Err(status) => status,
-    }
-}
-
-/// Does what `wkt_same` does, without rooms: the status is 22 for a text of more than 200 bytes.
-#[unsafe(no_mangle)]
-pub extern "C" fn wkt_same_short(one: &[u8], other: &[u8], places: u32, same: &mut u32) -> u32
-    ensures answers { places_in places ≤ 36 → (end : ℕ) × (end' : ℕ) × (other_end : ℕ) × (other_end' : ℕ)
-        × AnswersSame places one.now other.now result same.old same.new end end' other_end other_end' }
-    ensures no_places { 36 < places_in places → result ≡ NO_PLACES }
-    ensures kept { 1 ≤ result → same.new ≡ same.old }
-{
-    if !has_places(places) {
-        return NO_PLACES;
-    }
-    if one.len() > SHORT || other.len() > SHORT {
-        return MEMORY;
-    }
-    match same_short(one, other, places) {
-        Ok(compared) => {
             if !ends_as_asked(one, compared.end, places) {
                 return NOT_WHOLE;
             }

@@ -17,6 +17,7 @@ mod exports_arrays;
 mod exports_dialects;
 mod exports_events;
 mod exports_explain;
+mod exports_short;
 mod joined;
 mod lines;
 mod list;

@@ -221,16 +221,30 @@ pub fn canonical_short(
 {
     if text.len() > SHORTEST {
         if text.len() > SHORTER {
-            // Here, so that it costs the points of capi/bench/calls.sh nothing.
-            if text.len() > SHORT {
-                return MEMORY;
-            }
-            return canonical_cleared::<256, 544>(text, asked, out, needed, end);
+            return canonical_longer(text, asked, out, needed, end);
         }
         return canonical_cleared::<96, 256>(text, asked, out, needed, end);
     }
     // Last, so that it is jumped to and not called: most points go there.
     canonical_cleared::<64, 192>(text, asked, out, needed, end)
+}
+
+/// The same. It is apart, so that what may be too long costs the points of capi/bench/calls.sh nothing.
+#[inline(never)]
+fn canonical_longer(
+    text: &[u8],
+    asked: u32,
+    out: &mut [u8],
+    needed: &mut usize,
+    end: &mut usize,
+) -> u32
+    requires { places_in asked ≤ 36 }
+    ensures { AnswersCanonical asked text.now result out.old out.new needed.old needed.new end.old end.new }
+{
+    if text.len() > SHORT {
+        return MEMORY;
+    }
+    canonical_cleared::<256, 544>(text, asked, out, needed, end)
 }
 
 /// The same, with so many cleared bytes for the text, and so many for its canonical text.

@@ -1,6 +1,6 @@
 -- The first geometry has more behind it than was asked for.
 use Rattle.std.proofs.Common.{inl, refl}
-use Rattle.wkt_c.proofs.exports.wkt_same_short.Goals as goal
+use Rattle.wkt_c.proofs.exports_short.wkt_same_short.Goals as goal
 
 pub returns-then-not-ends_as_asked-clause-answers : goal.returns-then-not-ends_as_asked-clause-answers
 returns-then-not-ends_as_asked-clause-answers c _ =
