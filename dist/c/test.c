@@ -121,6 +121,7 @@ static void fills_and_copies(void) {
     CHECK_TRAPS(REM_U(large, zero));
     CHECK(DIV_U(large, 2) == large / 2 && REM_U(large, 5) == large % 5);
     CHECK(I32_CTZ(zero) == 32 && I64_CTZ((uint64_t)zero) == 64 && I64_CTZ(large) == 40 && I32_CTZ((uint32_t)8) == 3);
+    CHECK(I64_CLZ((uint64_t)zero) == 64 && I64_CLZ(large) == 22 && I64_CLZ((uint64_t)1) == 63);
 }
 
 /* With no stack left, the module's code traps. */

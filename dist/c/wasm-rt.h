@@ -101,4 +101,7 @@ ACCESS void memory_copy(uint8_t *data, uint64_t size, uint32_t to, uint32_t from
 #define REM_U(one, other) ((other) == 0 ? TRAP(DIV_BY_ZERO) : (one) % (other))
 #define I32_CTZ(number) ((number) ? (uint32_t)__builtin_ctz(number) : 32)
 #define I64_CTZ(number) ((number) ? (uint64_t)__builtin_ctzll(number) : 64)
+#define I64_CLZ(number) ((number) ? (uint64_t)__builtin_clzll(number) : 64)
+/* What else a module may need is missed when it is compiled, and not when a program is linked. */
+#pragma GCC diagnostic error "-Wimplicit-function-declaration"
 #endif
