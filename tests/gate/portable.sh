@@ -37,10 +37,10 @@ link=() cc=(gcc -O1)
 quiet "the library of the objects isn't built" capi/build.sh "$dir/objects"
 answered "$dir/objects"
 
-# sanitized COMPILER: under ASan and UBSan
+# sanitized COMPILER: under ASan and UBSan, with which more than -O0 takes minutes for the module
 sanitized() {
     local flags="-O1 -fsanitize=address,undefined -fno-sanitize-recover" out=$dir/$1
-    quiet "$1: the tests fail under ASan and UBSan" env WKT_C_LIB=portable make -s -C dist tests O="$out" CC="$1" CFLAGS="$flags" LDFLAGS="-fsanitize=address,undefined"
+    quiet "$1: the tests fail under ASan and UBSan" env WKT_C_LIB=portable make -s -C dist tests O="$out" CC="$1" CFLAGS="$flags" MODULE_FLAGS=-O0 LDFLAGS="-fsanitize=address,undefined"
     cc=("$1") link=("-fsanitize=address,undefined")
     answered "$out"
     as_objects "$out" "$1 under ASan and UBSan"
