@@ -69,7 +69,7 @@ echo "two wheels, and that of the source package, have the same bytes"
 
 # Where no objects fit, the source package gives a wheel of portable C, without the command.
 mkdir "$work/bare" && tar -xzf "$work"/built/*.tar.gz -C "$work/bare" && rm -r "$work"/bare/wkt_proved-*/native/dist/{x86_64,aarch64}
-(cd "$work"/bare/wkt_proved-*/ && MODULE_FLAGS=-O0 "$python" -m pip wheel -q --no-index --no-deps -w "$work/portable" . > "$work/said" 2>&1) || { cat "$work/said"; fail "no wheel of portable C"; }
+(cd "$work"/bare/wkt_proved-*/ && WKT_C_LIB=dist MODULE_FLAGS=-O0 "$python" -m pip wheel -q --no-index --no-deps -w "$work/portable" . > "$work/said" 2>&1) || { cat "$work/said"; fail "no wheel of portable C"; }
 "$python" -m venv "$work/plain" && pip plain install --no-index "$work"/portable/*.whl
 (cd / && "$work/plain/bin/python" -c 'import wkt, wkt._fast; assert wkt.canonical(["point(1 2.0)", None]) == ["POINT(1 2)", None]
 found = wkt.explain("POINT(1 x)")
