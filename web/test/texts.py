@@ -83,6 +83,8 @@ class Texts(Page):
     def test_geojson(self):
         self.open()
         self.type("POINT(0.1 12345678901234567890)")
+        # The forms of the answer are there once it is.
+        self.assertEqual("POINT(0.1 12345678901234567890)", self.said("out"))
         self.by_id("out").parent.find_element(By.CSS_SELECTOR, "input[value=geojson] + span").click()
         self.assertEqual('{"type":"Point","coordinates":[0.1,12345678901234567890]}', self.said("out"))
         self.type("POINT M(1 2 3)")
