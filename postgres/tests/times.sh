@@ -71,10 +71,10 @@ while read -r ms sql; do cancelled cancel "$ms" "$sql"; done <<'CALLS'
 1500 wkt_same(t, t || ' ', 18, 'exponents') from long where id = 7
 1500 wkt_explain(t || ',', 18, 'ewkt,exponents') from long where id = 6
 200 wkt_srid(repeat(repeat(' ', 1000000), 600) || 'SRID=1;')
-600 wkt_reads('', 18, repeat(repeat('nan,', 100000), 2000))
 CALLS
 # These are no constants: the planner copies those, and no cancel ends that. Before 14 the digest is one call of the server's.
 [ "$server" -lt 140000 ] || cancelled cancel 800 "digest_of(repeat(repeat('9', 1000000), id)) from generate_series(600, 600) id"
+cancelled cancel 600 "wkt_reads('', 18, repeat(repeat('nan,', 100000), id)) from generate_series(1000, 1000) id"
 cancelled latin 1300 "wkt_reads(repeat(repeat('9', 1000000), id) || chr(228)) from generate_series(600, 600) id"
 echo "cancel: calls on some 100 MB take at most $most ms of the processor after a cancel ($which)"
 # A session goes on after timeouts, and has given their memory back.
