@@ -69,7 +69,7 @@ system() {
         windows) cc=(x86_64-w64-mingw32-gcc-posix) run=wine exe=.exe link=(-static) packages="gcc-mingw-w64-x86-64-posix wine64 wine" ;;
         s390x | aarch64 | riscv64) cc=("$1-linux-gnu-gcc") run="qemu-$1-static -L /usr/$1-linux-gnu" packages="gcc-$1-linux-gnu libc6-dev-$1-cross qemu-user-static" ;;
         armhf) cc=(arm-linux-gnueabihf-gcc) run="qemu-arm-static -L /usr/arm-linux-gnueabihf" packages="gcc-arm-linux-gnueabihf qemu-user-static" ;;
-        m32) cc=(gcc -m32) packages="gcc-12-multilib libc6-dev-i386" ;;
+        m32) cc=(gcc -m32) ld=(LD="ld -m elf_i386") packages="gcc-12-multilib libc6-dev-i386" ;;
         musl) cc=(musl-gcc) link=(-static) packages=musl-tools ;;
         *) fail "$1 is no system that is known here" ;;
     esac
