@@ -75,7 +75,7 @@ system() {
     esac
     command -v "${cc[0]}" > /dev/null && { [ -z "$run" ] || command -v "${run%% *}" > /dev/null; } || fail "$1: install ${packages/dev-aarch64/dev-arm64}"
     export WINEDEBUG=-all WINEPREFIX=$dir/wine
-    quiet "$1: the tests fail" env WKT_C_LIB=portable make -s -C dist tests O="$out" CC="${cc[*]}" RUN="$run" CFLAGS="$flags" LDFLAGS="${link[*]-}"
+    quiet "$1: the tests fail" env WKT_C_LIB=portable make -s -C dist tests O="$out" CC="${cc[*]}" RUN="$run" CFLAGS="$flags" LDFLAGS="${link[*]-}" ${ld[@]+"${ld[@]}"}
     answered "$out" "$run" "$exe"
     as_objects "$out" "$1"
     [ "$1" != windows ] || lines_of_windows "$out"
