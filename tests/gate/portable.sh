@@ -63,7 +63,7 @@ generated() {
 
 # system NAME
 system() {
-    local run='' exe='' packages flags=-O2 out=$dir/$1
+    local run='' exe='' ld=() packages flags=-O2 out=$dir/$1
     link=()
     case $1 in
         windows) cc=(x86_64-w64-mingw32-gcc-posix) run=wine exe=.exe link=(-static) packages="gcc-mingw-w64-x86-64-posix wine64 wine" ;;
