@@ -24,7 +24,7 @@ build() {
     echo 'wkt_fuzz: wkt wkt_bytes wkt_lines wkt_calls wkt_c wkt_type_tests serde_json' >> "$WORK/wkt/crates.txt"
     # There the functions for C are called like any other.
     sed -i 's/^wkt_c staticlib:/wkt_c:/' "$WORK/wkt/crates.txt"
-    sed -i -E 's/^mod (exports|exports_arrays|exports_explain|sizes);/pub mod \1;/' "$WORK/wkt/crates/wkt_c/src/lib.rt"
+    sed -i -E 's/^mod (exports[a-z_]*|sizes);/pub mod \1;/' "$WORK/wkt/crates/wkt_c/src/lib.rt"
     cd "$WORK/wkt/crates/wkt_fuzz"
     nice -n 10 python3 "$here/module.py" "$WORK/module.bc" < /dev/null > "$WORK/try.log" 2>&1 || true
     cd "$WORK"
@@ -32,7 +32,7 @@ build() {
     "$kit/toolchain/bin/clang" -x ir "$WORK/module.bc" -S -emit-llvm -Xclang -disable-llvm-passes -o "$WORK/whole.ll"
     # The functions get the names by which capi/pointers.c calls them, and the program's main gives way to libFuzzer's.
     sed -E -e 's/@"wkt_fuzz::(wkt_[a-z_]+)"/@\1/g' \
-        -e 's/@"wkt_c::exports(_arrays|_explain)?::(wkt_[a-z_]+)"/@proved_\2/g' \
+        -e 's/@"wkt_c::exports(_[a-z]+)?::(wkt_[a-z_]+)"/@proved_\2/g' \
         -e 's/^define internal (noundef )?i32 @((proved_)?wkt_[a-z_]+)\(/define i32 @\2(/' \
         -e 's/^define i32 @main\(\)/define i32 @rattle_main()/' "$WORK/whole.ll" > "$WORK/wkt_fuzz.ll"
     # The flags of rt try, with libFuzzer's counters in the place of its address sanitizer; -O2 takes a minute more.
