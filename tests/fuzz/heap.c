@@ -35,7 +35,7 @@ void *heap_malloc(size_t size) {
     return at;
 }
 void heap_free(void *at) {
-    heap_held--;
+    if (at) heap_held--;
     free(at);
 }
 int wkt_supported(void) { return 1; }
