@@ -68,7 +68,7 @@ impl<T: WktNum> ToWkt<T> for Wkt<T> {
 }
 
 /// A geometry of this crate from a literal, which is checked where it is run: one that is refused panics. Its numbers are
-/// `f64`, and it is of its own type, as the crate `wkt` has it.
+/// `f64`, and has its own type, as in the crate `wkt`.
 ///
 /// ```
 /// use wkt_proved::{types::LineString, wkt};

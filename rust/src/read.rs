@@ -136,7 +136,7 @@ impl<'a> Events<'a> {
         }
     }
 
-    /// What is made of a kind. Each has a frame of its own on the stack, so that collections in one another take little of it.
+    /// What is made of a kind. Each has its own frame on the stack, so that collections in one another take little of it.
     #[inline]
     fn made<T, G: Into<Wkt<T>>>(
         &mut self,

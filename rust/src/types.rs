@@ -1,6 +1,6 @@
 //! What a [`Wkt`] is made of, under the names of the crate `wkt`.
 //!
-//! A geometry has a dimension of its own, also where it is empty. Constructors don't check that its parts have the same:
+//! A geometry has its own dimension, also where it is empty. Constructors don't check that its parts have the same:
 //! what is written is the numbers that its dimension asks for, so parts with fewer give a text that isn't read.
 use crate::error::Error;
 pub use crate::kinds::{Dimension, GeometryType};

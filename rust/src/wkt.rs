@@ -11,7 +11,7 @@ use crate::write::Written;
 use std::fmt;
 use std::str::FromStr;
 
-/// A geometry, as the crate `wkt` has it. Its numbers are `f64`, `i64` or [`Decimal`](crate::Decimal).
+/// A geometry, with the names of the crate `wkt`. Its numbers are `f64`, `i64` or [`Decimal`](crate::Decimal).
 ///
 /// ```
 /// use wkt_proved::{Decimal, Wkt};
