@@ -200,9 +200,10 @@ static void take(machine *m, uint64_t from, unsigned width, void *to, size_t cou
 #define BARE(...) __VA_ARGS__
 
 /* The functions of capi/pointers.c call these by their names; each has an instance of its own. An answer may be so many `times`
- * as long as LIST says: in dialects as often as the text that is read is longer, by read_size. */
+ * as long as LIST says: in dialects as often as the text that is read is longer, by read_size. The function that calls setjmp
+ * does nothing else, so it has no variable that a longjmp could lose. */
 #define MACHINE_FUNCTION(name, LIST, times, ROOMS, parameters, passed, call) \
-    static wkt_status inner_##name(machine *m, BARE parameters) { \
+    static __attribute__((noinline)) wkt_status inner_##name(machine *m, BARE parameters) { \
         enum { TIMES = times }; \
         uint64_t before = 0; \
         wkt_status status = WKT_NO_MEMORY; \
