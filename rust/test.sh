@@ -25,7 +25,7 @@ run() {
 if [ $# = 1 ]; then
     name=CARGO_TARGET_$(tr a-z- A-Z_ <<< "$1") processor=${1%%-*}
     case $1 in
-        *windows*) export "${name}_RUNNER=wine" ;;
+        *windows*) export "${name}_RUNNER=wine" RUST_BACKTRACE=0 ;; # wine ends a program that prints one
         *) export "${name}_LINKER=$processor-linux-gnu-gcc" "${name}_RUNNER=qemu-$processor-static -L /usr/$processor-linux-gnu" ;;
     esac
     run "$1" env -u WKT_LIB_DIR PATH="/usr/bin:$PATH" cargo test --offline --target "$1" --target-dir "$dir/cross" \
