@@ -49,7 +49,7 @@ class Dialects(Page):
         self.assertEqual("1 of 4 lines refused", self.said("say"))
         self.assertIn("no decimals", self.said("hint"))
         self.assertNotIn("choose", self.said("hint"))
-        self.driver.find_element(By.CSS_SELECTOR, "#rows tr").click()
+        self.driver.find_element(By.CSS_SELECTOR, "#rows td").click()
         self.assertEqual("POINT Z(1000 2 3)", self.said("out"))
         self.assertIn("SRID 4326", self.facts())
         self.choose("untagged", "exponents")

@@ -9,11 +9,12 @@ from selenium.webdriver.common.by import By
 from selenium.webdriver.support.ui import Select
 
 
-# Makes doubles of the lines of a text, so many times as long, and remembers the lines.
+# Makes doubles of the lines of a text, whose middle comes so many times, and remembers the lines.
 PLAIN = """
 const seen = new Set();
-for (const line of window.text.repeat(arguments[0]).split('\\n')) {
-  if (line.match(/[-0-9.]+/g)?.map(Number).length === 2) seen.add(line);
+const [begin, middle, times, end] = window.text;
+for (const line of (begin + middle.repeat(times) + end).split('\\n')) {
+  if (line.match(/[-0-9.]+/g)?.map(Number).length) seen.add(line);
 }
 return seen.size;
 """
@@ -159,25 +160,33 @@ class Files(Page):
 
     def test_large_file(self):
         """The page stays free while a large file is read, and takes little more than a script that makes doubles."""
+        place = random.Random(1)
+        pairs = [f"{place.gauss(0, 40):.6f} {place.gauss(0, 20):.6f}" for _ in range(30000)]
+        for what, begin, middle, end in (
+            ("lines", "", "".join(f"POINT ({it})\n" for it in pairs), ""),
+            ("one line", "LINESTRING (", "".join(f"{it}," for it in pairs), "0 0)\n"),
+        ):
+            with self.subTest(what):
+                self.large_file(what, begin, middle, 1 + int(self.size * 1e6 / len(middle)), end)
+
+    def large_file(self, what, *made):
         self.open()
         path = os.path.join(self.folder.name, "large.wkt")
-        place = random.Random(1)
-        made = "".join(f"POINT ({place.gauss(0, 40):.6f} {place.gauss(0, 20):.6f})\n" for _ in range(30000))
-        times = 1 + int(self.size * 1e6 / len(made))
+        begin, middle, times, end = made
         with open(path, "w", encoding="utf-8") as file:
-            file.write(made * times)
+            file.write(begin + middle * times + end)
         begun, busy, process = time.time(), self.main_thread(), self.metric("ProcessTime")
         self.drop(path)
-        self.wait(lambda: "accepted" in self.said("say"), 120 + 10 * self.size)
+        self.wait(lambda: "ccepted" in self.said("say"), 120 + 10 * self.size)
         seconds, busy = time.time() - begun, (self.main_thread() - busy) / 1000
         process = self.metric("ProcessTime") - process
         os.remove(path)
         self.script("window.text = arguments[0]", made)
         before = self.metric("ProcessTime")
-        self.script(PLAIN, times)
+        self.script(PLAIN)
         plain = self.metric("ProcessTime") - before
         self.note(
-            f"{self.size} MB: {seconds:.1f} s, {busy:.2f} s of the main thread, {process:.2f} s of the processor;"
+            f"{self.size} MB, {what}: {seconds:.1f} s, {busy:.2f} s of the main thread, {process:.2f} s of the processor;"
             f" {plain:.2f} s by a plain script; {self.said('told')}"
         )
         self.assertLess(busy, seconds / 2)
