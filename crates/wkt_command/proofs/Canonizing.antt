@@ -1,12 +1,8 @@
--- What becomes of a text that `wkt canon` answers, bytes that are replaced one by one, and keys that are compared by
--- their bytes.
-use Rattle.std.proofs.Common.{◌≡◌, ℕ, ℤ, List, [], ◌∷◌, ◌++◌, take, drop, min, Option, Result, Ok, Err, OnOk, IsUtf8, inl, inr, ⊎_elim, true, false, sym, ap, ◌∙◌, subst, refl, Bool, Some, None, if◌then◌else◌, unwrap_or, zero, suc, ◌+◌, ◌<◌, ◌≤◌, length, get_or, slice_set, map, add-one, arith, append_assoc, append-nil, IfSome}
+-- What becomes of a text that `wkt canon` answers, and bytes that are replaced one by one.
+use Rattle.std.proofs.Common.{◌≡◌, ℕ, ℤ, List, [], ◌∷◌, ◌++◌, take, drop, min, Option, Result, Ok, Err, OnOk, IsUtf8, inl, inr, ⊎_elim, true, false, sym, ap, ◌∙◌, subst, refl, Some, None, zero, suc, ◌+◌, ◌<◌, ◌≤◌, length, get_or, slice_set, map, add-one, arith, append_assoc, append-nil, IfSome}
 use Rattle.std.specs.Io.KnownBytes.{Appends, Consumes, Keeps, IsAtEnd}
 use Rattle.std.proofs.KnownBytes.{Appends-kept, Appends-nil, Appends-trans}
-use Rattle.std.specs.Str.{bytes_eq}
 use Rattle.std.proofs.lemmas.Str.{IsUtf8-from_ascii}
-use Rattle.std.specs.Map.{lookup, KeepsOthers}
-use Rattle.std.specs.Cmp.Lexicographic.{bytes_decides, nat_list_eq_equiv}
 use Rattle.wkt_num.specs.Bytes.{AllWhite, White, Run}
 use Rattle.wkt_num.specs.Decimal.{decimal_text, read_decimal}
 use Rattle.wkt_access.specs.Shapes.{shape_of}
@@ -243,29 +239,6 @@ module _ (is : List ℕ → List ℕ → Type 0) where
     answered-all (Some input) (Some left) old new (done, out, split, are, went) end =
         let all : map f (input_lines input) ≡ done = split ∙ (ap (λ xs. done ++ map f (input_lines xs)) end ∙ append-nil done) in
         (out, subst (λ ts. AreAnswers is ts out) (sym all) are, went)
-
--- Bytes that are replaced one by one, and keys that are compared by their bytes.
-
--- What a map whose keys are compared by their bytes finds after one more key.
-
-module _ {K X : Type 0} (bytes : K → List ℕ) (bs : List ℕ) (old new : List (K × X)) where
-  abbrev at_bytes : List ℕ → List (K × X) → Option X
-  at_bytes cs es = lookup (λ k. bytes_eq cs (bytes k)) es
-
-  others_stay : KeepsOthers (λ x y. bytes_eq (bytes x) (bytes y)) (λ k. bytes_eq bs (bytes k)) old new → (cs : List ℕ) → bytes_eq bs cs ≡ false →
-      at_bytes cs new ≡ at_bytes cs old
-  unfolding KeepsOthers
-  others_stay h cs n =
-      h (λ k. bytes_eq cs (bytes k)) (λ x y. nat_list_eq_equiv.congr cs (bytes x) (bytes y))
-      (λ k y. nat_list_eq_equiv.symm cs (bytes k) ∙ (ap (λ l. bytes_eq l cs) (sym ((bytes_decides bs (bytes k)).0 y)) ∙ n))
-
-  pub found_after : (v : X) → KeepsOthers (λ x y. bytes_eq (bytes x) (bytes y)) (λ k. bytes_eq bs (bytes k)) old new → at_bytes bs old ≡ None → at_bytes bs new ≡ Some v →
-      (cs : List ℕ) → at_bytes cs new ≡ (if bytes_eq bs cs then Some (unwrap_or (at_bytes cs old) v) else at_bytes cs old)
-  found_after v h none some cs = go (bytes_eq bs cs) refl
-    where
-      go : (b : Bool) → bytes_eq bs cs ≡ b → at_bytes cs new ≡ (if b then Some (unwrap_or (at_bytes cs old) v) else at_bytes cs old)
-      go true y = subst (λ l. at_bytes l new ≡ Some (unwrap_or (at_bytes l old) v)) ((bytes_decides bs cs).0 y) (some ∙ sym (ap (λ o. Some (unwrap_or o v)) none))
-      go false n = others_stay h cs n
 
 -- A list of bytes that are replaced one by one, each by its image.
 

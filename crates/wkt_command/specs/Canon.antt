@@ -76,4 +76,4 @@ CanonizesAll o left old new = IfSome left (λ input. (out : List ℕ) × AreAnsw
 
 -- Where the geometry of this canonical text was seen first, if it was.
 abbrev pub first_of : Seen → List ℕ → Option Spot
-first_of s key = get_by (λ k. bytes_eq key (string_bytes k)) s.first
+first_of s key = get_by (λ k. bytes_eq key k) s.first

@@ -1,3 +1,4 @@
+pub mod Key
 pub mod Place
 pub mod Verdict
 pub mod Dialects

@@ -5,11 +5,13 @@ ghost use Rattle.wkt_command.specs.Canon.{first_of};
 
 use crate::error::CommandError;
 use crate::input::shown_name;
+use crate::key::Key;
 use crate::output::Output;
 use crate::report::Origin;
 use crate::shown::Shown;
 use std::alloc::{AllocError, Global};
 use std::collections::HashMap;
+use std::collections::hash_map::Entry;
 use std::hash::RandomState;
 use std::io::{self, Write};
 use wkt_lines::{after_line, line_end};
@@ -25,8 +27,7 @@ pub struct Spot {
 #[derive(Drop)]
 pub struct Seen {
     alloc: Global,
-    // Texts are hashed eight bytes at a time, and lists of bytes one by one.
-    first: HashMap<String, Spot, RandomState>,
+    first: HashMap<Key, Spot, RandomState>,
 }
 
 impl Seen {
@@ -49,12 +50,14 @@ impl Seen {
             ≡ if bytes_eq canonical.now key then Some (unwrap_or (first_of self.old key) spot) else first_of self.old key) }
         ensures unchanged { OnErr result ((key : List ℕ) → first_of self.new key ≡ first_of self.old key) }
     {
-        if let Some(first) = self.first.get(canonical) {
-            return Ok(Some(*first));
+        let key = Key::new(self.alloc, canonical)?;
+        match self.first.entry(key)? {
+            Entry::Occupied(earlier) => Ok(Some(*earlier.get())),
+            Entry::Vacant(new) => {
+                new.insert(spot);
+                Ok(None)
+            }
         }
-        let key = String::from_str(self.alloc, canonical)?;
-        self.first.insert(key, spot)?;
-        Ok(None)
     }
 }
 

@@ -9,6 +9,7 @@ mod dialects;
 mod dups;
 mod error;
 mod input;
+mod key;
 mod output;
 mod part;
 mod place;
