@@ -104,7 +104,8 @@ each wkt_operations "$dir/lines" 0 1 1 decimal canonical to_string display wkt_s
 # The command answers some lines with words for people, and its status says that some were refused.
 each wkt_command "$dir/lines" 1 2 1 canon --refused refused
 each wkt_command "$dir/lines" 1 2 1 kind --refused refused -q
-each wkt_command "$dir/lines" 1 2 1 dups -p 6 -
+cat "$dir/lines" "$dir/lines" > "$dir/twice"
+each wkt_command "$dir/twice" 1 2 1 dups -p 6 -
 each wkt_command "$dir/lines" 1 2 1 check --max 0
 each wkt_command "$dir/dialects" 1 2 1 canon --dialect ewkt,exponents,nan --refused refused
 each wkt_command /dev/null 0 2 1 same 'LINESTRING(1 2,3 4)' 'linestring ( 1.0 2, 3 +4)'
