@@ -186,8 +186,8 @@ class Files(Page):
         self.script(PLAIN)
         plain = self.metric("ProcessTime") - before
         self.note(
-            f"{self.size} MB, {what}: {seconds:.1f} s, {busy:.2f} s of the main thread, {process:.2f} s of the processor;"
-            f" {plain:.2f} s by a plain script; {self.said('told')}"
+            f"{self.size} MB, {what}: {seconds:.1f} s, {busy:.2f} s of the main thread, {process:.2f} s of the"
+            f" processor; {plain:.2f} s by a plain script; {self.said('told')}"
         )
         self.assertLess(busy, seconds / 2)
         self.assertLess(process, PLAINS * plain)
