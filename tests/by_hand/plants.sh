@@ -19,10 +19,10 @@ wkt_num fast_units: \{ (None|self::fast_units\(places, &\[\]\)) \}
 # A fast way of finding text: its false says nothing, and the run is then looked at byte by byte.
 wkt_events is_ascii_fast: \{ false \}
 # Fast ways of finding a header: None and false say nothing, and the header is then read in the general way.
-wkt_machine plain: \{ None \}
-wkt_machine is_(point|polygon|multipoint|linestring|collection): \{ false \}
+wkt_sources plain: \{ None \}
+wkt_sources is_(point|polygon|multipoint|linestring|collection): \{ false \}
 # A fast way of reading a point: its None says nothing, and the text then goes by the machine.
-wkt_machine fast_point: \{ (None|self::fast_point\(places, &\[\]\)) \}
+wkt_sources fast_point: \{ (None|self::fast_point\(places, &\[\]\)) \}
 # Which of two texts stands first makes no difference.
 wkt_examples same_place: \{ .*\(alloc, other, one\) \}
 # The sink that it makes may have no room, and memory may run out: both are answers that its contract allows at any time.

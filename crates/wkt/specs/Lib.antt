@@ -51,6 +51,7 @@ pub use Rattle.wkt_machine.specs.Makers
 pub use Rattle.wkt_machine.specs.Room
 pub use Rattle.wkt_machine.specs.Events
 pub use Rattle.wkt_machine.specs.View
+pub use Rattle.wkt_sources.specs.Views
 pub use Rattle.wkt_machine.specs.Goes
 pub use Rattle.wkt_machine.specs.Machine as MachineStates
 pub use Rattle.wkt_machine.specs.Machines

@@ -20,10 +20,10 @@ use std::fmt::Display;
 use thiserror::Error;
 use wkt_convert::mismatch;
 use wkt_flat::{Geometry, Point};
-use wkt_machine::read_text;
 use wkt_num::WktNum;
 use wkt_read::ReadError;
 use wkt_types::{ConvertError, Wkt};
+use wkt_values::read_text;
 
 /// Why a JSON value gives no geometry.
 #[derive(Debug, Drop, Error)]

@@ -94,9 +94,10 @@ pub use whole::{WholeError, read_whole};
 pub use wkt_canonical::{TextWritten, canonical_into};
 pub use wkt_convert::{ToWkt, ToWktError};
 pub use wkt_explain::{Expected, Explanation, Hint, Problem, Refusal, check, explain, refusal};
-pub use wkt_machine::{FromWktStr, front_end};
 pub use wkt_num::{Decimal, Numbers, OfType, Places, WktNum};
 pub use wkt_read::{InferError, Message, ReadError, infer_type};
+pub use wkt_sources::front_end;
+pub use wkt_values::FromWktStr;
 
 /// A geometry as well-known text has it: with up to four numbers a coordinate, of any of the seven kinds.
 // A name of this crate's own: of a recursive enum that is handed on by `pub use`, the checker asks each caller for the
@@ -195,7 +196,8 @@ pub mod tokenizer {
 pub mod events {
     pub use wkt_canonical::{NoRoom, write_canonical};
     pub use wkt_machine::drive::drive;
-    pub use wkt_machine::{At, Axis, Builder, Bytes, Part, read_at};
+    pub use wkt_machine::{At, Axis, Builder, Part, read_at};
+    pub use wkt_sources::Bytes;
 }
 
 /// Geometries out of JSON, where each is a string of well-known text.
@@ -228,7 +230,6 @@ pub mod laws {
     pub use wkt_convert::laws::{flat_and_back, plain_comes_back};
     pub use wkt_explain::laws::{one_refusal, refused_has_no_front};
     pub use wkt_flat::laws::{flat_is_writable, rings_are_closed};
-    pub use wkt_machine::laws::one_message;
     pub use wkt_num::earlier::{finer_keeps, wider_keeps};
     pub use wkt_num::laws::reading_is_equation;
     pub use wkt_read::earlier::old_forms;
@@ -238,4 +239,5 @@ pub mod laws {
         read_values_are_writable, reads_back, stable_front, value_reads_back, whole_characters,
     };
     pub use wkt_types::laws::canonical_is_one;
+    pub use wkt_values::laws::one_message;
 }

@@ -10,11 +10,11 @@ ghost use Rattle.wkt.specs.FromText.{IsWhole, HasRest, OnUnread, OnRest};
 
 use std::alloc::Global;
 use thiserror::Error;
-use wkt_machine::read_text;
 use wkt_num::WktNum;
 use wkt_read::ReadError;
 use wkt_read::words::is_blank;
 use wkt_types::Wkt;
+use wkt_values::read_text;
 
 /// Why a text isn't one geometry as a whole.
 #[derive(Debug, Drop, Error)]

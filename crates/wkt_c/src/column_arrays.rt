@@ -13,7 +13,7 @@ use wkt_calls::asked::{ends_as_asked, places_of};
 use wkt_calls::flat::{flat_asked, make_point};
 use wkt_calls::status::{DONE, MEMORY, NOT_WHOLE, NULL_ROW};
 use wkt_fill::Room;
-use wkt_machine::FastPoint;
+use wkt_sources::FastPoint;
 
 /// The arrays of some first rows, one row's after the other's.
 #[derive(Drop)]

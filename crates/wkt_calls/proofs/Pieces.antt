@@ -29,7 +29,7 @@ use Rattle.wkt_num.specs.DecimalLaws.{decimal_reads_values}
 use Rattle.wkt_access.specs.declared.dimensions.Dimension.TheVariants.{XY}
 use Rattle.wkt_access.specs.Values.{Value}
 use Rattle.wkt_read.proofs.OneForm.{geometry_fits}
-use Rattle.wkt_machine.specs.Values.{IsPointFront}
+use Rattle.wkt_sources.specs.Taken.{IsPointFront}
 
 -- Bytes that are copied and lines that are answered piece by piece.
 

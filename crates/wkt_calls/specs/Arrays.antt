@@ -6,7 +6,7 @@ use Rattle.wkt_access.specs.WellFormed.{IsWellFormed}
 use Rattle.wkt_read.specs.Front.{Front}
 use Rattle.wkt_read.specs.Header.{kind_of, dim_of}
 use Rattle.wkt_calls.specs.Answer.{read_at, kind_number, dimension_number, HasNoPlaces, RefusesText, IsMore, with_front, places_in, asks_whole, EndsAsAsked}
-use Rattle.wkt_machine.specs.declared.points.FastPoint.{FastPoint}
+use Rattle.wkt_sources.specs.declared.points.FastPoint.{FastPoint}
 use Rattle.wkt_fill.specs.Filled.{view}
 use Rattle.wkt_calls.specs.declared.flat.Flat.{Flat}
 use Rattle.wkt_calls.specs.declared.sizes.WktSizes.{WktSizes}

@@ -9,7 +9,7 @@ use crate::flat::{find_point, flat_asked};
 use crate::sizes::WktSizes;
 use crate::status::{DONE, MEMORY, NOT_WHOLE, SMALL};
 use wkt_fill::Room;
-use wkt_machine::FastPoint;
+use wkt_sources::FastPoint;
 
 /// How long a text may be whose arrays are made in a room on the stack.
 const FEW_ARRAYS: usize = 64;

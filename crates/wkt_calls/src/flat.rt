@@ -8,8 +8,8 @@ use crate::asked::places_of;
 use crate::infer::{number_of_dimension, number_of_kind};
 use crate::status::NOT_TEXT;
 use wkt_fill::{Filler, Room, fill_arrays};
-use wkt_machine::{FastPoint, fast_point};
 use wkt_num::Places;
+use wkt_sources::{FastPoint, fast_point};
 
 /// Flat arrays with the kind, the dimension and the end of their geometry.
 #[derive(Drop)]

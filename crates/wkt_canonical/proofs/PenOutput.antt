@@ -28,14 +28,14 @@ use Rattle.wkt_read.proofs.OneForm.{geometry_fits}
 use Rattle.wkt_read.proofs.OnePlacing.{spanned-few}
 use Rattle.wkt_events.specs.Remaining.{line_of, remaining_spanned, IsNumberAt}
 use Rattle.wkt_events.proofs.Utf8Lines.{line-within}
-use Rattle.wkt_machine.specs.View.{bytes_view}
+use Rattle.wkt_sources.specs.Views.{bytes_view}
 use Rattle.wkt_machine.specs.Machine.{is_over}
 use Rattle.wkt_machine.specs.Goes.{GoesFrom, RefusesFrom}
 use Rattle.wkt_machine.specs.Machines.{state_of}
-use Rattle.wkt_machine.specs.declared.bytes.Bytes.{Bytes}
+use Rattle.wkt_sources.specs.declared.bytes.Bytes.{Bytes}
 use Rattle.wkt_machine.specs.declared.source.At.{At}
-use Rattle.wkt_machine.proofs.FrontValues.{front_made, no_front_there, refused}
-use Rattle.wkt_machine.proofs.TableMessages.{stops_there}
+use Rattle.wkt_sources.proofs.FrontValues.{front_made, no_front_there, refused}
+use Rattle.wkt_sources.proofs.TableMessages.{stops_there}
 use Rattle.wkt_canonical.specs.Canonical.{IsCanonicalTo, HasWritten, WritesFront, WritesCanonical, HasLongText}
 use Rattle.wkt_canonical.specs.Through.{StopsIn, WritesEvents}
 use Rattle.wkt_canonical.specs.declared.pen.Pen.{Pen}
@@ -46,7 +46,7 @@ use Rattle.wkt_read.specs.Lexemes.{without_plus}
 use Rattle.wkt_events.proofs.Runs.{kept-there}
 use Rattle.wkt_machine.specs.Makers.{MakesBareNumber, MakesNumber}
 use Rattle.wkt_machine.specs.Room.{shortest, number_cost, LeavesBehind, LeavesBehindBare}
-use Rattle.wkt_machine.proofs.ByteViews.{padded-shows}
+use Rattle.wkt_machine.proofs.Windows.{padded-shows}
 use Rattle.wkt_canonical.proofs.ShortTexts.{shortest-longer, plain, without-shortest, shortest-some}
 
 -- What events write is UTF-8 where each number's text is.

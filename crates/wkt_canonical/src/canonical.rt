@@ -7,9 +7,10 @@ use crate::pen::Pen;
 use crate::room::has_room;
 use crate::space::Space;
 use wkt_machine::drive::drive;
-use wkt_machine::{At, Bytes, Machine, message_at};
+use wkt_machine::{At, Machine};
 use wkt_num::{Numbers, OfType, WktNum};
 use wkt_read::Message;
+use wkt_sources::{Bytes, message_at};
 
 /// A number's text is at least twice as long as what it was read from, and there was no room for it: more may do. Decimals
 /// and whole numbers have no such texts.

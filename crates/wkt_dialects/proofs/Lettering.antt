@@ -9,7 +9,7 @@ use Rattle.wkt_types.specs.declared.geometry_type.GeometryType.{GeometryType}
 use Rattle.wkt_types.specs.declared.geometry_type.GeometryType.TheVariants as kind
 use Rattle.wkt_read.specs.Lexemes.{SpellsLexeme, lexeme_of, starts_number, without_plus}
 use Rattle.wkt_read.proofs.Spelled.{class_space, is_run}
-use Rattle.wkt_machine.proofs.ByteViews.{number_run}
+use Rattle.wkt_sources.proofs.ByteViews.{number_run}
 use Rattle.wkt_dialects.specs.declared.dialects.Dialects.{Dialects}
 use Rattle.wkt_dialects.specs.declared.pieces.Piece.TheVariants as piece
 use Rattle.wkt_dialects.specs.declared.pieces.Step.{Step}

@@ -7,7 +7,7 @@ use Rattle.wkt_events.specs.Remaining.{remaining_spanned, class_in, IsRunEnd, Ta
 use Rattle.wkt_events.proofs.RemainingLexemes.{spanned-nul, takes-mark, takes-run, boundary-at, class-in-run, mark-in}
 use Rattle.wkt_events.proofs.Runs.{length-range, get_or-range, run-byte}
 use Rattle.wkt_machine.specs.View.{IsBetween, IsDark, IsUnmarked}
-use Rattle.wkt_machine.proofs.ByteViews.{open_mark, close_mark, comma_mark}
+use Rattle.wkt_sources.proofs.ByteViews.{open_mark, close_mark, comma_mark}
 use Rattle.wkt_dialects.specs.declared.lexeme.Kind.{Kind}
 use Rattle.wkt_dialects.specs.declared.lexeme.Kind.TheVariants as kind
 use Rattle.wkt_dialects.specs.Reading.{from_nul}

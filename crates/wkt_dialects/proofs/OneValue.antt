@@ -11,11 +11,11 @@ use Rattle.wkt_read.proofs.OneForm.{taken_begin, geometry_fits}
 use Rattle.wkt_read.proofs.Placings.{spanned-split, spanned-ends}
 use Rattle.wkt_read.proofs.Splits.{split_one}
 use Rattle.wkt_machine.specs.Events.{events}
-use Rattle.wkt_machine.specs.Growing.{Growing, rest, grow_all}
+use Rattle.wkt_values.specs.Growing.{Growing, rest, grow_all}
 use Rattle.wkt_machine.specs.Machine as place
 use Rattle.wkt_machine.specs.Machine.{Place, State, Move, start, at, after, and_then, move, moved, said, run, step_at}
 use Rattle.wkt_machine.proofs.Complete.{value_run}
-use Rattle.wkt_machine.proofs.ValueFromEvents.{value_grows}
+use Rattle.wkt_values.proofs.ValueFromEvents.{value_grows}
 use Rattle.wkt_machine.proofs.WholeRuns.{exact}
 use Rattle.wkt_dialects.specs.declared.dialects.Dialects.{Dialects}
 use Rattle.wkt_dialects.specs.Dialects.{IsRest}

@@ -3,8 +3,8 @@
 use crate::{Dialects, Front, NoRoom, Put, place_in, rest_of, split_srid, write_as_read};
 use std::alloc::Global;
 use std::process::Abort;
-use wkt_machine::read_text;
 use wkt_num::Decimal;
+use wkt_values::read_text;
 
 // A text, the dialects by their first letters, and its canonical text; nothing where it is refused.
 const TEXTS: [(&[u8], &str, Option<&str>); 78] = [

@@ -33,11 +33,11 @@ use Rattle.wkt_machine.specs.Machine as place
 use Rattle.wkt_machine.specs.Machines.{state_of}
 use Rattle.wkt_machine.specs.Refusing.{expected_at, own, refused}
 use Rattle.wkt_machine.specs.declared.machine.Machine.{Machine}
-use Rattle.wkt_machine.proofs.ByteViews.{between_more, none_left}
+use Rattle.wkt_sources.proofs.ByteViews.{between_more, none_left}
 use Rattle.wkt_machine.proofs.WaysJoin.{lexemes_append, end_last}
 use Rattle.wkt_machine.proofs.ExpectedIsTaken.{expected_after, counted}
 use Rattle.wkt_machine.proofs.ContextOfPlace.{turn}
-use Rattle.wkt_machine.proofs.TableMessages.{gap_between, stops_message, stops_no_front}
+use Rattle.wkt_sources.proofs.TableMessages.{gap_between, stops_message, stops_no_front}
 use Rattle.wkt_machine.proofs.WholeRuns.{goes_on, refuses, begun_front}
 use Rattle.wkt_explain.specs.declared.explanation.Refusal.{Refusal}
 use Rattle.wkt_read.proofs.OneForm.{taken_begin}

@@ -9,9 +9,9 @@ ghost use Rattle.wkt_read.specs.Table.{IsReportedAt};
 
 use crate::explanation::{Explanation, Refusal};
 use crate::walked::{driven, walked};
-use wkt_machine::message_at;
 use wkt_num::{Numbers, OfType, WktNum};
 use wkt_read::Message;
+use wkt_sources::message_at;
 
 /// With which message a text is refused that has no geometry at its front. It takes no memory, and no stack for
 /// nesting, and less time than `refusal`.

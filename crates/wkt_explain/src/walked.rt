@@ -12,10 +12,11 @@ ghost use Rattle.wkt_machine.specs.Goes.{IsStuck, StopsAt};
 use crate::explanation::Refusal;
 use wkt_events::{begins_number, byte_at, run_end, skip_white};
 use wkt_machine::drive::drive;
-use wkt_machine::{Bytes, Machine, Nothing, message_at};
+use wkt_machine::{Machine, Nothing};
 use wkt_num::Numbers;
 use wkt_read::table::at_word;
 use wkt_read::words::{is_white, kind_in};
+use wkt_sources::{Bytes, message_at};
 
 /// The first place from here on where no white space stands.
 pub(crate) fn past_white(text: &[u8], from: usize) -> usize

@@ -2,9 +2,10 @@
 ghost use Rattle.wkt_fill.specs.Filled.{FillsFrontIfAny};
 
 use crate::filler::{Filler, Room};
+use wkt_machine::At;
 use wkt_machine::drive::drive;
-use wkt_machine::{At, Bytes};
 use wkt_num::Places;
+use wkt_sources::Bytes;
 
 /// Arrays, and where their geometry ends in the text.
 #[derive(Drop)]

@@ -3,9 +3,10 @@ ghost use Rattle.std.specs.Prelude.{◌≡◌, IfSome};
 ghost use Rattle.wkt_fill.specs.EventLists.{WritesFrontIfAny};
 
 use crate::event_writer::{EventRoom, EventWriter};
+use wkt_machine::At;
 use wkt_machine::drive::drive;
-use wkt_machine::{At, Bytes};
 use wkt_num::Places;
+use wkt_sources::Bytes;
 use wkt_types::Dimension;
 
 /// How many events and numbers a geometry has, and where it ends in the text.

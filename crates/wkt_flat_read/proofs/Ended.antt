@@ -5,7 +5,7 @@ use Rattle.std.specs.declared.alloc.Global.{Global}
 use Rattle.wkt_access.specs.Values.{Value}
 use Rattle.wkt_flat.specs.Tree.{Flat, flats_of, more_flats, Flats, flat_trees, flat_members}
 use Rattle.wkt_flat.specs.declared.coord.Coord.{Coord}
-use Rattle.wkt_machine.specs.Growing.{numbers_by, members_of, Frame}
+use Rattle.wkt_values.specs.Growing.{numbers_by, members_of, Frame}
 use Rattle.wkt_flat_read.specs.Trees.{flat_coord, flat_line, flat_point, flat_points, plain, plains, is_empty, some_empty, holds_empty, hold_empty, flat_area, alone, coord_by, point_at, some_holds, found_of, FlatHoldsEnded, GivesCollection, GivesFlat, GivesOther, GivesMembers, FlatGives, IsLone}
 use Rattle.wkt_access.specs.declared.dimensions.Dimension.{Dimension}
 use Rattle.wkt_types.specs.Held.{numbers_of, Held, HeldPoint}

@@ -20,17 +20,17 @@ use Rattle.wkt_read.proofs.OneForm.{geometry_fits}
 use Rattle.wkt_flat.specs.declared.coord.Coord.{Coord}
 use Rattle.wkt_convert.specs.declared.flattened.Flattened.{Flattened}
 use Rattle.wkt_machine.specs.Events.{events}
-use Rattle.wkt_machine.specs.Growing.{Growing, rest}
-use Rattle.wkt_machine.specs.Values.{TakesValue}
+use Rattle.wkt_values.specs.Growing.{Growing, rest}
+use Rattle.wkt_sources.specs.Taken.{TakesValue}
 use Rattle.wkt_machine.specs.View.{View}
-use Rattle.wkt_machine.proofs.ValueFromEvents.{value_grows}
+use Rattle.wkt_values.proofs.ValueFromEvents.{value_grows}
 use Rattle.wkt_flat_read.specs.Trees.{AnswersFlat, IsFlatRead, IsFlatFront, FlatGrew, FlatHolds, FlatHoldsWhole, FlatIsLost, tree_maker, tree_of}
 use Rattle.wkt_flat_read.specs.declared.tree.FlatTree.{FlatTree}
 use Rattle.wkt_machine.specs.Machine.{is_over}
 use Rattle.wkt_machine.specs.Goes.{GoesFrom}
 use Rattle.wkt_machine.specs.Machines.{state_of}
 use Rattle.wkt_machine.specs.declared.source.At.{At}
-use Rattle.wkt_machine.proofs.FrontValues.{front_whole, taken}
+use Rattle.wkt_sources.proofs.FrontValues.{front_whole, taken}
 use Rattle.wkt_flat_read.specs.declared.grower.FlatGrower.{FlatGrower}
 
 -- A value whose coordinates fit is what some tree is read as.

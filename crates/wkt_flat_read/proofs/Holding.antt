@@ -10,7 +10,7 @@ use Rattle.wkt_flat.specs.declared.coord.Coord.{Coord}
 use Rattle.wkt_flat.specs.declared.geometry.Geometry.{Geometry}
 use Rattle.wkt_flat.specs.declared.point.Point.{Point}
 use Rattle.wkt_machine.specs.Events.{Event}
-use Rattle.wkt_machine.specs.Growing.{Frame, Growing, coord, rest, joined, opened as grown_open, with_coord, with_line, with_point, ended, grow, shut, HasMember, HasNumbers, HasPoint, MayCome, MayEnd, MayOpen, with_number, MayJoin, with_item as grown_item, MayBeEmpty, without_items}
+use Rattle.wkt_values.specs.Growing.{Frame, Growing, coord, rest, joined, opened as grown_open, with_coord, with_line, with_point, ended, grow, shut, HasMember, HasNumbers, HasPoint, MayCome, MayEnd, MayOpen, with_number, MayJoin, with_item as grown_item, MayBeEmpty, without_items}
 use Rattle.wkt_machine.specs.declared.part.Part.{Part}
 use Rattle.wkt_machine.specs.declared.part.Part.TheVariants as part
 use Rattle.wkt_flat_read.specs.Trees.{flat_line, flat_area, flat_point, flat_points, plain, is_empty, some_empty, holds_empty, coord_by, coord_of, point_at, members, opened, frames, frames_hold, some_holds, FlatHasOnly, FlatIsLost, FlatHoldsParts, FlatHoldsEnded, FlatHoldsWhole, FlatHoldsBy, FlatHolds, FlatBecomes, FlatGrew, FlatGives, FlatGivesLast, GivesMembers, FlatJoins}

@@ -18,10 +18,10 @@ use Rattle.wkt_convert.specs.Kinds.{IsFlattened}
 use Rattle.wkt_convert.specs.declared.flattened.Flattened.{Flattened}
 use Rattle.wkt_convert.specs.declared.flattened.Found.{Found}
 use Rattle.wkt_machine.specs.Events.{Event}
-use Rattle.wkt_machine.specs.Growing.{Frame, Growing, grow_all, joined, members_of, MayAll, grow}
+use Rattle.wkt_values.specs.Growing.{Frame, Growing, grow_all, joined, members_of, MayAll, grow}
 use Rattle.wkt_flat_read.specs.declared.tree.FlatEnded.{FlatEnded}
 use Rattle.wkt_flat_read.specs.declared.tree.FlatTree.{FlatTree}
-use Rattle.wkt_machine.specs.Trees.{grow_append}
+use Rattle.wkt_values.specs.Trees.{grow_append}
 use Rattle.wkt_machine.specs.Makers.{Maker}
 use Rattle.wkt_flat_read.specs.declared.grower.FlatGrower.{FlatGrower}
 use Rattle.wkt_convert.specs.declared.flattened.Found.TheVariants as found
@@ -29,7 +29,7 @@ use Rattle.wkt_flat_read.specs.declared.tree.FlatEnded.TheVariants as ended
 use Rattle.wkt_read.specs.Answered.{IsFront}
 use Rattle.wkt_read.specs.declared.error.ReadError.{ReadError}
 use Rattle.wkt_read.specs.declared.error.ReadError.TheVariants.{Text, Memory}
-use Rattle.wkt_machine.specs.Values.{IsRead}
+use Rattle.wkt_values.specs.Values.{IsRead}
 use Rattle.wkt_machine.specs.View.{View}
 
 -- What a flat tree holds of what has grown, also where it is lent, and the flat value that it stands for.

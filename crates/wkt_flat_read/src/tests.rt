@@ -7,9 +7,9 @@ use wkt_flat::{
     Geometry, GeometryCollection, Line, LineString, MultiLineString, MultiPoint, MultiPolygon,
     Point, Polygon, Rect, Triangle,
 };
-use wkt_machine::FromWktStr;
 use wkt_read::ReadError;
 use wkt_types::{ConvertError, Wkt};
+use wkt_values::FromWktStr;
 
 /// The error of a reading, as that of a conversion.
 fn unread(error: ReadError) -> ConvertError {

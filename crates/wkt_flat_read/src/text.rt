@@ -13,9 +13,9 @@ use std::alloc::{AllocError, Global};
 use wkt_convert::{Flattened, Found};
 use wkt_flat::{Geometry, Point};
 use wkt_machine::drive::drive;
-use wkt_machine::{Bytes, message_at};
 use wkt_num::{OfType, WktNum};
 use wkt_read::{Message, ReadError};
+use wkt_sources::{Bytes, message_at};
 
 /// What has grown.
 ///

@@ -3,7 +3,7 @@ ghost use Rattle.std.specs.Prelude.{◌≡◌, ◌++◌, ◌∷◌, [], if◌the
 ghost use Rattle.wkt_flat.specs.Equal.{coord_eq};
 ghost use Rattle.wkt_flat.specs.Tree.{Flat, flat_tree};
 ghost use Rattle.wkt_convert.specs.Flatten.{first_outside};
-ghost use Rattle.wkt_machine.specs.Growing.{HasMember, HasNumbers, HasPoint, MayEnd, MayJoin, MayOpen, MayBeEmpty, ended, joined, opened, rest, with_coord, with_item, with_line, with_number, with_point, without_items};
+ghost use Rattle.wkt_values.specs.Growing.{HasMember, HasNumbers, HasPoint, MayEnd, MayJoin, MayOpen, MayBeEmpty, ended, joined, opened, rest, with_coord, with_item, with_line, with_number, with_point, without_items};
 ghost use Rattle.wkt_machine.specs.declared.part.Part.TheVariants as kind;
 ghost use Rattle.wkt_flat_read.specs.Trees.{FlatBecomes, FlatGives, GivesCollection, GivesFlat, FlatGivesLast, GivesMembers, GivesOther, FlatHolds, FlatJoins, IsLone, coord_of, found_of, point_or_none};
 

@@ -2,19 +2,11 @@ pub mod Complete
 mod Places
 pub mod BegunIsWalked
 pub mod RoomForRest
-mod Stepping
-mod StepsJoin
+pub mod Stepping
+pub mod NumberSteps
+pub mod StepsJoin
 pub mod WaysJoin
-pub mod ByteViews
-pub mod TokenSteps
-pub mod SourceRooms
-pub mod ValueFromEvents
-mod TreeHolds
+pub mod Windows
 pub mod ContextOfPlace
 pub mod ExpectedIsTaken
 pub mod WholeRuns
-pub mod TableMessages
-pub mod NextLexeme
-pub mod Reading
-pub mod ByteSteps
-pub mod FrontValues

@@ -2,14 +2,12 @@
 use Rattle.std.specs.Prelude.{◌≡◌, ℕ, List, [], ◌∷◌, ◌++◌, Option, Some, None, true, false}
 use Rattle.wkt_num.specs.Bytes.{Lexeme}
 use Rattle.wkt_access.specs.Values.{Value}
-use Rattle.wkt_access.specs.WellFormed.{IsWellFormed}
 use Rattle.wkt_read.specs.Grammar.{StandFor}
 use Rattle.wkt_read.specs.Begun.{BegunGeometry, NoneBegins, IsJustDead}
 use Rattle.wkt_read.specs.Explained.{IsExpectedAfter}
 use Rattle.wkt_machine.specs.Machine as place
 use Rattle.wkt_machine.specs.Machine.{State, start, is_over, at, after, move, run}
 use Rattle.wkt_machine.specs.Events.{Event, events}
-use Rattle.wkt_machine.specs.Growing.{rest, grow_all, MayAll}
 use Rattle.wkt_machine.specs.Refusing.{expected_at}
 
 module _ {N : Type 0} (read : List ℕ → Option N) where
@@ -42,8 +40,3 @@ module _ {N : Type 0} (read : List ℕ → Option N) where
   Expects =
       (before : List Lexeme) (s : State) (es : List (Event N))
       → run read start before ≡ Some (s, es) → is_over s ≡ false → IsExpectedAfter read before (expected_at s.place s.depth)
-
--- A value whose coordinates fit their headers grows from its events, and each may come where it does.
-abbrev pub GrowsFromEvents : {N : Type 0} → (is_value : N → Type 0) → Type 0
-GrowsFromEvents {N} is_value =
-    (v : Value N) → IsWellFormed is_value v → (grow_all (events v) (rest [] None) ≡ rest [] (Some v)) × MayAll (events v) (rest [] None)

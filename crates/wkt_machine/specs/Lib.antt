@@ -6,10 +6,6 @@ pub mod Machines
 pub mod Room
 pub mod Makers
 pub mod View
-pub mod Growing
-pub mod Trees
-pub mod Values
 pub mod Refusing
 pub mod Goes
 pub mod Steps
-pub mod LexemesAhead

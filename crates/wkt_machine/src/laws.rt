@@ -1,6 +1,5 @@
 //! Laws of the definitions: each function does nothing, and its contract is the law.
-ghost use Rattle.wkt_read.specs.Laws.{OneMessage};
-ghost use Rattle.wkt_machine.specs.Laws.{Completes, MachineIsExact, MachineGoesOn, Refuses, Expects, GrowsFromEvents};
+ghost use Rattle.wkt_machine.specs.Laws.{Completes, MachineIsExact, MachineGoesOn, Refuses, Expects};
 
 use wkt_num::WktNum;
 
@@ -30,14 +29,4 @@ pub fn refuses<T: WktNum>()
 #[tactic(auto, using(crate::proofs::ExpectedIsTaken::expected_after))]
 pub fn expects<T: WktNum>()
     ensures { Expects T.read }
-{}
-
-/// A value whose coordinates fit their headers grows from its events, so these determine it.
-pub fn grows<T: WktNum>()
-    ensures { GrowsFromEvents T.is_value }
-{}
-
-/// A text has a front, or it is refused with one message.
-pub fn one_message<T: WktNum>()
-    ensures { OneMessage T.read }
 {}

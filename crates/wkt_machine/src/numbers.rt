@@ -109,7 +109,7 @@ fn slow_end<N: Numbers>(numbers: N, text: &[u8], at: usize) -> Option<usize>
 
 /// Puts fewer bytes than a window has to the front of one. The NULs behind them end a run as the text's end does.
 #[inline(always)]
-#[tactic(auto, using(crate::proofs::ByteViews::nul_behind))]
+#[tactic(auto, using(crate::proofs::Windows::nul_behind))]
 pub fn pad(window: &mut [u8; NUMBER_WINDOW], bytes: &[u8])
     requires short { length bytes.now < 32 }
     requires zeros { (i : ℕ) → slice_index_or window.old i 0 ≡ 0 }

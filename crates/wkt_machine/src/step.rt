@@ -52,7 +52,7 @@ impl Machine {
 
     /// A geometry begins here.
     #[inline(always)]
-    pub(crate) fn at_kind<T: WktNum, S: Source<T>, B: Builder<T>>(
+    pub fn at_kind<T: WktNum, S: Source<T>, B: Builder<T>>(
         self,
         seen: Seen,
         source: S,
@@ -84,7 +84,7 @@ impl Machine {
 
     /// A kind word stands before.
     #[inline(always)]
-    pub(crate) fn at_dimension<T: WktNum, S: Source<T>, B: Builder<T>>(
+    pub fn at_dimension<T: WktNum, S: Source<T>, B: Builder<T>>(
         self,
         seen: Seen,
         source: S,
@@ -157,7 +157,7 @@ impl Machine {
 
     /// A number of a coordinate comes next. A point without parentheses ends with its last.
     #[inline(always)]
-    pub(crate) fn at_number<T: WktNum, S: Source<T>, B: Builder<T>>(
+    pub fn at_number<T: WktNum, S: Source<T>, B: Builder<T>>(
         self,
         axis: Axis,
         seen: Seen,

@@ -5,9 +5,9 @@ use std::io::ErrorKind;
 use std::process::Abort;
 use wkt_access::Error;
 use wkt_convert::{ToWkt, ToWktError};
-use wkt_machine::FromWktStr;
 use wkt_type_tests::support::Slow;
 use wkt_types::{Coord, Dimension, GeometryCollection, Point, Wkt};
+use wkt_values::FromWktStr;
 
 /// A drawing, which has a geometry for others.
 #[derive(Drop)]

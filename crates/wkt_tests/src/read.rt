@@ -2,9 +2,9 @@
 use crate::support::asserts::equal;
 use std::alloc::Global;
 use std::process::Abort;
-use wkt_machine::FromWktStr;
 use wkt_read::{PeekableTokens, ReadError, Token, Tokens, infer_type};
 use wkt_types::Wkt;
+use wkt_values::FromWktStr;
 
 const BAD_NUMBER: &str = "Unable to parse input number as the desired output type";
 

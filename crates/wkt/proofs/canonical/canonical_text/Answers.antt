@@ -1,6 +1,6 @@
 -- An empty text has no front. The message on a bad number comes only where the number type refuses one.
 use Rattle.std.proofs.Common.{sym, ◌∙◌}
-use Rattle.wkt_machine.proofs.TableMessages as empty
+use Rattle.wkt_sources.proofs.TableMessages as empty
 use Rattle.wkt.proofs.Texts.{bad_of}
 use Rattle.wkt.proofs.canonical.canonical_text.Goals as goal
 

@@ -1,7 +1,7 @@
 -- The arrays of the point stand in the buffers, or one of these has no room.
 use Rattle.std.proofs.Common.{rules, ◌≡◌, ◌∙◌, ap₂, ℕ, List, [], ◌∷◌, refl, arith, inl, inr, to_z, of_z, w64}
 use Rattle.wkt_calls.specs.Answer.{with_front}
-use Rattle.wkt_machine.specs.declared.points.FastPoint.{FastPoint}
+use Rattle.wkt_sources.specs.declared.points.FastPoint.{FastPoint}
 use Rattle.wkt_calls.specs.Arrays.{IsFlatPoint, AreReported}
 use Rattle.wkt_calls.proofs.arrays_call.copy_out_point.Goals as goal
 use Rattle.wkt_calls.proofs.arrays_call.copy_out_point.Goals.{then-numbers-lt2-via-then-numbers-lt2, then-numbers-lt2-via-else-numbers-lt2+then-rings-lt2, then-numbers-lt2-via-else-numbers-lt2+else-rings-lt2+then-polygons-lt2}

@@ -1,7 +1,7 @@
 -- What was written stands at the front of the buffer; or the machine stops, and the message is that of its place.
 use Rattle.std.proofs.Common.{refl, rules, sym, subst, IsUtf8}
 use Rattle.wkt_machine.specs.Goes.{StopsAt}
-use Rattle.wkt_machine.proofs.TableMessages.{stops_message, stops_no_front}
+use Rattle.wkt_sources.proofs.TableMessages.{stops_message, stops_no_front}
 use Rattle.wkt_canonical.specs.Through.{pen_over}
 use Rattle.wkt_canonical.proofs.PenOutput.{wrote-here}
 use Rattle.wkt_canonical.proofs.canonical.canonical_in_room.Goals as goal

@@ -1,6 +1,6 @@
 -- The machine goes over the text's bytes with the pen.
 use Rattle.std.proofs.Common.{ap, arith, length, refl}
-use Rattle.wkt_machine.proofs.SourceRooms.{start_room}
+use Rattle.wkt_sources.proofs.SourceRooms.{start_room}
 use Rattle.wkt_canonical.specs.PenMaker.{pen_maker}
 use Rattle.wkt_canonical.specs.Through.{pen_over}
 use Rattle.wkt_canonical.proofs.PenOutput.{depth_fits, stops_at, writes_events, writes_nothing}

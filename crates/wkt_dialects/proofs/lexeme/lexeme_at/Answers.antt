@@ -1,7 +1,7 @@
 use Rattle.std.proofs.Common.{arith, ◌≡◌, ◌≢◌, ◌<◌, true, false, get_or, ap, ◌∙◌}
 use Rattle.wkt_num.specs.Bytes.{class_of, Run}
 use Rattle.wkt_read.specs.Lexemes.{starts_number}
-use Rattle.wkt_machine.proofs.ByteViews.{unmarked}
+use Rattle.wkt_sources.proofs.ByteViews.{unmarked}
 use Rattle.wkt_dialects.proofs.Lexemes.{nothing-there, found-open, found-close, found-comma, found-number, found-word}
 use Rattle.wkt_dialects.proofs.lexeme.lexeme_at.Goals as goal
 

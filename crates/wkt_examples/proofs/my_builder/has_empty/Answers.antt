@@ -1,6 +1,6 @@
 -- What the drive made is of the events of the front's value.
 use Rattle.std.proofs.Common.{ap, sym, ◌∙◌, subst, arith, length, false, IsUtf8}
-use Rattle.wkt.specs.View.{bytes_view}
+use Rattle.wkt.specs.Views.{bytes_view}
 use Rattle.wkt.proofs.OnePlacing.{spanned-few}
 use Rattle.wkt.proofs.ByteViews.{whole_left}
 use Rattle.wkt.proofs.FrontValues.{front_made, no_front_there}

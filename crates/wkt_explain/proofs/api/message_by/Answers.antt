@@ -1,5 +1,5 @@
 -- A text without a front is one in which the machine stops.
-use Rattle.wkt_machine.proofs.TableMessages.{stops_message}
+use Rattle.wkt_sources.proofs.TableMessages.{stops_message}
 use Rattle.wkt_explain.proofs.api.message_by.Goals as goal
 
 pub unreachable-requires : goal.unreachable-requires

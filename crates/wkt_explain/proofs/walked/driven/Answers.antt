@@ -2,12 +2,12 @@
 use Rattle.std.proofs.Common.{ap, ◌∙◌, arith, length, false, refl}
 use Rattle.wkt_read.proofs.OnePlacing.{spanned-few}
 use Rattle.wkt_read.proofs.HeaderPlaces.{front-within}
-use Rattle.wkt_machine.specs.View.{bytes_view}
+use Rattle.wkt_sources.specs.Views.{bytes_view}
 use Rattle.wkt_machine.specs.Makers.{nothing_maker}
-use Rattle.wkt_machine.proofs.ByteViews.{whole_left}
-use Rattle.wkt_machine.proofs.FrontValues.{front_made, refused}
+use Rattle.wkt_sources.proofs.ByteViews.{whole_left}
+use Rattle.wkt_sources.proofs.FrontValues.{front_made, refused}
 use Rattle.wkt_machine.proofs.RoomForRest.{free_room}
-use Rattle.wkt_machine.proofs.TableMessages.{stops_there}
+use Rattle.wkt_sources.proofs.TableMessages.{stops_there}
 use Rattle.wkt_explain.proofs.walked.driven.Goals as goal
 
 pub drive-requires : goal.drive-requires

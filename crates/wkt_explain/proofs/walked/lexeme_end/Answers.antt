@@ -1,7 +1,7 @@
 -- A mark has one byte; a run ends where it is said to.
 use Rattle.std.proofs.Common.{sym, ◌∙◌}
 use Rattle.wkt_num.specs.Bytes.{Open, Close, Comma}
-use Rattle.wkt_machine.proofs.ByteViews.{open_mark, close_mark, comma_mark, unmarked}
+use Rattle.wkt_sources.proofs.ByteViews.{open_mark, close_mark, comma_mark, unmarked}
 use Rattle.wkt_explain.proofs.StopsAreRefusals.{ends_mark, ends_run}
 use Rattle.wkt_explain.proofs.walked.lexeme_end.Goals as goal
 

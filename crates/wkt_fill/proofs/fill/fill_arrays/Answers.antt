@@ -3,9 +3,9 @@ use Rattle.std.proofs.Common.{ap, sym, subst, arith, length, false, refl, IsUtf8
 use Rattle.wkt_num.specs.Decimal.{read_decimal}
 use Rattle.wkt_read.specs.Front.{Front, HasNoFront}
 use Rattle.wkt_read.proofs.OnePlacing.{spanned-few}
-use Rattle.wkt_machine.specs.View.{bytes_view}
-use Rattle.wkt_machine.proofs.ByteViews.{whole_left}
-use Rattle.wkt_machine.proofs.FrontValues.{front_made, no_front_there}
+use Rattle.wkt_sources.specs.Views.{bytes_view}
+use Rattle.wkt_sources.proofs.ByteViews.{whole_left}
+use Rattle.wkt_sources.proofs.FrontValues.{front_made, no_front_there}
 use Rattle.wkt_machine.proofs.RoomForRest.{free_room}
 use Rattle.wkt_fill.specs.Filled.{filler_maker}
 use Rattle.wkt_fill.proofs.Finished.{filled}

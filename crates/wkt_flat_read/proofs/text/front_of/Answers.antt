@@ -6,12 +6,12 @@ use Rattle.wkt_convert.specs.declared.flattened.Flattened.TheVariants.{Other}
 use Rattle.wkt_convert.specs.declared.flattened.Found.TheVariants as found
 use Rattle.wkt_read.proofs.OnePlacing.{spanned-few}
 use Rattle.wkt_read.proofs.Refusals.{said_bad}
-use Rattle.wkt_machine.specs.View.{bytes_view}
-use Rattle.wkt_machine.specs.Growing.{rest}
-use Rattle.wkt_machine.proofs.ByteViews.{whole_left}
+use Rattle.wkt_sources.specs.Views.{bytes_view}
+use Rattle.wkt_values.specs.Growing.{rest}
+use Rattle.wkt_sources.proofs.ByteViews.{whole_left}
 use Rattle.wkt_machine.proofs.RoomForRest.{free_room}
-use Rattle.wkt_machine.proofs.TableMessages.{stops_there, stops_message, stops_no_front}
-use Rattle.wkt_machine.proofs.FrontValues.{refused}
+use Rattle.wkt_sources.proofs.TableMessages.{stops_there, stops_message, stops_no_front}
+use Rattle.wkt_sources.proofs.FrontValues.{refused}
 use Rattle.wkt_flat_read.specs.Trees.{tree_maker, tree_of}
 use Rattle.wkt_flat_read.proofs.Ended.{gives_lone}
 use Rattle.wkt_flat_read.proofs.Flats.{answer_text, answer_message, answer_refusal, lent, answer_found}

@@ -1,6 +1,6 @@
 -- An empty text has no front, and is refused as what it is.
 use Rattle.std.proofs.Common.{◌∙◌, sym}
-use Rattle.wkt_machine.proofs.TableMessages as empty
+use Rattle.wkt_sources.proofs.TableMessages as empty
 use Rattle.wkt_flat_read.proofs.text.read_text.Goals as goal
 
 pub returns-then-is_empty-clause-no_front : goal.returns-then-is_empty-clause-no_front

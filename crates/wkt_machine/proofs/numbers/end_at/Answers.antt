@@ -1,5 +1,5 @@
 -- A number that keeps its text ends where its run does.
-use Rattle.wkt_machine.proofs.ByteViews.{keeps_begins, shown-there}
+use Rattle.wkt_machine.proofs.Windows.{keeps_begins, shown-there}
 use Rattle.wkt_machine.proofs.numbers.end_at.Goals as goal
 
 pub returns-in-Some-clause-some : goal.returns-in-Some-clause-some

@@ -1,5 +1,5 @@
 -- The number that the window shows stands there.
-use Rattle.wkt_machine.proofs.ByteViews.{shown-there}
+use Rattle.wkt_machine.proofs.Windows.{shown-there}
 use Rattle.wkt_machine.proofs.numbers.read_by.Goals as goal
 
 pub returns-in-Some-clause-some : goal.returns-in-Some-clause-some

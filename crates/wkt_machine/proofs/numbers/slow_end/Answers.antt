@@ -1,6 +1,6 @@
 -- A number that keeps its text in the window ends where its run does.
 use Rattle.std.proofs.Common.{arith, length, ◌-◌, take, drop}
-use Rattle.wkt_machine.proofs.ByteViews.{keeps_begins, none-unrun, padded-shows, shown-there, zero-at}
+use Rattle.wkt_machine.proofs.Windows.{keeps_begins, none-unrun, padded-shows, shown-there, zero-at}
 use Rattle.wkt_machine.proofs.numbers.slow_end.Goals as goal
 
 pub pad-requires-clause-zeros : goal.pad-requires-clause-zeros

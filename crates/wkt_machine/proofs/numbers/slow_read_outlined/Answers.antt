@@ -1,6 +1,6 @@
 -- The number that the window shows stands there.
 use Rattle.std.proofs.Common.{arith, length, ◌-◌, take, drop}
-use Rattle.wkt_machine.proofs.ByteViews.{none-unrun, padded-shows, shown-there, zero-at}
+use Rattle.wkt_machine.proofs.Windows.{none-unrun, padded-shows, shown-there, zero-at}
 use Rattle.wkt_machine.proofs.numbers.slow_read_outlined.Goals as goal
 
 pub pad-requires-clause-zeros : goal.pad-requires-clause-zeros

@@ -2,7 +2,7 @@
 use Rattle.std.proofs.Common.{rules, arith, length, ◌-◌, take, drop, subst}
 use Rattle.wkt_num.specs.Number.{ReadsTexts}
 use Rattle.wkt_canonical.proofs.PenOutput.{num_utf8, kept-numbered, padded-keeps}
-use Rattle.wkt_machine.proofs.ByteViews.{none-unrun, zero-at}
+use Rattle.wkt_machine.proofs.Windows.{none-unrun, zero-at}
 use Rattle.wkt_canonical.specs.PenMaker.{Extends}
 use Rattle.wkt_canonical.proofs.pen.Pen.slow_number_outlined.Goals as goal
 

@@ -3,7 +3,7 @@ use Rattle.std.proofs.Common.{refl, ap}
 use Rattle.wkt_machine.specs.Machines.{state_of}
 use Rattle.wkt_machine.specs.Room.{owed}
 use Rattle.wkt_machine.specs.declared.machine.State.TheVariants as next
-use Rattle.wkt_machine.proofs.NextLexeme.{bare_number, unread}
+use Rattle.wkt_machine.proofs.NumberSteps.{bare_number, unread}
 use Rattle.wkt_machine.proofs.Stepping.{bare_none}
 use Rattle.wkt_machine.proofs.StepsJoin.{on_at, refused_to, rest_room, stuck}
 use Rattle.wkt_machine.proofs.machine.Machine.at_member.Goals as goal

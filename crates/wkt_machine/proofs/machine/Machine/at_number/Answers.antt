@@ -3,7 +3,7 @@ use Rattle.std.proofs.Common.{refl, sym, ap, ◌∙◌, arith}
 use Rattle.wkt_machine.specs.Machine.{at}
 use Rattle.wkt_machine.specs.Machines.{state_of, place_of, state_for}
 use Rattle.wkt_machine.specs.Room.{owed}
-use Rattle.wkt_machine.proofs.NextLexeme.{closes_number, inner_number, no_err, other_none, unread}
+use Rattle.wkt_machine.proofs.NumberSteps.{closes_number, inner_number, no_err, other_none, unread}
 use Rattle.wkt_machine.proofs.RoomForRest.{after_owes, less_room, number_room, number_after}
 use Rattle.wkt_machine.proofs.StepsJoin.{on_at, refused_to, rest_room, stuck}
 use Rattle.wkt_machine.proofs.machine.Machine.at_number.Goals as goal

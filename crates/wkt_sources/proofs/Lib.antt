@@ -1,0 +1,7 @@
+pub mod ByteViews
+pub mod TokenSteps
+pub mod SourceRooms
+pub mod TableMessages
+pub mod NextLexeme
+pub mod ByteSteps
+pub mod FrontValues

@@ -1,0 +1,134 @@
+//! Tokens as a source.
+ghost use Rattle.std.specs.Prelude.{◌≡◌, refl};
+ghost use Rattle.wkt_read.specs.Peeks.{found};
+ghost use Rattle.wkt_sources.specs.Views.{seen_found, tokens_of};
+
+use crate::bytes::seen_word;
+use wkt_machine::step::on;
+use wkt_machine::{At, Axis, Builder, Machine, Part, Seen, Source, State, Walk, Walked};
+use wkt_num::WktNum;
+use wkt_read::PeekableTokens;
+use wkt_read::words::Lexeme;
+
+/// The tokens of a text, one after another, which are lent.
+#[derive(Drop)]
+pub struct OneByOne<'t, 'a, T> {
+    pub(crate) tokens: &'t mut PeekableTokens<'a, T>,
+}
+
+impl<'t, 'a, T: WktNum> OneByOne<'t, 'a, T> {
+    #[inline(always)]
+    pub fn new(tokens: &'t mut PeekableTokens<'a, T>) -> Self
+        ensures { tokens_of result ≡ tokens.entry }
+    {
+        OneByOne { tokens }
+    }
+
+    /// The tokens, of which some are left.
+    #[inline(always)]
+    pub fn into_tokens(self) -> &'t mut PeekableTokens<'a, T>
+        ensures { result ≡ tokens_of self.entry }
+    {
+        self.tokens
+    }
+}
+
+/// A lexeme, or the end of the text.
+#[inline(always)]
+fn seen(lexeme: Lexeme<'_>) -> Seen
+    ensures { result ≡ seen_found (found lexeme.entry) }
+{
+    match lexeme {
+        Lexeme::End => Seen::Other,
+        Lexeme::Comma => Seen::Comma,
+        Lexeme::Close => Seen::Close,
+        Lexeme::Open => Seen::Open,
+        Lexeme::Word(word) => seen_word(word.as_bytes()),
+        Lexeme::Number(_) => Seen::Number,
+    }
+}
+
+impl<'t, 'a, T: WktNum> Source<T> for OneByOne<'t, 'a, T> {
+    ghost use Rattle.wkt_sources.specs.Views.{tokens_view};
+
+    ghost view = { tokens_view T.read };
+
+    ghost by_type = { λ by. refl };
+
+    #[inline(always)]
+    fn look(self) -> (Seen, Self) {
+        let seen = seen(self.tokens.look());
+        (seen, self)
+    }
+
+    #[inline(always)]
+    fn skip(self) -> Self {
+        let _ = self.tokens.take();
+        self
+    }
+
+    #[inline(always)]
+    fn number<B: Builder<T>>(self, builder: B, axis: Axis) -> Result<(Self, B), (Self, B)> {
+        match self.tokens.take_number() {
+            Some(number) => Ok((self, builder.number(number, axis))),
+            None => Err((self, builder)),
+        }
+    }
+
+    #[inline(always)]
+    fn bare<B: Builder<T>>(self, builder: B) -> Result<(Self, B), (Self, B)> {
+        match self.tokens.take_number() {
+            Some(number) => {
+                let opened = builder.open(Part::Member);
+                Ok((self, opened.number(number, Axis::X)))
+            }
+            None => Err((self, builder)),
+        }
+    }
+}
+
+/// What begins in tokens is taken lexeme by lexeme: so none is looked at before those in front of it are taken.
+///
+/// A kind word and what stands behind it, and two numbers, are taken by the steps for these lexemes, which are built into
+/// the loop: `from_str` takes 36 instructions a byte of mixed lines, and 15 more where each goes by a call.
+#[tactic(auto, using(wkt_machine::proofs::StepsJoin::looked_at))]
+impl<'t, 'a, T: WktNum> Walk<T> for OneByOne<'t, 'a, T> {
+    #[inline(always)]
+    fn header<B: Builder<T>>(self, machine: Machine, builder: B) -> Walked<Self, B> {
+        let (seen, source) = self.look();
+        let At {
+            source: behind,
+            machine: next,
+            builder: made,
+        } = machine.at_kind(seen, source, builder)?;
+        match next.state {
+            State::Dimension => {
+                let (seen, source) = behind.look();
+                next.at_dimension(seen, source, made)
+            }
+            _ => on(behind, next, made),
+        }
+    }
+
+    #[inline(always)]
+    fn first<B: Builder<T>>(self, machine: Machine, builder: B) -> Walked<Self, B> {
+        self.header(machine, builder)
+    }
+
+    #[inline(always)]
+    fn coordinates<B: Builder<T>>(self, machine: Machine, builder: B) -> Walked<Self, B> {
+        let (seen, source) = self.look();
+        let At {
+            source: behind,
+            machine: next,
+            builder: made,
+        } = machine.at_number(Axis::X, seen, source, builder)?;
+        match next.state {
+            State::Y => {
+                let (seen, source) = behind.look();
+                next.at_number(Axis::Y, seen, source, made)
+            }
+            _ => on(behind, next, made),
+        }
+    }
+}

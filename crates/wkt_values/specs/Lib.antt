@@ -1,0 +1,4 @@
+pub mod Growing
+pub mod Trees
+pub mod Values
+pub mod Laws

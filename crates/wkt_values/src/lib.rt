@@ -1,0 +1,25 @@
+//! Values of type `Wkt`, made from the machine's events.
+//!
+//! Below stand `wkt_machine` and `wkt_sources`; above, `wkt`.
+#![tactic(auto)]
+
+mod adding;
+mod from_str;
+pub mod laws;
+mod refused;
+pub mod text;
+mod tree;
+pub mod value;
+
+pub use from_str::FromWktStr;
+pub use text::read_text;
+pub use value::{Unread, read};
+
+#[cfg(test)]
+mod from_str_tests;
+#[cfg(test)]
+mod made_by_hand;
+#[cfg(test)]
+mod tests;
+#[cfg(test)]
+mod value_tests;

@@ -1,0 +1,106 @@
+//! The geometry at the front of a text, as a value.
+ghost use Rattle.std.specs.Prelude.{◌≤◌, ◌<◌, length, IfOk};
+ghost use Rattle.std.specs.Result.{IsOk};
+ghost use Rattle.std.specs.Str.{IsCharBoundary};
+ghost use Rattle.wkt_types.specs.Tree.{tree};
+ghost use Rattle.wkt_read.specs.Answered.{IsFrontTo, HasBadNumber, OnText, OnMessage};
+ghost use Rattle.wkt_read.specs.Front.{Front, HasNoFront, NeedsNoMemory};
+ghost use Rattle.wkt_read.specs.Items.{bad_number};
+ghost use Rattle.wkt_read.specs.Refusal.{IsTextRefused, IfText};
+ghost use Rattle.wkt_values.specs.Values.{AnswersReader};
+
+use crate::tree::{Grower, Tree};
+use std::alloc::{AllocError, Global};
+use wkt_machine::drive::drive;
+use wkt_num::{OfType, WktNum};
+use wkt_read::{Message, ReadError};
+use wkt_sources::{Bytes, message_at};
+use wkt_types::{Coord, Point, Wkt};
+
+/// The geometry at the front of the text, and where its last lexeme ends, in bytes: what `Wkt::read_front` returns. It
+/// looks at bytes behind the front, and is faster.
+///
+/// # Errors
+/// `Text` where no beginning of the text is a geometry, with what was found amiss; `Memory` where memory ran out.
+#[inline(always)]
+pub fn read_text<T: WktNum>(alloc: Global, text: &str) -> Result<(Wkt<T>, usize), ReadError>
+    ensures found { IfOk result (λ r. IsFrontTo T.read text.now (tree r.0) r.1) }
+    ensures some { IfOk result (λ r. 0 < r.1) }
+    ensures within { IfOk result (λ r. r.1 ≤ length text.now) }
+    ensures boundary { IfOk result (λ r. IsCharBoundary text.now r.1) }
+    ensures no_front { OnText result (HasNoFront T.read text.now) }
+    ensures bad { OnMessage result bad_number (HasBadNumber T.read text.now) }
+    ensures refusal { IfText result (λ said. IsTextRefused T.read text.now said) }
+    ensures free { (v end : _) → Front T.read text.now v end → NeedsNoMemory v → IsOk result }
+{
+    // A text of no bytes, as of a blank cell, is refused where the call stands.
+    if text.is_empty() {
+        return Err(ReadError::Text(Message::Format.text()));
+    }
+    // Each way hands out its answer by itself, so that a refused text doesn't carry the parts of a geometry.
+    match front_of(alloc, text) {
+        Ok(found) => return Ok(found),
+        Err(error) => return Err(error),
+    }
+}
+
+/// The geometry at the front of any text, and where its last lexeme ends, by the machine. What it is made of is cleared
+/// here.
+#[inline(never)]
+fn front_of<T: WktNum>(alloc: Global, text: &str) -> Result<(Wkt<T>, usize), ReadError>
+    ensures found { IfOk result (λ r. IsFrontTo T.read text.now (tree r.0) r.1) }
+    ensures some { IfOk result (λ r. 0 < r.1) }
+    ensures within { IfOk result (λ r. r.1 ≤ length text.now) }
+    ensures boundary { IfOk result (λ r. IsCharBoundary text.now r.1) }
+    ensures no_front { OnText result (HasNoFront T.read text.now) }
+    ensures bad { OnMessage result bad_number (HasBadNumber T.read text.now) }
+    ensures refusal { IfText result (λ said. IsTextRefused T.read text.now said) }
+    ensures free { (v end : _) → Front T.read text.now v end → NeedsNoMemory v → IsOk result }
+{
+    let source = Bytes::<'_, false>::new(text.as_bytes(), 0);
+    let mut tree = Tree::new(alloc);
+    match drive::<T, Bytes<'_, false>, Grower<'_, T>>(source, Grower::new(&mut tree)) {
+        Ok(over) => {
+            let end = over.source.at;
+            let grown = over.builder.into_tree();
+            // Most geometries are points of two numbers: their parts are written where they stay.
+            if let Some((x, y)) = grown.pair() {
+                let coord = Coord {
+                    x,
+                    y,
+                    z: None,
+                    m: None,
+                };
+                return Ok((Wkt::Point(Point::new(Some(coord), grown.dim())), end));
+            }
+            match answer(grown) {
+                Ok(geometry) => Ok((geometry, end)),
+                Err(error) => Err(error),
+            }
+        }
+        Err(stop) => {
+            let said = message_at(OfType::<T>::new(), stop.machine, text, stop.source.at);
+            Err(ReadError::Text(said.text()))
+        }
+    }
+}
+
+/// What has grown.
+///
+/// It comes through memory, whose place is cleared here, away from the ways that don't need it.
+#[inline(always)]
+fn answer<T: WktNum>(grown: &mut Tree<T>) -> Result<Wkt<T>, ReadError>
+    ensures { AnswersReader grown.old result }
+{
+    answer_outlined(grown)
+}
+
+#[inline(never)]
+fn answer_outlined<T: WktNum>(grown: &mut Tree<T>) -> Result<Wkt<T>, ReadError>
+    ensures { AnswersReader grown.old result }
+{
+    if grown.is_lost() {
+        return Err(ReadError::Memory(AllocError));
+    }
+    Ok(grown.geometry())
+}

@@ -1,0 +1,66 @@
+//! The geometry that comes next, as a value.
+ghost use Rattle.std.specs.Prelude.{◌≤◌, length, IfOk};
+ghost use Rattle.wkt_types.specs.Tree.{tree};
+ghost use Rattle.wkt_values.specs.Trees.{tree_of};
+ghost use Rattle.wkt_values.specs.Values.{AnswersTree, IsRead, OnRefused, OnMemory, WantsMemory};
+ghost use Rattle.wkt_sources.specs.Taken.{MachineRefuses};
+
+use crate::tree::{Grower, Tree};
+use std::alloc::{AllocError, Global};
+use wkt_machine::drive::drive;
+use wkt_machine::{At, Machine, Walk};
+use wkt_num::WktNum;
+use wkt_types::Wkt;
+
+/// Why there is no value.
+#[derive(Drop)]
+pub enum Unread {
+    /// No geometry comes next. The machine stands before the lexeme with which it doesn't move.
+    Refused(Machine),
+    /// Memory ran out.
+    Memory(AllocError),
+}
+
+/// What has grown.
+#[inline(always)]
+fn answer<T: WktNum>(grower: Grower<'_, T>) -> Result<Wkt<T>, Unread>
+    ensures { AnswersTree (tree_of grower.entry).now result }
+{
+    let tree = grower.into_tree();
+    if tree.is_lost() {
+        return Err(Unread::Memory(AllocError));
+    }
+    Ok(tree.geometry())
+}
+
+/// The geometry that comes next, and the source behind it; or before the lexeme at which it is refused.
+///
+/// # Errors
+/// `Refused` where no geometry comes next; `Memory` where memory ran out, which a point and what is EMPTY don't need.
+#[inline(always)]
+pub fn read<T: WktNum, S: Walk<T>>(alloc: Global, source: S) -> (Result<Wkt<T>, Unread>, S)
+    requires room { length (S.view.remaining source) ≤ usize.MAX }
+    ensures found { IfOk result.0 (λ w. IsRead T.read S.view source (tree w) result.1) }
+    ensures refused { OnRefused result.0 (λ m. MachineRefuses T.read S.view source m result.1) }
+    ensures memory { OnMemory result.0 (WantsMemory T.read S.view source result.1) }
+{
+    let mut tree = Tree::new(alloc);
+    match drive::<T, S, Grower<'_, T>>(source, Grower::new(&mut tree)) {
+        Ok(over) => {
+            let At {
+                source,
+                builder,
+                ..
+            } = over;
+            (answer(builder), source)
+        }
+        Err(at) => {
+            let At {
+                source,
+                machine,
+                ..
+            } = at;
+            (Err(Unread::Refused(machine)), source)
+        }
+    }
+}
