@@ -196,8 +196,8 @@ pub mod tokenizer {
 pub mod events {
     pub use wkt_canonical::{NoRoom, write_canonical};
     pub use wkt_machine::drive::drive;
-    pub use wkt_machine::{At, Axis, Builder, Part, read_at};
-    pub use wkt_sources::Bytes;
+    pub use wkt_machine::{Axis, Builder, Part, Progress, read_at};
+    pub use wkt_sources::ByteCursor;
 }
 
 /// Geometries out of JSON, where each is a string of well-known text.

@@ -172,8 +172,8 @@ module _ {N : Type 0} (whole : Bool) (read : List ℕ → Option N) (num : N →
   -- there is more in it than is asked for
   pub longer-row : (answer : List ℕ) (end : ℕ) → null ≡ false → IsCanonicalOf read num text answer end → whole ≡ true → (AllWhite (drop end text) → ⊥) → AddsRow [] 30 a b →
       AddsTextAnswer whole read num null text a b
-  longer-row answer end n is asked more adds =
-      refused-row 30 n (inr (refl, (end, record { asked = asked; utf8 = is.0; value = is.1.value; front = is.1.front; more = more }))) adds
+  longer-row answer end n is options more adds =
+      refused-row 30 n (inr (refl, (end, record { options = options; utf8 = is.0; value = is.1.value; front = is.1.front; more = more }))) adds
 
 -- The arrays of a column, row after row.
 
@@ -269,8 +269,8 @@ module _ (places : ℕ) (whole null : Bool) (text : List ℕ) (a b : ArrayRows) 
   -- there is more in it than is asked for
   pub longer-arrays : (end kind dimension : ℕ) (ns : List ℤ) (rs ps : List ℕ) → null ≡ false → AreOf places text end kind dimension ns rs ps → whole ≡ true → (AllWhite (drop end text) → ⊥) →
       AddsArrays (row_of 0 0 [] [] []) 30 a b → AddsRowArrays places whole null text a b
-  longer-arrays end kind dimension ns rs ps n are asked more adds =
-      refused-arrays 30 n (inr (refl, record { end = end; row = row_of kind dimension ns rs ps; arrays = are; more = (asked, more) })) adds
+  longer-arrays end kind dimension ns rs ps n are options more adds =
+      refused-arrays 30 n (inr (refl, record { end = end; row = row_of kind dimension ns rs ps; arrays = are; more = (options, more) })) adds
 
 -- The texts of a column of arrays, row after row.
 

@@ -1,4 +1,4 @@
--- What a pen writes that is told the arrays of the caller, who is answered so.
+-- What a text builder writes that is told the arrays of the caller, who is answered so.
 use Rattle.std.proofs.Common.{◌+◌, ◌++◌, ◌≤◌, ◌/◌, ◌%◌, ◌^◌, ◌==◌, ℕ, zero, suc, ℤ, pos, negsuc, Bool, true, false, [], ◌∷◌, length, arith, length-append, if◌then◌else◌, ◌≡◌, ◌*◌, List, refl, sym, ap, ◌∙◌, subst, ◌⊎◌, inl, inr}
 use Rattle.std.specs.Prelude.{int_lt}
 use Rattle.std.specs.Fmt.{decimal, sign_text}
@@ -22,9 +22,9 @@ use Rattle.wkt_read.specs.Header.{kind_of, dim_of}
 use Rattle.wkt_read.proofs.Spelled.{front_of_text}
 use Rattle.wkt_machine.specs.Events.{Event, events}
 use Rattle.wkt_machine.specs.Makers.{Maker}
-use Rattle.wkt_canonical.specs.PenMaker.{pen_maker, IsFresh, IsWithin}
-use Rattle.wkt_canonical.specs.declared.pen.Pen.{Pen}
-use Rattle.wkt_canonical.proofs.PenOutput.{fits-fresh, within-room}
+use Rattle.wkt_canonical.specs.TextBuilderMaker.{text_builder_maker, IsFresh, IsWithin}
+use Rattle.wkt_canonical.specs.declared.text_builder.TextBuilder.{TextBuilder}
+use Rattle.wkt_canonical.proofs.TextBuilderOutput.{fits-fresh, within-room}
 use Rattle.wkt_fill.specs.Arrays.{IsGiven, events_cost, Tells}
 use Rattle.wkt_fill.specs.declared.given.Given.{Given}
 use Rattle.wkt_fill.proofs.Costs.{given-cost}
@@ -67,7 +67,7 @@ pub number-length : (D : ℕ) (x : ℤ) → IsSigned 63 x → length (decimal_te
 number-length D (pos n) h = magnitude-length D (int_lt (pos n) (pos 0)) n (omega (arith, h))
 number-length D (negsuc n) h = magnitude-length D (int_lt (negsuc n) (pos 0)) (suc n) (omega (arith, h))
 
--- What a pen writes that is told the arrays of the caller's.
+-- What a text builder writes that is told the arrays of the caller's.
 
 -- a number is that of one kind, and of one dimension
 kind_at : ℕ → GeometryType
@@ -152,19 +152,19 @@ takes : (D : ℕ) (xs : List ℤ) → AllByRecursion (IsSigned 63) xs → AllByR
 takes D [] h = tt
 takes D (x ∷ xs) h = let short = number-length D x h.0 in (omega (arith, short), takes D xs h.1)
 
-abbrev pub pens : Maker ℤ (Pen ℕ)
-pens = pen_maker (read_decimal 127 36) decimal_text
+abbrev pub builders : Maker ℤ (TextBuilder ℕ)
+builders = text_builder_maker (read_decimal 127 36) decimal_text
 
 -- there is room for the events of a value of the arrays
-pub has-room : (D q : ℕ) (g : Given) → All (IsSigned 63) g.numbers.now → (room : List ℕ) (p : Pen ℕ) → IsFresh D room p → (n : ℕ) →
-    length g.numbers.now * (D + 23) + 7 * length g.rings.now + 7 * length g.polygons.now + 74 ≤ n → n ≤ length room → (v : Value ℤ) → IsGiven q g v → pens.fits p (events_cost (pens.takes p) (events v))
+pub has-room : (D q : ℕ) (g : Given) → All (IsSigned 63) g.numbers.now → (room : List ℕ) (p : TextBuilder ℕ) → IsFresh D room p → (n : ℕ) →
+    length g.numbers.now * (D + 23) + 7 * length g.rings.now + 7 * length g.polygons.now + 74 ≤ n → n ≤ length room → (v : Value ℤ) → IsGiven q g v → builders.fits p (events_cost (builders.takes p) (events v))
 has-room D q g small room p fresh n enough large v h =
-    let cost = given-cost (pens.takes p) (p.numbers + 22) q g v h (takes p.numbers g.numbers.now (recursion_from_All (IsSigned 63) g.numbers.now small)) in
+    let cost = given-cost (builders.takes p) (p.numbers + 22) q g v h (takes p.numbers g.numbers.now (recursion_from_All (IsSigned 63) g.numbers.now small)) in
     let same : length g.numbers.now * (p.numbers + 22 + 1) ≡ length g.numbers.now * (D + 23) = ap (λ k. length g.numbers.now * k) (omega (arith, fresh.numbers)) in
-    fits-fresh (read_decimal 127 36 D) (decimal_text D) D room p (events_cost (pens.takes p) (events v)) fresh (omega (arith, cost, same, enough, large))
+    fits-fresh (read_decimal 127 36 D) (decimal_text D) D room p (events_cost (builders.takes p) (events v)) fresh (omega (arith, cost, same, enough, large))
 
--- what the pen has written then lies within its room
-pub is-within : (p t : Pen ℕ) (es : List (Event ℤ)) → pens.fits p (events_cost (pens.takes p) es) → Tells pens p es t → IsWithin t
+-- what the text builder has written then lies within its room
+pub is-within : (p t : TextBuilder ℕ) (es : List (Event ℤ)) → builders.fits p (events_cost (builders.takes p) es) → Tells builders p es t → IsWithin t
 is-within p t es fits told = within-room (read_decimal 127 36 t.numbers) (decimal_text t.numbers) t (told.leaves 0 (omega (arith, fits)))
 
 -- What a caller is answered who gave arrays.

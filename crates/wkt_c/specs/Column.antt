@@ -76,10 +76,10 @@ module _ {N : Type 0} (whole : Bool) (read : List ℕ → Option N) (num : N →
 
 -- The answers to all rows of a column, as asked for: with decimals of so many places, and whole texts or not.
 abbrev pub AreColumnAnswers : ℕ → List ℕ → List ℕ → List ℕ → List ℕ → List ℕ → List ℕ → Type 0
-AreColumnAnswers asked texts offsets valid bytes ends statuses =
-    AreRowAnswers (asks_whole asked) (read_at (places_in asked)) (print_at (places_in asked)) texts offsets valid (row_count offsets) bytes ends statuses
+AreColumnAnswers options texts offsets valid bytes ends statuses =
+    AreRowAnswers (asks_whole options) (read_at (places_in options)) (print_at (places_in options)) texts offsets valid (row_count offsets) bytes ends statuses
 
 -- Why a column has no answers: there are no numbers of so many places, memory ran out, or the sizes or offsets are of no column.
 abbrev pub IsNoColumn : ℕ → List ℕ → List ℕ → List ℕ → List ℕ → List ℕ → ℕ → Type 0
-IsNoColumn asked texts offsets valid out_offsets statuses status =
-    HasNoPlaces (places_in asked) status ⊎ ((status ≡ 22) ⊎ ((status ≡ 27) × (IsColumn texts offsets valid out_offsets statuses → ⊥)))
+IsNoColumn options texts offsets valid out_offsets statuses status =
+    HasNoPlaces (places_in options) status ⊎ ((status ≡ 22) ⊎ ((status ≡ 27) × (IsColumn texts offsets valid out_offsets statuses → ⊥)))

@@ -123,8 +123,8 @@ pub record AreRowArrays (places : ℕ) (whole : Bool) (texts offsets valid : Lis
 
 -- The arrays of all rows, as asked for: with decimals of so many places, and whole texts or not.
 abbrev pub AreColumnArrays : ℕ → List ℕ → List ℕ → List ℕ → ColumnArrays → List ℕ → Type 0
-AreColumnArrays asked texts offsets valid a statuses =
-    AreRowArrays (places_in asked) (asks_whole asked) texts offsets valid (row_count offsets) a statuses
+AreColumnArrays options texts offsets valid a statuses =
+    AreRowArrays (places_in options) (asks_whole options) texts offsets valid (row_count offsets) a statuses
 
 -- The sizes that a call returns.
 pub record AreColumnSizes (a : ColumnArrays) (s : WktColumnSizes) : Type 0 where
@@ -146,8 +146,8 @@ pub record FillColumn (a : ColumnArrays) (s : WktColumnSizes) (numbers : List �
 
 -- The arrays of all texts of a column stand in the buffers.
 abbrev pub AreFilled : ℕ → List ℕ → List ℕ → List ℕ → List ℕ → WktColumnSizes → List ℤ → List ℕ → List ℕ → ColumnArrays → Type 0
-AreFilled asked texts offsets valid statuses sizes numbers rings polygons new =
-    (arrays : ColumnArrays) × AreColumnArrays asked texts offsets valid arrays statuses × FillColumn arrays sizes numbers rings polygons new
+AreFilled options texts offsets valid statuses sizes numbers rings polygons new =
+    (arrays : ColumnArrays) × AreColumnArrays options texts offsets valid arrays statuses × FillColumn arrays sizes numbers rings polygons new
 
 -- One of the three buffers has no room; the sizes are returned.
 pub record LackRoom (a : ColumnArrays) (s : WktColumnSizes) (old : ColumnArrays) : Type 0 where
@@ -164,8 +164,8 @@ pub record IsTextColumn (texts offsets valid : List ℕ) (b : ColumnArrays) (sta
 
 -- Why a column has no arrays: there are no numbers of so many places, memory ran out, or the sizes or offsets are of no column.
 abbrev pub HasNoArrays : ℕ → List ℕ → List ℕ → List ℕ → ColumnArrays → List ℕ → ℕ → Type 0
-HasNoArrays asked texts offsets valid b statuses status =
-    HasNoPlaces (places_in asked) status ⊎ ((status ≡ 22) ⊎ ((status ≡ 27) × (IsTextColumn texts offsets valid b statuses → ⊥)))
+HasNoArrays options texts offsets valid b statuses status =
+    HasNoPlaces (places_in options) status ⊎ ((status ≡ 22) ⊎ ((status ≡ 27) × (IsTextColumn texts offsets valid b statuses → ⊥)))
 
 -- Arrays are answered with 0 and the text of their geometry, or with no byte and why they have none; a null row with 28 and no byte.
 abbrev pub IsRowText : ℕ → Bool → RowArrays → List ℕ → ℕ → Type 0

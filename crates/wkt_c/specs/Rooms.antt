@@ -9,7 +9,7 @@ abbrev pub LackRooms : ℕ → List ℕ → ℕ → ℕ → Type 0
 LackRooms places text numbers words =
     (words < length text / 4 + 2) ⊎ HasNoPlaceFor places text numbers (length text / 4 + 2) (words - (length text / 4 + 2))
 
--- How many bytes a pen needs for the text of arrays: a number's text has no more than its places and 21, and a number takes two more, a ring and a polygon seven each, and the pen 74.
+-- How many bytes a text builder needs for the text of arrays: a number's text has no more than its places and 21, and a number takes two more, a ring and a polygon seven each, and the text builder 74.
 abbrev pub text_room : ℕ → List ℤ → List ℕ → List ℕ → ℕ
 text_room places numbers rings polygons = length numbers * (places + 23) + 7 * length rings + 7 * length polygons + 74
 

@@ -11,20 +11,20 @@ use wkt_calls::status::{MEMORY, NOT_TEXT};
 /// Answers a text with the canonical text of what it begins with, which is written in the room first, if the text is long.
 pub(crate) fn canonical(
     text: &[u8],
-    asked: u32,
+    options: u32,
     room: &mut [u8],
     out: &mut [u8],
     needed: &mut usize,
     end: &mut usize,
 ) -> u32
-    requires { places_in asked ≤ 36 }
-    ensures answers { AnswersCanonical asked text.now result out.old out.new needed.old needed.new end.old end.new }
+    requires { places_in options ≤ 36 }
+    ensures answers { AnswersCanonical options text.now result out.old out.new needed.old needed.new end.old end.new }
     ensures lacks { result ≡ MEMORY → length room.old < 2 * length text.now + 65 }
 {
     if text.len() > SHORT {
-        return canonical_long(text, asked, room, out, needed, end);
+        return canonical_long(text, options, room, out, needed, end);
     }
-    canonical_short(text, asked, out, needed, end)
+    canonical_short(text, options, out, needed, end)
 }
 
 /// Answers a text that isn't short with the canonical text of what it begins with.
@@ -33,15 +33,15 @@ pub(crate) fn canonical(
 #[inline(never)]
 fn canonical_long(
     text: &[u8],
-    asked: u32,
+    options: u32,
     room: &mut [u8],
     out: &mut [u8],
     needed: &mut usize,
     end: &mut usize,
 ) -> u32
-    requires places { places_in asked ≤ 36 }
+    requires places { places_in options ≤ 36 }
     requires long { SHORT < length text.now }
-    ensures answers { AnswersCanonical asked text.now result out.old out.new needed.old needed.new end.old end.new }
+    ensures answers { AnswersCanonical options text.now result out.old out.new needed.old needed.new end.old end.new }
     ensures lacks { result ≡ MEMORY → length room.old < 2 * length text.now + 65 }
 {
     if !has_room(room.len(), text.len()) {
@@ -50,10 +50,10 @@ fn canonical_long(
     let Ok(text) = str::from_utf8(text) else {
         return NOT_TEXT;
     };
-    match write_within(text, asked, room) {
+    match write_within(text, options, room) {
         Ok((at, n)) => {
             *end = at;
-            copy_out_front(text.as_bytes(), at, asked, &room[..n], out, needed)
+            copy_out_front(text.as_bytes(), at, options, &room[..n], out, needed)
         }
         Err(status) => status,
     }
@@ -64,20 +64,20 @@ fn canonical_long(
 pub(crate) fn same(
     one: &[u8],
     other: &[u8],
-    asked: u32,
+    options: u32,
     room: &mut [u8],
     other_room: &mut [u8],
 ) -> Result<Compared, u32>
-    requires places { places_in asked ≤ 36 }
-    ensures { MatchResult result (AreCompared asked one.now other.now)
+    requires places { places_in options ≤ 36 }
+    ensures { MatchResult result (AreCompared options one.now other.now)
         (λ s. ((s ≡ MEMORY) × (((SHORT < length one.now) ⊎ (SHORT < length other.now))
         × ((length room.old < 2 * length one.now + 65) ⊎ (length other_room.old < 2 * length other.now + 65))))
-        ⊎ RefusesOne (read_at (places_in asked)) one.now other.now s) }
+        ⊎ RefusesOne (read_at (places_in options)) one.now other.now s) }
 {
     if one.len() <= SHORT && other.len() <= SHORT {
-        return same_short(one, other, asked);
+        return same_short(one, other, options);
     }
-    same_long(one, other, asked, room, other_room)
+    same_long(one, other, options, room, other_room)
 }
 
 /// The same, of texts of which one at least isn't short.
@@ -87,14 +87,14 @@ pub(crate) fn same(
 fn same_long(
     one: &[u8],
     other: &[u8],
-    asked: u32,
+    options: u32,
     room: &mut [u8],
     other_room: &mut [u8],
 ) -> Result<Compared, u32>
-    requires places { places_in asked ≤ 36 }
-    ensures { MatchResult result (AreCompared asked one.now other.now)
+    requires places { places_in options ≤ 36 }
+    ensures { MatchResult result (AreCompared options one.now other.now)
         (λ s. ((s ≡ MEMORY) × ((length room.old < 2 * length one.now + 65) ⊎ (length other_room.old < 2 * length other.now + 65)))
-        ⊎ RefusesOne (read_at (places_in asked)) one.now other.now s) }
+        ⊎ RefusesOne (read_at (places_in options)) one.now other.now s) }
 {
     if !has_room(room.len(), one.len()) || !has_room(other_room.len(), other.len()) {
         return Err(MEMORY);
@@ -105,5 +105,5 @@ fn same_long(
     let Ok(other) = str::from_utf8(other) else {
         return Err(NOT_TEXT);
     };
-    same_in(one, other, asked, room, other_room)
+    same_in(one, other, options, room, other_room)
 }

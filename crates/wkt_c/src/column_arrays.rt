@@ -9,8 +9,8 @@ use crate::column::{GivenColumn, is_null};
 use crate::joined::Joined;
 use crate::list::RoomList;
 use crate::told::GivenArrays;
-use wkt_calls::asked::{ends_as_asked, places_of};
 use wkt_calls::flat::{flat_asked, make_point};
+use wkt_calls::options::{ends_as_asked, places_of};
 use wkt_calls::status::{DONE, MEMORY, NOT_WHOLE, NULL_ROW};
 use wkt_fill::Room;
 use wkt_sources::FastPoint;
@@ -60,12 +60,12 @@ impl<'a> ArrayRows<'a> {
 
     /// Adds the arrays of a row that is a point.
     #[inline(always)]
-    fn add_point(&mut self, text: &[u8], asked: u32, point: FastPoint) -> Result<(), u32>
-        requires { IsFlatPoint (places_in asked) text.now point }
+    fn add_point(&mut self, text: &[u8], options: u32, point: FastPoint) -> Result<(), u32>
+        requires { IsFlatPoint (places_in options) text.now point }
         ensures { MatchResult result
-            (λ _. AddsRowArrays (places_in asked) (asks_whole asked) false text.now self.old self.new) (λ s. s ≡ MEMORY) }
+            (λ _. AddsRowArrays (places_in options) (asks_whole options) false text.now self.old self.new) (λ s. s ≡ MEMORY) }
     {
-        if !ends_as_asked(text, point.end, asked) {
+        if !ends_as_asked(text, point.end, options) {
             return self.add_none(NOT_WHOLE);
         }
         let row = GivenArrays {
@@ -84,22 +84,22 @@ impl<'a> ArrayRows<'a> {
         &mut self,
         text: &[u8],
         null: bool,
-        asked: u32,
+        options: u32,
         numbers: &mut [i64],
         rings: &mut [usize],
         polygons: &mut [usize],
     ) -> Result<(), u32>
-        requires places { places_in asked ≤ 36 }
+        requires places { places_in options ≤ 36 }
         ensures { MatchResult result
-            (λ _. AddsRowArrays (places_in asked) (asks_whole asked) null text.now self.old self.new) (λ s. s ≡ MEMORY) }
+            (λ _. AddsRowArrays (places_in options) (asks_whole options) null text.now self.old self.new) (λ s. s ≡ MEMORY) }
     {
         if null {
             return self.add_none(NULL_ROW);
         }
-        if let Some(point) = make_point(places_of(asked), text) {
-            return self.add_point(text, asked, point);
+        if let Some(point) = make_point(places_of(options), text) {
+            return self.add_point(text, options, point);
         }
-        self.add_flat(text, asked, numbers, rings, polygons)
+        self.add_flat(text, options, numbers, rings, polygons)
     }
 
     /// Adds the arrays of a row that isn't null and may be no point.
@@ -107,23 +107,23 @@ impl<'a> ArrayRows<'a> {
     fn add_flat(
         &mut self,
         text: &[u8],
-        asked: u32,
+        options: u32,
         numbers: &mut [i64],
         rings: &mut [usize],
         polygons: &mut [usize],
     ) -> Result<(), u32>
-        requires { places_in asked ≤ 36 }
+        requires { places_in options ≤ 36 }
         ensures { MatchResult result
-            (λ _. AddsRowArrays (places_in asked) (asks_whole asked) false text.now self.old self.new) (λ s. s ≡ MEMORY) }
+            (λ _. AddsRowArrays (places_in options) (asks_whole options) false text.now self.old self.new) (λ s. s ≡ MEMORY) }
     {
         let room = Room {
             numbers,
             rings,
             polygons,
         };
-        match flat_asked(text, asked, room) {
+        match flat_asked(text, options, room) {
             Ok(flat) => {
-                if !ends_as_asked(text, flat.end, asked) {
+                if !ends_as_asked(text, flat.end, options) {
                     return self.add_none(NOT_WHOLE);
                 }
                 let row = GivenArrays {
@@ -158,7 +158,7 @@ fn cut<T>(room: &mut [T], at: usize) -> Result<(&mut [T], &mut [T]), u32>
 /// Adds the arrays of all rows of a column, each of which are made in these places first.
 fn add_rows<'a>(
     given: GivenColumn<'_>,
-    asked: u32,
+    options: u32,
     none: ArrayRows<'a>,
     numbers: &mut [i64],
     rings: &mut [usize],
@@ -166,10 +166,10 @@ fn add_rows<'a>(
 ) -> Result<ArrayRows<'a>, u32>
     requires offsets { AreOffsets given.texts.now given.offsets.now }
     requires bits { HasBits given.valid.now (row_count given.offsets.now) }
-    requires places { places_in asked ≤ 36 }
+    requires places { places_in options ≤ 36 }
     requires none { HoldsNoArrays none }
     ensures { MatchResult result
-        (HoldsArrays (places_in asked) (asks_whole asked) given.entry.texts.now given.entry.offsets.now given.entry.valid.now (row_count given.entry.offsets.now))
+        (HoldsArrays (places_in options) (asks_whole options) given.entry.texts.now given.entry.offsets.now given.entry.valid.now (row_count given.entry.offsets.now))
         (λ s. s ≡ MEMORY) }
 {
     let mut rows = none;
@@ -177,7 +177,7 @@ fn add_rows<'a>(
     for i in 0..count {
         let text = &given.texts[given.offsets[i]..given.offsets[i + 1]];
         let null = is_null(given.valid, i);
-        rows.add_row(text, null, asked, numbers, rings, polygons)?;
+        rows.add_row(text, null, options, numbers, rings, polygons)?;
     }
     Ok(rows)
 }
@@ -185,16 +185,16 @@ fn add_rows<'a>(
 /// The arrays of all rows of a column, in the rooms: those of a row are made in places apart, and added to the others.
 pub(crate) fn all_arrays<'a>(
     given: GivenColumn<'_>,
-    asked: u32,
+    options: u32,
     numbers_room: &'a mut [i64],
     words_room: &'a mut [usize],
     codes_room: &'a mut [u32],
 ) -> Result<ArrayRows<'a>, u32>
     requires offsets { AreOffsets given.texts.now given.offsets.now }
     requires bits { HasBits given.valid.now (row_count given.offsets.now) }
-    requires places { places_in asked ≤ 36 }
+    requires places { places_in options ≤ 36 }
     ensures { MatchResult result
-        (HoldsArrays (places_in asked) (asks_whole asked) given.entry.texts.now given.entry.offsets.now given.entry.valid.now (row_count given.entry.offsets.now))
+        (HoldsArrays (places_in options) (asks_whole options) given.entry.texts.now given.entry.offsets.now given.entry.valid.now (row_count given.entry.offsets.now))
         (λ s. s ≡ MEMORY) }
 {
     let bytes = given.texts.len();
@@ -216,5 +216,5 @@ pub(crate) fn all_arrays<'a>(
         dimensions: RoomList::new(dimensions),
         statuses: RoomList::new(statuses),
     };
-    add_rows(given, asked, rows, row_numbers, row_rings, row_polygons)
+    add_rows(given, options, rows, row_numbers, row_rings, row_polygons)
 }

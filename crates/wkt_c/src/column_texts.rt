@@ -7,7 +7,7 @@ ghost use Rattle.wkt_c.specs.Rows.{row_of, given_arrays, AddsArraysText, HoldsTe
 
 use crate::column::{Rows, are_offsets, has_bits, is_null};
 use crate::told::{GivenArrays, told};
-use wkt_calls::asked::MOST_ASKED;
+use wkt_calls::options::MOST_ASKED;
 use wkt_calls::status::{DONE, MEMORY, NO_PLACES, NULL_ROW};
 use wkt_num::Places;
 
@@ -70,7 +70,7 @@ fn add_text(
         return rows.add(&[], NULL_ROW);
     }
     match told(row, places, room) {
-        Ok(pen) => rows.add(pen.written(), DONE),
+        Ok(builder) => rows.add(builder.written(), DONE),
         Err(status) => {
             if status == MEMORY {
                 return Err(MEMORY);

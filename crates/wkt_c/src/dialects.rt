@@ -27,18 +27,18 @@ pub(crate) fn is_refused(status: u32) -> bool
 /// Answers the text that a text is read as with its canonical text.
 pub(crate) fn answer(
     read: AsRead<'_>,
-    asked: u32,
+    options: u32,
     room: &mut [u8],
     out: &mut [u8],
     needed: &mut usize,
     end: &mut usize,
 ) -> u32
-    requires asks { AsksDialects asked }
+    requires asks { AsksDialects options }
     requires readable { IsReadable read }
-    ensures { AnswersCanonicalOf asked read.entry result out.old out.new needed.old needed.new end.old end.new }
+    ensures { AnswersCanonicalOf options read.entry result out.old out.new needed.old needed.new end.old end.new }
 {
     let mut at = 0;
-    let plain = without_dialects(asked);
+    let plain = without_dialects(options);
     let status = canonical(read.text, plain, room, out, needed, &mut at);
     if !says_end(status) {
         return status;
@@ -51,24 +51,24 @@ pub(crate) fn answer(
 pub(crate) fn compare(
     one: AsRead<'_>,
     other: AsRead<'_>,
-    asked: u32,
+    options: u32,
     room: &mut [u8],
     other_room: &mut [u8],
     same: &mut u32,
     end: &mut usize,
     other_end: &mut usize,
 ) -> u32
-    requires asks { AsksDialects asked }
+    requires asks { AsksDialects options }
     requires readable { IsReadable one }
     requires other_readable { IsReadable other }
-    ensures { AnswersSameOf asked one.entry other.entry result same.old same.new end.old end.new other_end.old other_end.new }
+    ensures { AnswersSameOf options one.entry other.entry result same.old same.new end.old end.new other_end.old other_end.new }
 {
     let mut at = 0;
     let mut other_at = 0;
     let status = wkt_same_ends(
         one.text,
         other.text,
-        without_dialects(asked),
+        without_dialects(options),
         room,
         other_room,
         same,
@@ -86,7 +86,7 @@ pub(crate) fn compare(
 /// Copies out the arrays of the text that a text is read as.
 pub(crate) fn arrays_of(
     read: AsRead<'_>,
-    asked: u32,
+    options: u32,
     numbers_room: &mut [i64],
     words_room: &mut [usize],
     sizes: &mut WktSizes,
@@ -94,14 +94,14 @@ pub(crate) fn arrays_of(
     rings: &mut [usize],
     polygons: &mut [usize],
 ) -> u32
-    requires asks { AsksDialects asked }
+    requires asks { AsksDialects options }
     requires readable { IsReadable read }
-    ensures { AnswersArraysOf asked read.entry result sizes.old sizes.new numbers.old numbers.new rings.old rings.new
+    ensures { AnswersArraysOf options read.entry result sizes.old sizes.new numbers.old numbers.new rings.old rings.new
         polygons.old polygons.new }
 {
     let status = wkt_arrays(
         read.text,
-        without_dialects(asked),
+        without_dialects(options),
         numbers_room,
         words_room,
         sizes,

@@ -9,8 +9,8 @@ use crate::column_arrays::{ArrayRows, all_arrays};
 use crate::column_texts::{GivenRows, is_array_column, texts_at};
 use crate::exports::copy_out_rows;
 use crate::sizes::WktColumnSizes;
-use wkt_calls::asked::has_places;
 use wkt_calls::fill::{copy_to_front, copy_whole};
+use wkt_calls::options::has_places;
 use wkt_calls::status::{DONE, NO_PLACES, NOT_COLUMN, SMALL};
 
 /// Copies out the arrays of a column, if there is room for them.

@@ -3,8 +3,8 @@ ghost use Rattle.std.specs.Prelude.{◌≡◌, ◌≤◌, ◌<◌, ◌≢◌, �
 ghost use Rattle.wkt_calls.specs.Answer.{places_in, asks_whole, EndsAsAsked, RefusesAt};
 ghost use Rattle.wkt_calls.specs.EventCalls.{AreWritten, HasNoRoomFor, HasMoreAfter};
 
-use wkt_calls::asked::has_places;
 use wkt_calls::events_call::events_in;
+use wkt_calls::options::has_places;
 use wkt_calls::status::{DONE, NO_PLACES, NOT_WHOLE, SMALL};
 use wkt_fill::WktUnits;
 

@@ -3,8 +3,8 @@ ghost use Rattle.std.specs.Prelude.{◌≡◌, ◌≤◌, ◌<◌, ◌≢◌, �
 ghost use Rattle.wkt_calls.specs.Answer.{read_at, places_in, asks_whole};
 ghost use Rattle.wkt_calls.specs.Explained.{IsExplained, IsHinted, IsFollowed, IsUnexplained};
 
-use wkt_calls::asked::{has_places, places_of};
 use wkt_calls::explain::{number_of_expected, number_of_hint, problem};
+use wkt_calls::options::{has_places, places_of};
 use wkt_calls::status::{DONE, NO_PLACES, NOT_WHOLE};
 use wkt_explain::Problem;
 

@@ -6,9 +6,9 @@ ghost use Rattle.wkt_calls.specs.Arrays.{AnswersArrays};
 ghost use Rattle.wkt_calls.specs.Calls.{AnswersCanonical, AnswersSame};
 
 use wkt_calls::arrays_call::arrays_short;
-use wkt_calls::asked::{ends_as_asked, has_places};
 use wkt_calls::canonical::{SHORT, canonical_short};
 use wkt_calls::compare::same_short;
+use wkt_calls::options::{ends_as_asked, has_places};
 use wkt_calls::sizes::WktSizes;
 use wkt_calls::status::{DONE, MEMORY, NO_PLACES, NOT_WHOLE};
 

@@ -89,7 +89,7 @@ const CANONICAL: [(&[u8], u32, u32, &[u8], usize); 22] = [
 
 #[test]
 fn canonical_texts(rt: HostRuntime) {
-    for (text, asked, wanted, canonical, wanted_end) in CANONICAL {
+    for (text, options, wanted, canonical, wanted_end) in CANONICAL {
         let mut read_room = [0u8; 400];
         let mut room = [0u8; 900];
         let mut out = [0u8; 64];
@@ -97,7 +97,7 @@ fn canonical_texts(rt: HostRuntime) {
         let mut end = 99;
         let status = wkt_canonical_in(
             text,
-            asked.wrapping_add(18),
+            options.wrapping_add(18),
             &mut read_room,
             &mut room,
             &mut out,
@@ -114,7 +114,7 @@ fn canonical_texts(rt: HostRuntime) {
         let mut few = [7u8; 3];
         let status = wkt_canonical_in(
             text,
-            asked.wrapping_add(18),
+            options.wrapping_add(18),
             &mut read_room,
             &mut room,
             &mut few,
@@ -236,7 +236,7 @@ const REFUSED: [(&[u8], u32, u32, u32, usize, usize, u32); 8] = [
 
 #[test]
 fn refused_texts(rt: HostRuntime) {
-    for (text, asked, wanted, its_message, its_start, its_stop, what) in REFUSED {
+    for (text, options, wanted, its_message, its_start, its_stop, what) in REFUSED {
         let mut message = 99;
         let mut start = 99;
         let mut stop = 99;
@@ -244,7 +244,7 @@ fn refused_texts(rt: HostRuntime) {
         let mut read_room = [0u8; 400];
         let status = wkt_explain_in(
             text,
-            asked.wrapping_add(18),
+            options.wrapping_add(18),
             &mut read_room,
             &mut message,
             &mut start,

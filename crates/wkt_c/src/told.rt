@@ -1,17 +1,17 @@
-//! The text of flat arrays: they are checked, and their parts go to a pen.
+//! The text of flat arrays: they are checked, and their parts go to a text builder.
 ghost use Rattle.std.specs.Prelude.{◌≡◌, ◌≤◌, ◌<◌, ◌^◌, length, true, false, IfOk, IfErr, IfSome, IfNone};
 ghost use Rattle.wkt_access.specs.declared.dimensions.Dimension.{Dimension};
 ghost use Rattle.wkt_types.specs.declared.geometry_type.GeometryType.{GeometryType};
-ghost use Rattle.wkt_canonical.specs.PenMaker.{IsWithin, written_of};
+ghost use Rattle.wkt_canonical.specs.TextBuilderMaker.{IsWithin, written_of};
 ghost use Rattle.wkt_calls.specs.Answer.{kind_number, dimension_number};
 ghost use Rattle.wkt_c.specs.ColumnArrays.{IsTextOf, AreOfSome};
 ghost use Rattle.wkt_c.specs.Rooms.{text_room};
 ghost use Rattle.wkt_c.specs.Rows.{IsRefused, CopiesOutText};
 
-use wkt_calls::asked::MOST_ASKED;
 use wkt_calls::fill::copy_out;
+use wkt_calls::options::MOST_ASKED;
 use wkt_calls::status::{MEMORY, NO_PLACES, NOT_ARRAYS};
-use wkt_canonical::Pen;
+use wkt_canonical::TextBuilder;
 use wkt_canonical::laws::texts_are_short;
 use wkt_fill::{Given, are_arrays, tell};
 use wkt_num::Places;
@@ -56,8 +56,8 @@ fn dimension_of(number: u32) -> Result<Dimension, u32>
     }
 }
 
-/// How much room a pen needs for the text of the arrays, or `None` where that is no size: the text of a number has no more
-/// than its places and 21 bytes; a number takes two more, a ring and a polygon seven each, and the pen 74.
+/// How much room a text builder needs for the text of the arrays, or `None` where that is no size: the text of a number has no more
+/// than its places and 21 bytes; a number takes two more, a ring and a polygon seven each, and the text builder 74.
 fn room_of(given: Given<'_>, places: u32) -> Option<usize>
     requires { places ≤ 36 }
     ensures some { IfSome result (λ n. n ≡ text_room places given.entry.numbers.now given.entry.rings.now given.entry.polygons.now) }
@@ -70,7 +70,7 @@ fn room_of(given: Given<'_>, places: u32) -> Option<usize>
     numbers.checked_add(parts)?.checked_add(74)
 }
 
-/// Whether a room of so many bytes is enough for a pen.
+/// Whether a room of so many bytes is enough for a text builder.
 fn is_enough(room: usize, given: Given<'_>, places: u32) -> bool
     requires { places ≤ 36 }
     ensures yes { result ≡ true → text_room places given.entry.numbers.now given.entry.rings.now given.entry.polygons.now ≤ room }
@@ -82,14 +82,14 @@ fn is_enough(room: usize, given: Given<'_>, places: u32) -> bool
     }
 }
 
-/// A pen that has written the text of the geometry of those arrays, if the room is large enough.
+/// A text builder that has written the text of the geometry of those arrays, if the room is large enough.
 pub(crate) fn told<'a>(
     given: GivenArrays<'_>,
     places: Places,
     room: &'a mut [u8],
-) -> Result<Pen<'a, Places>, u32>
+) -> Result<TextBuilder<'a, Places>, u32>
     requires { places ≤ 36 }
-    ensures ok { IfOk result (λ pen. IsTextOf places given.entry.kind given.entry.dimension given.entry.numbers.now given.entry.rings.now given.entry.polygons.now (written_of pen).bytes) }
+    ensures ok { IfOk result (λ builder. IsTextOf places given.entry.kind given.entry.dimension given.entry.numbers.now given.entry.rings.now given.entry.polygons.now (written_of builder).bytes) }
     ensures within { IfOk result IsWithin }
     ensures err { IfErr result (IsRefused (AreOfSome places given.entry.kind given.entry.dimension given.entry.numbers.now given.entry.rings.now given.entry.polygons.now)) }
     ensures lacks { IfErr result (λ s. s ≡ MEMORY → length room.old < text_room places given.entry.numbers.now given.entry.rings.now given.entry.polygons.now) }
@@ -109,8 +109,8 @@ pub(crate) fn told<'a>(
     }
     // No effect at run time. The proof reads that no number's text is too long.
     texts_are_short();
-    let pen = Pen::new(places, room);
-    Ok(tell::<Pen<'a, Places>>(arrays, pen))
+    let builder = TextBuilder::new(places, room);
+    Ok(tell::<TextBuilder<'a, Places>>(arrays, builder))
 }
 
 /// Copies out the text of the geometry of those arrays.
@@ -126,7 +126,7 @@ fn copy_out_text(
         (length room.old) out.old out.new needed.old needed.new result }
 {
     match told(given, places, room) {
-        Ok(pen) => copy_out(pen.written(), out, needed),
+        Ok(builder) => copy_out(builder.written(), out, needed),
         Err(status) => status,
     }
 }

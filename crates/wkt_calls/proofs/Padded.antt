@@ -16,7 +16,7 @@ use Rattle.wkt_read.proofs.HeaderPlaces.{front-of-lexemes}
 use Rattle.wkt_read.proofs.OneForm.{taken_begin, front_one}
 use Rattle.wkt_read.proofs.Splits.{split_one}
 use Rattle.wkt_read.proofs.Placings.{spanned-split, spanned-ends}
-use Rattle.wkt_explain.specs.Problems.{IsWalkedFor}
+use Rattle.wkt_explain.specs.Problems.{IsPaddedFor}
 use Rattle.wkt_read.specs.Messages.{message_number}
 use Rattle.wkt_read.proofs.Refusals.{with_bad}
 use Rattle.wkt_calls.specs.Answer.{RefusesText}
@@ -43,22 +43,22 @@ zero-first k [] some zeros = absurd (omega (arith, some))
 zero-first k (x ∷ xs) some zeros = (take k xs, ap (λ z. z ∷ take k xs) (zeros 0))
 
 -- a text before cleared bytes
-module _ (text near : List ℕ) (room : length text + 32 ≤ length near) (zeros : (i : ℕ) → get_or near i 0 ≡ the-zero) where
+module _ (text padded : List ℕ) (room : length text + 32 ≤ length padded) (zeros : (i : ℕ) → get_or padded i 0 ≡ the-zero) where
   abbrev behind : List ℕ
-  behind = drop (length text) near
+  behind = drop (length text) padded
 
   front-is : take (length text + 32) (text ++ behind) ≡ text ++ take 32 behind
   front-is = take-append-add text behind 32
 
-  pub is-walked : IsWalkedFor text (take (length text + 32) (text ++ behind))
-  is-walked =
-      let (more, e) = zero-first 31 behind (omega (arith, length-drop (length text) near, room)) (λ i. get_or-drop (length text) near i 0 ∙ zeros (length text + i)) in
+  pub is-padded_text : IsPaddedFor text (take (length text + 32) (text ++ behind))
+  is-padded_text =
+      let (more, e) = zero-first 31 behind (omega (arith, length-drop (length text) padded, room)) (λ i. get_or-drop (length text) padded i 0 ∙ zeros (length text + i)) in
       inr (more, front-is ∙ ap (λ l. text ++ l) e)
 
-  pub walked-utf8 : IsUtf8 text → IsUtf8 (take (length text + 32) (text ++ behind))
-  walked-utf8 u =
-      let ascii : IsAscii near = λ i. omega (arith, zeros i) in
-      subst IsUtf8 (sym front-is) (IsUtf8-append text (take 32 behind) u (IsUtf8-from_ascii (take 32 behind) (IsAscii-take behind 32 (IsAscii-drop near (length text) ascii))))
+  pub padded_text-utf8 : IsUtf8 text → IsUtf8 (take (length text + 32) (text ++ behind))
+  padded_text-utf8 u =
+      let ascii : IsAscii padded = λ i. omega (arith, zeros i) in
+      subst IsUtf8 (sym front-is) (IsUtf8-append text (take 32 behind) u (IsUtf8-from_ascii (take 32 behind) (IsAscii-take behind 32 (IsAscii-drop padded (length text) ascii))))
 
 -- the front of bytes that is all of ASCII
 pub front-utf8 : (xs ys : List ℕ) (n : ℕ) → n ≡ length xs → IsAscii (take n (xs ++ ys)) → IsUtf8 xs

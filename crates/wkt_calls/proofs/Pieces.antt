@@ -21,8 +21,8 @@ use Rattle.wkt_lines.proofs.Outcomes.{lines_step}
 use Rattle.wkt_calls.specs.Calls.{AreWholeLines}
 use Rattle.wkt_calls.specs.Answer.{RefusesText, RefusesOne, HasFront, kind_number, dimension_number}
 use Rattle.wkt_fill.specs.Filled.{view, FillsFront, HoldsAll}
-use Rattle.wkt_fill.specs.declared.filler.Filler.{Filler}
-use Rattle.wkt_fill.specs.declared.filler.Room.{Room}
+use Rattle.wkt_fill.specs.declared.array_builder.ArrayBuilder.{ArrayBuilder}
+use Rattle.wkt_fill.specs.declared.array_builder.Room.{Room}
 use Rattle.wkt_calls.specs.Arrays.{AreOf, IsNotFlatIn}
 use Rattle.wkt_num.specs.Decimal.{read_decimal, IsUnits}
 use Rattle.wkt_num.specs.DecimalLaws.{decimal_reads_values}
@@ -86,13 +86,13 @@ pub one_line : (bs : List ℕ) (end : ℕ) → length bs ≤ end → take end bs
 one_line bs end le e = sym e ∙ take_all end bs le
 
 -- a line that ends within a part is the whole's
-near-line : (k : ℕ) (rest : List ℕ) → length (before_feed (take k rest)) < length (take k rest) → before_feed (take k rest) ≡ before_feed rest
-near-line zero rest h = absurd (omega (arith, h))
-near-line (suc k) [] h = refl
-near-line (suc k) (b ∷ rest) h = elim (b == 10) as (λ t. length (if t then [] else b ∷ before_feed (take k rest)) < suc (length (take k rest))
+padded-line : (k : ℕ) (rest : List ℕ) → length (before_feed (take k rest)) < length (take k rest) → before_feed (take k rest) ≡ before_feed rest
+padded-line zero rest h = absurd (omega (arith, h))
+padded-line (suc k) [] h = refl
+padded-line (suc k) (b ∷ rest) h = elim (b == 10) as (λ t. length (if t then [] else b ∷ before_feed (take k rest)) < suc (length (take k rest))
     → (if t then [] else b ∷ before_feed (take k rest)) ≡ (if t then [] else b ∷ before_feed rest)) [
       | true ↦ λ less. refl
-      | false ↦ λ less. ap (λ l. b ∷ l) (near-line k rest (omega (arith, less)))
+      | false ↦ λ less. ap (λ l. b ∷ l) (padded-line k rest (omega (arith, less)))
     ] h
 
 -- the first line with its feed is one line
@@ -169,7 +169,7 @@ module _ (last : Bool) (input : List ℕ) (at : ℕ) where
     same-line (inl (inr (c, e))) =
         let whole : take at input ++ part ≡ c ++ (10 ∷ []) = sym (take-add at (end - at) input) ∙ ap (λ n. take n input) {x = at + (end - at)} {y = end} (omega (arith, less)) ∙ e in
         let (d, is) = ends-in (take at input) part c 10 whole (omega (arith, length-take (end - at) rest, length-drop at input, less, within)) in
-        near-line (end - at) rest (subst (λ l. length (before_feed l) < length l) (sym is) (feed-some d))
+        padded-line (end - at) rest (subst (λ l. length (before_feed l) < length l) (sym is) (feed-some d))
     same-line (inr (l, e)) = ap before_feed (take_all (end - at) rest (omega (arith, length-drop at input, e, less)))
 
     -- where the first line has no feed, it is the last
@@ -319,7 +319,7 @@ iff-more h k = (λ a. k.0 (h.0 a), λ c. h.1 (k.1 c))
 
 -- The arrays of what was filled, or why there are none.
 
-module _ (places : ℕ) (text : List ℕ) (r : Room) (f : Filler) (end : ℕ) (h : FillsFront places text r f end) where
+module _ (places : ℕ) (text : List ℕ) (r : Room) (f : ArrayBuilder) (end : ℕ) (h : FillsFront places text r f end) where
   -- the arrays of the front
   pub arrays-of : IsUtf8 text → f.status ≡ 0 → (k d : ℕ) → k ≡ kind_number f.kind → d ≡ dimension_number f.dimension → AreOf places text end k d (view f).flat.numbers (view f).flat.rings (view f).flat.polygons
   arrays-of utf8 z k d is at =

@@ -26,11 +26,11 @@ print_at places = decimal_text places
 
 -- How many places are asked for: 256 more ask for whole texts too.
 abbrev pub places_in : ℕ → ℕ
-places_in asked = if nat_lt asked 256 then asked else asked - 256
+places_in options = if nat_lt options 256 then options else options - 256
 
 -- Whether whole texts are asked for.
 abbrev pub asks_whole : ℕ → Bool
-asks_whole asked = not (nat_lt asked 256)
+asks_whole options = not (nat_lt options 256)
 
 -- A geometry that ends here is as asked for: where whole texts are, nothing but white space follows it.
 abbrev pub EndsAsAsked : Bool → List ℕ → ℕ → Type 0
@@ -81,7 +81,7 @@ module _ {N : Type 0} (read : List ℕ → Option N) where
 
   -- Whole texts are asked for, and the geometry that the text begins with ends here, and is followed by more than white space.
   pub record HasMore (whole : Bool) (text : List ℕ) (end : ℕ) : Type 0 where
-    pub asked : whole ≡ true
+    pub options : whole ≡ true
     pub utf8 : IsUtf8 text
     pub value : Value N
     pub front : Front read text value end

@@ -10,7 +10,7 @@ use Rattle.wkt_sources.specs.declared.points.FastPoint.{FastPoint}
 use Rattle.wkt_fill.specs.Filled.{view}
 use Rattle.wkt_calls.specs.declared.flat.Flat.{Flat}
 use Rattle.wkt_calls.specs.declared.sizes.WktSizes.{WktSizes}
-use Rattle.wkt_fill.specs.declared.filler.Room.{Room}
+use Rattle.wkt_fill.specs.declared.array_builder.Room.{Room}
 pub use Rattle.wkt_fill.specs.Arrays.{parts_of, joined, offsets, numbers_in, HasLarge, HasLargeNumber, LackPlaces}
 
 -- A value as flat arrays.
@@ -100,12 +100,12 @@ pub record HaveNoRoom (places : ℕ) (text : List ℕ) (s : WktSizes) (numbers :
 -- What a call for the arrays of a text returns.
 
 -- By its status, what a call says of a text, and what is in the buffers then. `Full` holds where room was lacking.
-pub record AnswersArrays (asked : ℕ) (text : List ℕ) (Full : Type 0) (status : ℕ) (sizes sizes' : WktSizes) (numbers numbers' : List ℤ) (rings rings' polygons polygons' : List ℕ) : Type 0 where
-  pub filled : status ≡ 0 → AreHandedOut (places_in asked) text sizes' numbers numbers' rings rings' polygons polygons'
-  pub small : status ≡ 21 → HaveNoRoom (places_in asked) text sizes' numbers rings polygons
-  pub as_asked : (status ≡ 0) ⊎ (status ≡ 21) → EndsAsAsked (asks_whole asked) text sizes'.end
-  pub more : status ≡ 30 → HasMoreAt (places_in asked) (asks_whole asked) text sizes'
+pub record AnswersArrays (options : ℕ) (text : List ℕ) (Full : Type 0) (status : ℕ) (sizes sizes' : WktSizes) (numbers numbers' : List ℤ) (rings rings' polygons polygons' : List ℕ) : Type 0 where
+  pub filled : status ≡ 0 → AreHandedOut (places_in options) text sizes' numbers numbers' rings rings' polygons polygons'
+  pub small : status ≡ 21 → HaveNoRoom (places_in options) text sizes' numbers rings polygons
+  pub as_asked : (status ≡ 0) ⊎ (status ≡ 21) → EndsAsAsked (asks_whole options) text sizes'.end
+  pub more : status ≡ 30 → HasMoreAt (places_in options) (asks_whole options) text sizes'
   pub memory : status ≡ 22 → Full
-  pub others : 1 ≤ status → status ≢ 21 → status ≢ 22 → status ≢ 30 → IsNotFlat (places_in asked) text status
+  pub others : 1 ≤ status → status ≢ 21 → status ≢ 22 → status ≢ 30 → IsNotFlat (places_in options) text status
   pub kept : 1 ≤ status → (numbers' ≡ numbers) × (rings' ≡ rings) × (polygons' ≡ polygons)
   pub sizes_kept : 1 ≤ status → status ≢ 21 → status ≢ 30 → sizes' ≡ sizes

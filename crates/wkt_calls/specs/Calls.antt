@@ -24,37 +24,37 @@ module _ {N : Type 0} (read : List ℕ → Option N) (num : N → List ℕ) wher
 
 -- The canonical text is written or the text is refused, with decimals of as many places as are asked for.
 abbrev pub WritesAsked : ℕ → List ℕ → List ℕ → Result (ℕ × ℕ) ℕ → Type 0
-WritesAsked asked text room result = WritesOrRefuses (read_at (places_in asked)) (print_at (places_in asked)) text room result
+WritesAsked options text room result = WritesOrRefuses (read_at (places_in options)) (print_at (places_in options)) text room result
 
 -- By its status, what a call says of a text, and what it has written then.
-pub record AnswersCanonical (asked : ℕ) (text : List ℕ) (status : ℕ) (out out' : List ℕ) (needed needed' end end' : ℕ) : Type 0 where
-  pub written : status ≡ 0 → (answer : List ℕ) × IsCanonicalOf (read_at (places_in asked)) (print_at (places_in asked)) text answer end'
-      × EndsAsAsked (asks_whole asked) text end' × IsHandedOut answer needed' out out'
-  pub small : status ≡ 21 → (answer : List ℕ) × IsCanonicalOf (read_at (places_in asked)) (print_at (places_in asked)) text answer end'
-      × EndsAsAsked (asks_whole asked) text end' × HasNoRoom answer needed' out
-  pub more : status ≡ 30 → HasMore (read_at (places_in asked)) (asks_whole asked) text end'
+pub record AnswersCanonical (options : ℕ) (text : List ℕ) (status : ℕ) (out out' : List ℕ) (needed needed' end end' : ℕ) : Type 0 where
+  pub written : status ≡ 0 → (answer : List ℕ) × IsCanonicalOf (read_at (places_in options)) (print_at (places_in options)) text answer end'
+      × EndsAsAsked (asks_whole options) text end' × IsHandedOut answer needed' out out'
+  pub small : status ≡ 21 → (answer : List ℕ) × IsCanonicalOf (read_at (places_in options)) (print_at (places_in options)) text answer end'
+      × EndsAsAsked (asks_whole options) text end' × HasNoRoom answer needed' out
+  pub more : status ≡ 30 → HasMore (read_at (places_in options)) (asks_whole options) text end'
   -- Memory is taken for texts of more than 200 bytes.
   pub memory : status ≡ 22 → 200 < length text
-  pub others : 1 ≤ status → status ≢ 21 → status ≢ 22 → status ≢ 30 → RefusesText (read_at (places_in asked)) text status
+  pub others : 1 ≤ status → status ≢ 21 → status ≢ 22 → status ≢ 30 → RefusesText (read_at (places_in options)) text status
   pub kept : 1 ≤ status → out' ≡ out
   pub bound : (status ≡ 0) ⊎ (status ≡ 21) → needed' ≤ 2 * length text + 65
   pub needed_kept : 1 ≤ status → status ≢ 21 → needed' ≡ needed
   pub end_kept : 1 ≤ status → status ≢ 21 → status ≢ 30 → end' ≡ end
 
 -- By its status, what a comparison says of two texts, and what it has written then.
-pub record AnswersSame (asked : ℕ) (one other : List ℕ) (status same same' end end' other_end other_end' : ℕ) : Type 0 where
-  pub compared : status ≡ 0 → (answer : Bool) × Compares (read_at (places_in asked)) (print_at (places_in asked)) one other end' other_end' answer × (same' ≡ same_number answer)
-  pub as_asked : status ≡ 0 → EndsAsAsked (asks_whole asked) one end' × EndsAsAsked (asks_whole asked) other other_end'
-  pub more : status ≡ 30 → (answer : Bool) × Compares (read_at (places_in asked)) (print_at (places_in asked)) one other end' other_end' answer
-      × (IsMore (asks_whole asked) one end' ⊎ IsMore (asks_whole asked) other other_end')
+pub record AnswersSame (options : ℕ) (one other : List ℕ) (status same same' end end' other_end other_end' : ℕ) : Type 0 where
+  pub compared : status ≡ 0 → (answer : Bool) × Compares (read_at (places_in options)) (print_at (places_in options)) one other end' other_end' answer × (same' ≡ same_number answer)
+  pub as_asked : status ≡ 0 → EndsAsAsked (asks_whole options) one end' × EndsAsAsked (asks_whole options) other other_end'
+  pub more : status ≡ 30 → (answer : Bool) × Compares (read_at (places_in options)) (print_at (places_in options)) one other end' other_end' answer
+      × (IsMore (asks_whole options) one end' ⊎ IsMore (asks_whole options) other other_end')
   pub memory : status ≡ 22 → (200 < length one) ⊎ (200 < length other)
-  pub others : 1 ≤ status → status ≢ 22 → status ≢ 30 → RefusesOne (read_at (places_in asked)) one other status
+  pub others : 1 ≤ status → status ≢ 22 → status ≢ 30 → RefusesOne (read_at (places_in options)) one other status
   pub kept : 1 ≤ status → same' ≡ same
   pub ends_kept : 1 ≤ status → status ≢ 30 → (end' ≡ end) × (other_end' ≡ other_end)
 
 -- Two texts were compared.
 abbrev pub AreCompared : ℕ → List ℕ → List ℕ → Compared → Type 0
-AreCompared asked one other c = Compares (read_at (places_in asked)) (print_at (places_in asked)) one other c.end c.other_end c.same
+AreCompared options one other c = Compares (read_at (places_in options)) (print_at (places_in options)) one other c.end c.other_end c.same
 
 -- The answers to some lines at the front of an input.
 

@@ -19,28 +19,28 @@ use Rattle.wkt_calls.specs.declared.dialects.AsRead.{AsRead}
 
 -- Dialects are asked for, and numbers of as many places as there are.
 abbrev pub AsksDialects : ℕ → Type 0
-AsksDialects asked = (512 ≤ asked) × (asked < 8192) × (places_in (asked % 512) ≤ 36)
+AsksDialects options = (512 ≤ options) × (options < 8192) × (places_in (options % 512) ≤ 36)
 
 -- The status is 23, and no such dialects or numbers are there; or they are, and this holds of it.
 abbrev pub IsUnaskedOr : ℕ → (ℕ → Type 0) → ℕ → Type 0
-IsUnaskedOr asked holds status = ((status ≡ 23) × (AsksDialects asked → ⊥)) ⊎ (AsksDialects asked × holds status)
+IsUnaskedOr options holds status = ((status ≡ 23) × (AsksDialects options → ⊥)) ⊎ (AsksDialects options × holds status)
 
 -- What a number is read as without a dialect.
 abbrev pub read_plainly : ℕ → List ℕ → Option ℤ
-read_plainly asked = read_at (places_in (asked % 512))
+read_plainly options = read_at (places_in (options % 512))
 
 -- It holds what stands behind the SRID of the text, if one is split off.
-pub record HoldsRest (asked : ℕ) (text : List ℕ) (r : AsRead) : Type 0 where
-  pub dialects : r.dialects ≡ dialects_in asked
+pub record HoldsRest (options : ℕ) (text : List ℕ) (r : AsRead) : Type 0 where
+  pub dialects : r.dialects ≡ dialects_in options
   pub inside : r.from ≤ length text
   pub rest : r.rest.now ≡ drop r.from text
-  pub split_off : IsRest (dialects_in asked) text r.rest.now
+  pub split_off : IsRest (dialects_in options) text r.rest.now
 
 -- The text behind the SRID is read as it stands, where it begins with a geometry, and else as another text.
-pub record IsAsRead (asked : ℕ) (text : List ℕ) (r : AsRead) : Type 0 where
-  pub rest : HoldsRest asked text r
-  pub same : r.written ≡ false → HasFront (read_plainly asked) r.rest.now × (r.text.now ≡ r.rest.now)
-  pub other : r.written ≡ true → HasNoFront (read_plainly asked) r.rest.now × IsRestAs (dialects_in asked) r.rest.now r.text.now
+pub record IsAsRead (options : ℕ) (text : List ℕ) (r : AsRead) : Type 0 where
+  pub rest : HoldsRest options text r
+  pub same : r.written ≡ false → HasFront (read_plainly options) r.rest.now × (r.text.now ≡ r.rest.now)
+  pub other : r.written ≡ true → HasNoFront (read_plainly options) r.rest.now × IsRestAs (dialects_in options) r.rest.now r.text.now
   pub utf8 : IsUtf8 text → IsUtf8 r.text.now
 
 -- Places of the text that is read can be found in the text as it was given. Only private contracts cite this.
@@ -66,35 +66,35 @@ IsPlacedProblem r (Rest at) (Rest start) = (behind : ℕ) × (stop : ℕ) × IsP
 IsPlacedProblem r p q = ⊥
 
 -- Why the text that the text is read as isn't accepted, by places of the text as it was given.
-pub record IsProblemIn (asked : ℕ) (text : List ℕ) (problem : Problem) : Type 0 where
+pub record IsProblemIn (options : ℕ) (text : List ℕ) (problem : Problem) : Type 0 where
   pub read : AsRead
-  pub as_read : IsAsRead asked text read
+  pub as_read : IsAsRead options text read
   pub utf8 : IsUtf8 read.text.now
   pub of_other : Problem
-  pub is : IsProblem (read_plainly asked) (asks_whole (asked % 512)) read.text.now of_other
+  pub is : IsProblem (read_plainly options) (asks_whole (options % 512)) read.text.now of_other
   pub places : IsPlacedProblem read of_other problem
 
 -- The number of the hint for the text that the text is read as; none where more than white space follows its geometry.
-pub record IsHintIn (asked : ℕ) (text : List ℕ) (hint : Option ℕ) : Type 0 where
+pub record IsHintIn (options : ℕ) (text : List ℕ) (hint : Option ℕ) : Type 0 where
   pub read : AsRead
-  pub as_read : IsAsRead asked text read
+  pub as_read : IsAsRead options text read
   pub utf8 : IsUtf8 read.text.now
-  pub some : (n : ℕ) → hint ≡ Some n → IsHinted (read_plainly asked) (places_in (asked % 512)) read.text.now n
-  pub none : hint ≡ None → (at : ℕ) × IsProblem (read_plainly asked) (asks_whole (asked % 512)) read.text.now (Rest at)
+  pub some : (n : ℕ) → hint ≡ Some n → IsHinted (read_plainly options) (places_in (options % 512)) read.text.now n
+  pub none : hint ≡ None → (at : ℕ) × IsProblem (read_plainly options) (asks_whole (options % 512)) read.text.now (Rest at)
 
 -- Why a text in dialects isn't explained.
-pub record IsUnexplainedIn (asked : ℕ) (text : List ℕ) (status : ℕ) : Type 0 where
+pub record IsUnexplainedIn (options : ℕ) (text : List ℕ) (status : ℕ) : Type 0 where
   -- 29: the text that it is read as begins with a geometry, which is as asked for.
-  pub accepted : status ≡ 29 → (r : AsRead) × IsAsRead asked text r × (end : ℕ) × IsAccepted (read_plainly asked) (asks_whole (asked % 512)) r.text.now end
+  pub accepted : status ≡ 29 → (r : AsRead) × IsAsRead options text r × (end : ℕ) × IsAccepted (read_plainly options) (asks_whole (options % 512)) r.text.now end
   -- 20: it isn't UTF-8.
   pub not_utf8 : status ≡ 20 → IsUtf8 text → ⊥
   -- 22: there is no room for the text that it is read as.
   pub others : (status ≡ 29) ⊎ ((status ≡ 20) ⊎ (status ≡ 22))
 
 -- Why a text has no answer in dialects: there are no such dialects, or no numbers of so many places; it isn't UTF-8; or there is no room for the text that it is read as.
-pub record HasNoAnswer (asked : ℕ) (text : List ℕ) (status : ℕ) : Type 0 where
-  pub no_dialects : (AsksDialects asked → ⊥) → status ≡ 23
-  pub dialects : status ≡ 23 → AsksDialects asked → ⊥
+pub record HasNoAnswer (options : ℕ) (text : List ℕ) (status : ℕ) : Type 0 where
+  pub no_dialects : (AsksDialects options → ⊥) → status ≡ 23
+  pub dialects : status ≡ 23 → AsksDialects options → ⊥
   pub not_utf8 : status ≡ 20 → IsUtf8 text → ⊥
 
 -- The status says where a geometry ends.
@@ -106,63 +106,63 @@ abbrev pub IsAnswer : ℕ → Type 0
 IsAnswer status = (status ≢ 20) × (status ≢ 22) × (status ≢ 23)
 
 -- What a call for canonical text answers of the text that is read, with its end in the text as it was given.
-pub record AnswersCanonicalOf (asked : ℕ) (r : AsRead) (status : ℕ) (out out' : List ℕ) (needed needed' end end' : ℕ) : Type 0 where
+pub record AnswersCanonicalOf (options : ℕ) (r : AsRead) (status : ℕ) (out out' : List ℕ) (needed needed' end end' : ℕ) : Type 0 where
   pub at : ℕ
-  pub answers : AnswersCanonical (asked % 512) r.text.now status out out' needed needed' 0 at
+  pub answers : AnswersCanonical (options % 512) r.text.now status out out' needed needed' 0 at
   pub end_is : SaysEnd status → EndsAt r at end'
   pub end_kept : (SaysEnd status → ⊥) → end' ≡ end
 
 -- By its status, what a call for canonical text says of a text in dialects.
-pub record AnswersCanonicalIn (asked : ℕ) (text : List ℕ) (status : ℕ) (out out' : List ℕ) (needed needed' end end' : ℕ) : Type 0 where
-  pub none : HasNoAnswer asked text status
-  pub answers : IsAnswer status → (r : AsRead) × IsAsRead asked text r × AnswersCanonicalOf asked r status out out' needed needed' end end'
+pub record AnswersCanonicalIn (options : ℕ) (text : List ℕ) (status : ℕ) (out out' : List ℕ) (needed needed' end end' : ℕ) : Type 0 where
+  pub none : HasNoAnswer options text status
+  pub answers : IsAnswer status → (r : AsRead) × IsAsRead options text r × AnswersCanonicalOf options r status out out' needed needed' end end'
   pub kept : 1 ≤ status → out' ≡ out
   pub needed_kept : 1 ≤ status → status ≢ 21 → needed' ≡ needed
   pub end_kept : (SaysEnd status → ⊥) → end' ≡ end
 
 -- What a comparison answers of the texts that are read, with their ends in the texts as they were given.
-pub record AnswersSameOf (asked : ℕ) (r q : AsRead) (status same same' end end' other_end other_end' : ℕ) : Type 0 where
+pub record AnswersSameOf (options : ℕ) (r q : AsRead) (status same same' end end' other_end other_end' : ℕ) : Type 0 where
   pub at : ℕ
   pub other_at : ℕ
-  pub answers : AnswersSame (asked % 512) r.text.now q.text.now status same same' 0 at 0 other_at
+  pub answers : AnswersSame (options % 512) r.text.now q.text.now status same same' 0 at 0 other_at
   pub ends : (status ≡ 0) ⊎ (status ≡ 30) → EndsAt r at end' × EndsAt q other_at other_end'
   pub ends_kept : 1 ≤ status → status ≢ 30 → (end' ≡ end) × (other_end' ≡ other_end)
 
 -- By its status, what a comparison says of two texts in dialects.
-pub record AnswersSameIn (asked : ℕ) (one other : List ℕ) (status same same' end end' other_end other_end' : ℕ) : Type 0 where
-  pub no_dialects : (AsksDialects asked → ⊥) → status ≡ 23
-  pub dialects : status ≡ 23 → AsksDialects asked → ⊥
+pub record AnswersSameIn (options : ℕ) (one other : List ℕ) (status same same' end end' other_end other_end' : ℕ) : Type 0 where
+  pub no_dialects : (AsksDialects options → ⊥) → status ≡ 23
+  pub dialects : status ≡ 23 → AsksDialects options → ⊥
   pub not_utf8 : status ≡ 20 → IsUtf8 one → IsUtf8 other → ⊥
-  pub answers : IsAnswer status → (r : AsRead) × (q : AsRead) × IsAsRead asked one r × IsAsRead asked other q × AnswersSameOf asked r q status same same' end end' other_end other_end'
+  pub answers : IsAnswer status → (r : AsRead) × (q : AsRead) × IsAsRead options one r × IsAsRead options other q × AnswersSameOf options r q status same same' end end' other_end other_end'
   pub kept : 1 ≤ status → same' ≡ same
   pub ends_kept : 1 ≤ status → status ≢ 30 → (end' ≡ end) × (other_end' ≡ other_end)
 
 -- What a call for arrays answers of the text that is read, with its end in the text as it was given.
-pub record AnswersArraysOf (asked : ℕ) (r : AsRead) (status : ℕ) (sizes sizes' : WktSizes) (numbers numbers' : List ℤ) (rings rings' polygons polygons' : List ℕ) : Type 0 where
+pub record AnswersArraysOf (options : ℕ) (r : AsRead) (status : ℕ) (sizes sizes' : WktSizes) (numbers numbers' : List ℤ) (rings rings' polygons polygons' : List ℕ) : Type 0 where
   pub of_other : WktSizes
-  pub answers : AnswersArrays (asked % 512) r.text.now (64 < length r.text.now) status sizes of_other numbers numbers' rings rings' polygons polygons'
+  pub answers : AnswersArrays (options % 512) r.text.now (64 < length r.text.now) status sizes of_other numbers numbers' rings rings' polygons polygons'
   pub end_is : SaysEnd status → EndsAt r of_other.end sizes'.end × (sizes' ≡ record of_other { end = sizes'.end })
   pub sizes_kept : (SaysEnd status → ⊥) → sizes' ≡ sizes
 
 -- By its status, what a call for arrays says of a text in dialects.
-pub record AnswersArraysIn (asked : ℕ) (text : List ℕ) (status : ℕ) (sizes sizes' : WktSizes) (numbers numbers' : List ℤ) (rings rings' polygons polygons' : List ℕ) : Type 0 where
-  pub none : HasNoAnswer asked text status
-  pub answers : IsAnswer status → (r : AsRead) × IsAsRead asked text r × AnswersArraysOf asked r status sizes sizes' numbers numbers' rings rings' polygons polygons'
+pub record AnswersArraysIn (options : ℕ) (text : List ℕ) (status : ℕ) (sizes sizes' : WktSizes) (numbers numbers' : List ℤ) (rings rings' polygons polygons' : List ℕ) : Type 0 where
+  pub none : HasNoAnswer options text status
+  pub answers : IsAnswer status → (r : AsRead) × IsAsRead options text r × AnswersArraysOf options r status sizes sizes' numbers numbers' rings rings' polygons polygons'
   pub kept : 1 ≤ status → (numbers' ≡ numbers) × (rings' ≡ rings) × (polygons' ≡ polygons)
   pub sizes_kept : (SaysEnd status → ⊥) → sizes' ≡ sizes
 
 -- By its status, what a call says of why a text in dialects is refused.
-pub record AnswersExplainIn (asked : ℕ) (text : List ℕ) (status message' start' stop' expected' : ℕ) : Type 0 where
-  pub no_dialects : (AsksDialects asked → ⊥) → status ≡ 23
-  pub dialects : status ≡ 23 → AsksDialects asked → ⊥
-  pub explained : status ≡ 0 → (r : AsRead) × IsAsRead asked text r × (at : ℕ) × (upto : ℕ) × IsExplained (read_plainly asked) r.text.now message' at upto expected' × (behind : ℕ) × IsPlaced r at behind start' stop'
-  pub more : status ≡ 30 → (r : AsRead) × IsAsRead asked text r × (at : ℕ) × IsFollowed (read_plainly asked) (asks_whole (asked % 512)) r.text.now at × (behind : ℕ) × (stop : ℕ) × IsPlaced r at behind start' stop × (stop' ≡ length text)
-  pub others : 1 ≤ status → status ≢ 30 → status ≢ 23 → IsUnexplainedIn asked text status
+pub record AnswersExplainIn (options : ℕ) (text : List ℕ) (status message' start' stop' expected' : ℕ) : Type 0 where
+  pub no_dialects : (AsksDialects options → ⊥) → status ≡ 23
+  pub dialects : status ≡ 23 → AsksDialects options → ⊥
+  pub explained : status ≡ 0 → (r : AsRead) × IsAsRead options text r × (at : ℕ) × (upto : ℕ) × IsExplained (read_plainly options) r.text.now message' at upto expected' × (behind : ℕ) × IsPlaced r at behind start' stop'
+  pub more : status ≡ 30 → (r : AsRead) × IsAsRead options text r × (at : ℕ) × IsFollowed (read_plainly options) (asks_whole (options % 512)) r.text.now at × (behind : ℕ) × (stop : ℕ) × IsPlaced r at behind start' stop × (stop' ≡ length text)
+  pub others : 1 ≤ status → status ≢ 30 → status ≢ 23 → IsUnexplainedIn options text status
 
 -- By its status, which hint there is for a text in dialects.
-pub record AnswersHintIn (asked : ℕ) (text : List ℕ) (status hint' : ℕ) : Type 0 where
-  pub no_dialects : (AsksDialects asked → ⊥) → status ≡ 23
-  pub dialects : status ≡ 23 → AsksDialects asked → ⊥
-  pub hinted : status ≡ 0 → (r : AsRead) × IsAsRead asked text r × IsHinted (read_plainly asked) (places_in (asked % 512)) r.text.now hint'
-  pub more : status ≡ 30 → (r : AsRead) × IsAsRead asked text r × (at : ℕ) × IsFollowed (read_plainly asked) (asks_whole (asked % 512)) r.text.now at
-  pub others : 1 ≤ status → status ≢ 30 → status ≢ 23 → IsUnexplainedIn asked text status
+pub record AnswersHintIn (options : ℕ) (text : List ℕ) (status hint' : ℕ) : Type 0 where
+  pub no_dialects : (AsksDialects options → ⊥) → status ≡ 23
+  pub dialects : status ≡ 23 → AsksDialects options → ⊥
+  pub hinted : status ≡ 0 → (r : AsRead) × IsAsRead options text r × IsHinted (read_plainly options) (places_in (options % 512)) r.text.now hint'
+  pub more : status ≡ 30 → (r : AsRead) × IsAsRead options text r × (at : ℕ) × IsFollowed (read_plainly options) (asks_whole (options % 512)) r.text.now at
+  pub others : 1 ≤ status → status ≢ 30 → status ≢ 23 → IsUnexplainedIn options text status

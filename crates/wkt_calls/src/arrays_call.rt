@@ -3,9 +3,9 @@ ghost use Rattle.std.specs.Prelude.{◌≡◌, ◌≤◌, ◌<◌, ◌≢◌, �
 ghost use Rattle.wkt_calls.specs.Answer.{places_in, asks_whole, EndsAsAsked};
 ghost use Rattle.wkt_calls.specs.Arrays.{IsNotFlat, HasMoreAt, HasNoPlaceFor, AnswersArrays, IsFlatPoint, AreHandedOut, HaveNoRoom};
 
-use crate::asked::ends_as_asked;
 use crate::fill::{copy_to_front, put_two};
 use crate::flat::{find_point, flat_asked};
+use crate::options::ends_as_asked;
 use crate::sizes::WktSizes;
 use crate::status::{DONE, MEMORY, NOT_WHOLE, SMALL};
 use wkt_fill::Room;

@@ -2,12 +2,12 @@
 ghost use Rattle.std.specs.Prelude.{◌≡◌, ◌≢◌, ◌+◌, ◌*◌, ◌≤◌, ◌⊎◌, ℕ, IfOk, IfSome, IfNone, IsUtf8, true, false, take, drop, length, slice_index};
 ghost use Rattle.std.specs.Str.{IsAscii};
 ghost use Rattle.wkt_num.specs.Bytes.{AllWhite};
-ghost use Rattle.wkt_explain.specs.Problems.{IsWalkedFor};
+ghost use Rattle.wkt_explain.specs.Problems.{IsPaddedFor};
 ghost use Rattle.wkt_calls.specs.Calls.{AnswersCanonical, WritesAsked, WritesOrRefuses, WritesOrSaysWhy};
 ghost use Rattle.wkt_calls.specs.Answer.{read_at, print_at, places_in, asks_whole, EndsAsAsked, IsHandedOut, HasNoRoom};
 
-use crate::asked::{ends_as_asked, places_of};
 use crate::fill::{copy_out, copy_out_at_once};
+use crate::options::{ends_as_asked, places_of};
 use crate::status::{DONE, MEMORY, NOT_TEXT, NOT_WHOLE, SMALL};
 use std::simd::prelude::*;
 use wkt_canonical::laws::texts_are_short;
@@ -23,7 +23,7 @@ pub(crate) const SHORTEST: usize = 31;
 /// How long a text may be that is answered with little room: the polygon of `capi/bench/calls.sh` is no longer.
 pub(crate) const SHORTER: usize = 63;
 /// How many zeros stand behind a short text: what the machine looks at together.
-const BEHIND: usize = 32;
+const PADDING: usize = 32;
 
 /// Writes the canonical text of what a text begins with to the front of the room, and returns where the front ends and how
 /// long its canonical text is; or with which message a text is refused that begins with none.
@@ -44,52 +44,57 @@ fn write(places: Places, text: &str, room: &mut [u8]) -> Result<(usize, usize), 
 }
 
 /// Does what `write` does, and returns where the front ends and how long its canonical text is, or why the text is
-/// refused. `walked` is the text, or the text and what stands behind a NUL.
+/// refused. `padded_text` is the text, or the text and what stands behind a NUL.
 fn write_or_refuse(
     text: &str,
-    walked: &str,
+    padded_text: &str,
     places: Places,
     room: &mut [u8],
 ) -> Result<(usize, usize), u32>
-    requires room { 2 * length walked.now + 65 ≤ length room.old }
+    requires room { 2 * length padded_text.now + 65 ≤ length room.old }
     requires utf8 { IsUtf8 text.now }
-    requires walked { IsWalkedFor text.now walked.now }
+    requires padded_text { IsPaddedFor text.now padded_text.now }
     ensures canonical { WritesOrRefuses (read_at places) (print_at places) text.now room.new result }
     ensures within { IfOk result (λ r. r.1 + 64 ≤ length room.new) }
     ensures whole { length room.new ≡ length room.old }
 {
-    match write(places, walked, room) {
+    match write(places, padded_text, room) {
         Ok((end, n)) => Ok((end, n)),
         Err(message) => Err(message.number()),
     }
 }
 
 /// Writes the canonical text or returns the status of its refusal, with decimals of as many places as are asked for.
-fn write_in(text: &str, walked: &str, asked: u32, room: &mut [u8]) -> Result<(usize, usize), u32>
-    requires places { places_in asked ≤ 36 }
-    requires room { 2 * length walked.now + 65 ≤ length room.old }
+fn write_in(
+    text: &str,
+    padded_text: &str,
+    options: u32,
+    room: &mut [u8],
+) -> Result<(usize, usize), u32>
+    requires places { places_in options ≤ 36 }
+    requires room { 2 * length padded_text.now + 65 ≤ length room.old }
     requires utf8 { IsUtf8 text.now }
-    requires walked { IsWalkedFor text.now walked.now }
-    ensures canonical { WritesAsked asked text.now room.new result }
+    requires padded_text { IsPaddedFor text.now padded_text.now }
+    ensures canonical { WritesAsked options text.now room.new result }
     ensures within { IfOk result (λ r. r.1 + 64 ≤ length room.new) }
     ensures whole { length room.new ≡ length room.old }
 {
-    write_or_refuse(text, walked, Places::new(places_of(asked)), room)
+    write_or_refuse(text, padded_text, Places::new(places_of(options)), room)
 }
 
 /// Writes the canonical text of what a text begins with to the front of a room that is 65 bytes longer than twice the text,
 /// and returns where the geometry ends in the text and how long the canonical text is, or why the text is refused. No more
 /// of the room is used than that.
-pub fn write_within(text: &str, asked: u32, room: &mut [u8]) -> Result<(usize, usize), u32>
-    requires places { places_in asked ≤ 36 }
+pub fn write_within(text: &str, options: u32, room: &mut [u8]) -> Result<(usize, usize), u32>
+    requires places { places_in options ≤ 36 }
     requires room { 2 * length text.now + 65 ≤ length room.old }
     requires utf8 { IsUtf8 text.now }
-    ensures canonical { WritesAsked asked text.now room.new result }
+    ensures canonical { WritesAsked options text.now room.new result }
     ensures within { IfOk result (λ r. r.1 ≤ length room.new) }
     ensures bound { IfOk result (λ r. r.1 ≤ 2 * length text.now + 1) }
     ensures whole { length room.new ≡ length room.old }
 {
-    write_in(text, text, asked, &mut room[..2 * text.len() + 65])
+    write_in(text, text, options, &mut room[..2 * text.len() + 65])
 }
 
 /// Whether each of the first `n` bytes is of ASCII, and each of those behind them that are looked at too.
@@ -128,80 +133,85 @@ fn is_utf8(text: &[u8]) -> bool
 
 /// Whether a text is UTF-8 that also stands at the front of these bytes: where they are of ASCII it is.
 #[inline(always)]
-pub(crate) fn is_text(text: &[u8], near: &[u8]) -> bool
-    requires within { length text.now + 32 ≤ length near.now }
-    requires front { take (length text.now) near.now ≡ text.now }
+pub(crate) fn is_text(text: &[u8], padded: &[u8]) -> bool
+    requires within { length text.now + 32 ≤ length padded.now }
+    requires front { take (length text.now) padded.now ≡ text.now }
     ensures yes { result ≡ true → IsUtf8 text.now }
     ensures no { result ≡ false → IsUtf8 text.now → ⊥ }
 {
-    if is_ascii(near, text.len()) {
+    if is_ascii(padded, text.len()) {
         return true;
     }
     is_utf8(text)
 }
 
 /// A short text, and the text before zeros, so that the machine sees 32 bytes at once up to its end; none where it isn't
-/// UTF-8. `near` is where it is copied to.
+/// UTF-8. `padded` is where it is copied to.
 #[inline(always)]
-pub(crate) fn before_zeros<'a>(text: &'a [u8], near: &'a mut [u8]) -> Option<(&'a str, &'a str)>
-    requires near { length text.now + 32 ≤ length near.old }
-    requires zeros { (i : ℕ) → slice_index near.old i ≡ 0 }
+pub(crate) fn before_zeros<'a>(text: &'a [u8], padded: &'a mut [u8]) -> Option<(&'a str, &'a str)>
+    requires padded { length text.now + 32 ≤ length padded.old }
+    requires zeros { (i : ℕ) → slice_index padded.old i ≡ 0 }
     ensures text { IfSome result (λ r. r.0.now ≡ text.now) }
-    ensures walked { IfSome result (λ r. IsWalkedFor text.now r.1.now) }
+    ensures padded_text { IfSome result (λ r. IsPaddedFor text.now r.1.now) }
     ensures long { IfSome result (λ r. length r.1.now ≡ length text.now + 32) }
     ensures none { IfNone result (IsUtf8 text.now → ⊥) }
 {
     let n = text.len();
-    near[..n].copy_from_slice(text);
-    if !is_text(text, near) {
+    padded[..n].copy_from_slice(text);
+    if !is_text(text, padded) {
         return None;
     }
-    let walked = unsafe { str::from_utf8_unchecked(&near[..n + BEHIND]) };
+    let padded_text = unsafe { str::from_utf8_unchecked(&padded[..n + PADDING]) };
     let text = unsafe { str::from_utf8_unchecked(text) };
-    Some((text, walked))
+    Some((text, padded_text))
 }
 
 /// Writes the canonical text of what a short text begins with.
 pub(crate) fn write_short(
     text: &[u8],
-    asked: u32,
-    near: &mut [u8],
+    options: u32,
+    padded: &mut [u8],
     room: &mut [u8],
 ) -> Result<(usize, usize), u32>
-    requires places { places_in asked ≤ 36 }
-    requires near { length text.now + 32 ≤ length near.old }
-    requires zeros { (i : ℕ) → slice_index near.old i ≡ 0 }
+    requires places { places_in options ≤ 36 }
+    requires padded { length text.now + 32 ≤ length padded.old }
+    requires zeros { (i : ℕ) → slice_index padded.old i ≡ 0 }
     requires room { 2 * length text.now + 129 ≤ length room.old }
-    ensures canonical { WritesAsked asked text.now room.new result }
+    ensures canonical { WritesAsked options text.now room.new result }
     ensures within { IfOk result (λ r. r.1 ≤ length room.new) }
     ensures bound { IfOk result (λ r. r.1 ≤ 2 * length text.now + 65) }
     ensures whole { length room.new ≡ length room.old }
 {
-    let Some((text, walked)) = before_zeros(text, near) else {
+    let Some((text, padded_text)) = before_zeros(text, padded) else {
         return Err(NOT_TEXT);
     };
-    write_in(text, walked, asked, &mut room[..2 * text.len() + 129])
+    write_in(
+        text,
+        padded_text,
+        options,
+        &mut room[..2 * text.len() + 129],
+    )
 }
 
 /// Copies out an answer to a text whose geometry ends there, if that is as asked for and there is room for it.
 pub fn copy_out_front(
     text: &[u8],
     end: usize,
-    asked: u32,
+    options: u32,
     answer: &[u8],
     out: &mut [u8],
     needed: &mut usize,
 ) -> u32
     requires { end ≤ length text.now }
-    ensures as_asked { result ≢ NOT_WHOLE → EndsAsAsked (asks_whole asked) text.now end }
+    ensures as_asked { result ≢ NOT_WHOLE → EndsAsAsked (asks_whole options) text.now end }
     ensures stands { result ≡ DONE → IsHandedOut answer.now needed.new out.old out.new }
     ensures lacks { result ≡ SMALL → HasNoRoom answer.now needed.new out.old }
-    ensures more { result ≡ NOT_WHOLE → (asks_whole asked ≡ true) × (AllWhite (drop end text.now) → ⊥) }
+    ensures more { result ≡ NOT_WHOLE → (asks_whole options ≡ true) × (AllWhite (drop end text.now) → ⊥) }
     ensures kept { 1 ≤ result → out.new ≡ out.old }
     ensures needed_kept { result ≡ NOT_WHOLE → needed.new ≡ needed.old }
     ensures three { (result ≡ DONE) ⊎ ((result ≡ SMALL) ⊎ (result ≡ NOT_WHOLE)) }
 {
-    if !ends_as_asked(text, end, asked) {
+    if !ends_as_asked(text, end, options) {
         return NOT_WHOLE;
     }
     copy_out(answer, out, needed)
@@ -211,63 +221,63 @@ pub fn copy_out_front(
 #[inline(always)]
 pub fn canonical_short(
     text: &[u8],
-    asked: u32,
+    options: u32,
     out: &mut [u8],
     needed: &mut usize,
     end: &mut usize,
 ) -> u32
-    requires { places_in asked ≤ 36 }
-    ensures { AnswersCanonical asked text.now result out.old out.new needed.old needed.new end.old end.new }
+    requires { places_in options ≤ 36 }
+    ensures { AnswersCanonical options text.now result out.old out.new needed.old needed.new end.old end.new }
 {
     if text.len() > SHORTEST {
         if text.len() > SHORTER {
-            return canonical_longer(text, asked, out, needed, end);
+            return canonical_longer(text, options, out, needed, end);
         }
-        return canonical_cleared::<96, 256>(text, asked, out, needed, end);
+        return canonical_cleared::<96, 256>(text, options, out, needed, end);
     }
     // Last, so that it is jumped to and not called: most points go there.
-    canonical_cleared::<64, 192>(text, asked, out, needed, end)
+    canonical_cleared::<64, 192>(text, options, out, needed, end)
 }
 
 /// The same. It is apart, so that what may be too long costs the points of capi/bench/calls.sh nothing.
 #[inline(never)]
 fn canonical_longer(
     text: &[u8],
-    asked: u32,
+    options: u32,
     out: &mut [u8],
     needed: &mut usize,
     end: &mut usize,
 ) -> u32
-    requires { places_in asked ≤ 36 }
-    ensures { AnswersCanonical asked text.now result out.old out.new needed.old needed.new end.old end.new }
+    requires { places_in options ≤ 36 }
+    ensures { AnswersCanonical options text.now result out.old out.new needed.old needed.new end.old end.new }
 {
     if text.len() > SHORT {
         return MEMORY;
     }
-    canonical_cleared::<256, 544>(text, asked, out, needed, end)
+    canonical_cleared::<256, 544>(text, options, out, needed, end)
 }
 
 /// The same, with so many cleared bytes for the text, and so many for its canonical text.
 #[inline(never)]
-fn canonical_cleared<const NEAR: usize, const ROOM: usize>(
+fn canonical_cleared<const PADDED: usize, const ROOM: usize>(
     text: &[u8],
-    asked: u32,
+    options: u32,
     out: &mut [u8],
     needed: &mut usize,
     end: &mut usize,
 ) -> u32
-    requires places { places_in asked ≤ 36 }
-    requires near { length text.now + 32 ≤ NEAR }
+    requires places { places_in options ≤ 36 }
+    requires padded { length text.now + 32 ≤ PADDED }
     requires room { 2 * length text.now + 129 ≤ ROOM }
-    requires few { (NEAR ≤ 256) × (ROOM ≤ 544) }
-    ensures { AnswersCanonical asked text.now result out.old out.new needed.old needed.new end.old end.new }
+    requires few { (PADDED ≤ 256) × (ROOM ≤ 544) }
+    ensures { AnswersCanonical options text.now result out.old out.new needed.old needed.new end.old end.new }
 {
-    let mut near = [0u8; NEAR];
+    let mut padded = [0u8; PADDED];
     let mut room = [0u8; ROOM];
-    match write_short(text, asked, &mut near, &mut room) {
+    match write_short(text, options, &mut padded, &mut room) {
         Ok((at, n)) => {
             *end = at;
-            if !ends_as_asked(text, at, asked) {
+            if !ends_as_asked(text, at, options) {
                 return NOT_WHOLE;
             }
             copy_out_at_once(&room[..n], out, needed)

@@ -21,11 +21,11 @@ pub fn judge(
     other: &[u8],
     second: &[u8],
     other_end: usize,
-    asked: u32,
+    options: u32,
 ) -> bool
-    requires first { IsCanonicalOf (read_at (places_in asked)) (print_at (places_in asked)) one.now first.now end }
-    requires second { IsCanonicalOf (read_at (places_in asked)) (print_at (places_in asked)) other.now second.now other_end }
-    ensures { Compares (read_at (places_in asked)) (print_at (places_in asked)) one.now other.now end other_end result }
+    requires first { IsCanonicalOf (read_at (places_in options)) (print_at (places_in options)) one.now first.now end }
+    requires second { IsCanonicalOf (read_at (places_in options)) (print_at (places_in options)) other.now second.now other_end }
+    ensures { Compares (read_at (places_in options)) (print_at (places_in options)) one.now other.now end other_end result }
 {
     is_one(first, second)
 }
@@ -56,46 +56,46 @@ fn refused_first(status: u32, other: &[u8], room: &mut [u8]) -> u32
 
 /// Whether two texts of up to [`SHORT`] bytes begin with one geometry.
 #[inline(always)]
-pub fn same_short(one: &[u8], other: &[u8], asked: u32) -> Result<Compared, u32>
-    requires places { places_in asked ≤ 36 }
+pub fn same_short(one: &[u8], other: &[u8], options: u32) -> Result<Compared, u32>
+    requires places { places_in options ≤ 36 }
     requires short { length one.now ≤ SHORT }
     requires other_short { length other.now ≤ SHORT }
-    ensures { MatchResult result (AreCompared asked one.now other.now) (RefusesOne (read_at (places_in asked)) one.now other.now) }
+    ensures { MatchResult result (AreCompared options one.now other.now) (RefusesOne (read_at (places_in options)) one.now other.now) }
 {
     if one.len() <= SHORTEST && other.len() <= SHORTEST {
-        return same_cleared::<64, 192>(one, other, asked);
+        return same_cleared::<64, 192>(one, other, options);
     }
     // For the point of fifteen decimals of capi/bench/calls.sh.
     if one.len() <= SHORTER && other.len() <= SHORTER {
-        return same_cleared::<96, 256>(one, other, asked);
+        return same_cleared::<96, 256>(one, other, options);
     }
-    same_cleared::<256, 544>(one, other, asked)
+    same_cleared::<256, 544>(one, other, options)
 }
 
 /// The same, with so many cleared bytes for each text, and so many for its canonical text.
 #[inline(never)]
-fn same_cleared<const NEAR: usize, const ROOM: usize>(
+fn same_cleared<const PADDED: usize, const ROOM: usize>(
     one: &[u8],
     other: &[u8],
-    asked: u32,
+    options: u32,
 ) -> Result<Compared, u32>
-    requires places { places_in asked ≤ 36 }
-    requires near { length one.now + 32 ≤ NEAR }
+    requires places { places_in options ≤ 36 }
+    requires padded { length one.now + 32 ≤ PADDED }
     requires room { 2 * length one.now + 129 ≤ ROOM }
-    requires other_near { length other.now + 32 ≤ NEAR }
+    requires other_padded { length other.now + 32 ≤ PADDED }
     requires other_room { 2 * length other.now + 129 ≤ ROOM }
-    requires few { (NEAR ≤ 256) × (ROOM ≤ 544) }
-    ensures { MatchResult result (AreCompared asked one.now other.now) (RefusesOne (read_at (places_in asked)) one.now other.now) }
+    requires few { (PADDED ≤ 256) × (ROOM ≤ 544) }
+    ensures { MatchResult result (AreCompared options one.now other.now) (RefusesOne (read_at (places_in options)) one.now other.now) }
 {
-    let mut near = [0u8; NEAR];
+    let mut padded = [0u8; PADDED];
     let mut room = [0u8; ROOM];
-    let (end, n) = match write_short(one, asked, &mut near, &mut room) {
+    let (end, n) = match write_short(one, options, &mut padded, &mut room) {
         Ok(written) => written,
         Err(status) => return Err(refused_first(status, other, &mut room)),
     };
-    let mut other_near = [0u8; NEAR];
+    let mut other_padded = [0u8; PADDED];
     let mut other_room = [0u8; ROOM];
-    let (other_end, m) = match write_short(other, asked, &mut other_near, &mut other_room) {
+    let (other_end, m) = match write_short(other, options, &mut other_padded, &mut other_room) {
         Ok(written) => written,
         Err(status) => return Err(status),
     };
@@ -106,7 +106,7 @@ fn same_cleared<const NEAR: usize, const ROOM: usize>(
         other,
         &other_room[..m],
         other_end,
-        asked,
+        options,
     );
     Ok(Compared {
         same,
@@ -119,22 +119,22 @@ fn same_cleared<const NEAR: usize, const ROOM: usize>(
 pub fn same_in(
     one: &str,
     other: &str,
-    asked: u32,
+    options: u32,
     room: &mut [u8],
     other_room: &mut [u8],
 ) -> Result<Compared, u32>
-    requires places { places_in asked ≤ 36 }
+    requires places { places_in options ≤ 36 }
     requires room { 2 * length one.now + 65 ≤ length room.old }
     requires other_room { 2 * length other.now + 65 ≤ length other_room.old }
     requires utf8 { IsUtf8 one.now }
     requires other_utf8 { IsUtf8 other.now }
-    ensures { MatchResult result (AreCompared asked one.now other.now) (RefusesOne (read_at (places_in asked)) one.now other.now) }
+    ensures { MatchResult result (AreCompared options one.now other.now) (RefusesOne (read_at (places_in options)) one.now other.now) }
 {
-    let (end, n) = match write_within(one, asked, room) {
+    let (end, n) = match write_within(one, options, room) {
         Ok(written) => written,
         Err(status) => return Err(status),
     };
-    let (other_end, m) = match write_within(other, asked, other_room) {
+    let (other_end, m) = match write_within(other, options, other_room) {
         Ok(written) => written,
         Err(status) => return Err(status),
     };
@@ -145,7 +145,7 @@ pub fn same_in(
         other.as_bytes(),
         &other_room[..m],
         other_end,
-        asked,
+        options,
     );
     Ok(Compared {
         same,

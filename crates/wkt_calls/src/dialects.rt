@@ -2,8 +2,8 @@
 ghost use Rattle.std.specs.Prelude.{◌≡◌, ◌≤◌, ◌<◌, ◌%◌, ◌⊎◌, MatchResult, IsUtf8, [], length, true, false};
 ghost use Rattle.wkt_calls.specs.Dialects.{AsksDialects, HoldsRest, IsReadable, IsAsRead, IsPlaced, IsProblemIn, IsHintIn, IsUnexplainedIn};
 
-use crate::asked::{has_places, places_of};
 use crate::explain::{number_of_hint, problem};
+use crate::options::{has_places, places_of};
 use crate::status::{ACCEPTED, MEMORY, NOT_TEXT};
 use wkt_dialects::{Dialects, NoRoom, Put, dialects_in, place_in, rest_of, write_as_read};
 use wkt_explain::{Problem, Refusal};
@@ -15,24 +15,24 @@ const FIRST: u32 = 512;
 const BEYOND: u32 = 8192;
 
 /// Whether dialects are asked for that there are, and numbers of as many places.
-pub fn has_dialects(asked: u32) -> bool
-    ensures yes { result ≡ true → AsksDialects asked }
-    ensures no { result ≡ false → AsksDialects asked → ⊥ }
+pub fn has_dialects(options: u32) -> bool
+    ensures yes { result ≡ true → AsksDialects options }
+    ensures no { result ≡ false → AsksDialects options → ⊥ }
 {
-    if asked < FIRST {
+    if options < FIRST {
         return false;
     }
-    if asked >= BEYOND {
+    if options >= BEYOND {
         return false;
     }
-    has_places(without_dialects(asked))
+    has_places(without_dialects(options))
 }
 
 /// What is asked for beside the dialects.
-pub fn without_dialects(asked: u32) -> u32
-    ensures { result ≡ asked % 512 }
+pub fn without_dialects(options: u32) -> u32
+    ensures { result ≡ options % 512 }
 {
-    asked % FIRST
+    options % FIRST
 }
 
 /// The text that a text is read as.
@@ -50,13 +50,13 @@ pub struct AsRead<'a> {
 }
 
 /// A text behind its SRID, as it stands.
-pub fn behind_srid(text: &[u8], asked: u32) -> AsRead<'_>
-    ensures rest { HoldsRest asked text.now result }
+pub fn behind_srid(text: &[u8], options: u32) -> AsRead<'_>
+    ensures rest { HoldsRest options text.now result }
     ensures same { result.written ≡ false }
     ensures text { result.text.now ≡ result.rest.now }
     ensures utf8 { IsUtf8 text.now → IsUtf8 result.text.now }
 {
-    let dialects = dialects_in(asked);
+    let dialects = dialects_in(options);
     let from = rest_of(dialects, text);
     let rest = &text[from..];
     AsRead {
@@ -69,14 +69,18 @@ pub fn behind_srid(text: &[u8], asked: u32) -> AsRead<'_>
 }
 
 /// The text that a text is read as in the dialects: where it begins with no geometry as it stands, another, which is written.
-pub fn read_as<'a, P: Put>(text: &'a [u8], asked: u32, other: &'a mut P) -> Result<AsRead<'a>, u32>
-    requires asks { AsksDialects asked }
+pub fn read_as<'a, P: Put>(
+    text: &'a [u8],
+    options: u32,
+    other: &'a mut P,
+) -> Result<AsRead<'a>, u32>
+    requires asks { AsksDialects options }
     requires nothing { P.written other.old ≡ [] }
-    ensures { MatchResult result (λ r. IsAsRead asked text.now r)
+    ensures { MatchResult result (λ r. IsAsRead options text.now r)
         (λ s. (s ≡ MEMORY) ⊎ ((s ≡ NOT_TEXT) × (IsUtf8 text.now → ⊥))) }
 {
-    let plain = behind_srid(text, asked);
-    match problem(plain.text, places_of(without_dialects(asked))) {
+    let plain = behind_srid(text, options);
+    match problem(plain.text, places_of(without_dialects(options))) {
         Ok(_) => {}
         Err(status) => {
             if status == ACCEPTED {
@@ -117,16 +121,16 @@ impl AsRead<'_> {
 
 /// Why a text isn't accepted in the dialects, by places of the text as it was given; or the status of a text that is
 /// accepted, or that is no text, or for which there is no room.
-pub fn problem_in<P: Put>(text: &[u8], asked: u32, other: &mut P) -> Result<Problem, u32>
-    requires asks { AsksDialects asked }
+pub fn problem_in<P: Put>(text: &[u8], options: u32, other: &mut P) -> Result<Problem, u32>
+    requires asks { AsksDialects options }
     requires nothing { P.written other.old ≡ [] }
-    ensures { MatchResult result (λ p. IsProblemIn asked text.now p) (IsUnexplainedIn asked text.now) }
+    ensures { MatchResult result (λ p. IsProblemIn options text.now p) (IsUnexplainedIn options text.now) }
 {
-    let read = match read_as(text, asked, other) {
+    let read = match read_as(text, options, other) {
         Ok(read) => read,
         Err(status) => return Err(status),
     };
-    match problem(read.text, without_dialects(asked)) {
+    match problem(read.text, without_dialects(options)) {
         Ok(Problem::Refused(why)) => {
             let (_, start, end) = read.place(why.start);
             Ok(Problem::Refused(Refusal {
@@ -146,16 +150,16 @@ pub fn problem_in<P: Put>(text: &[u8], asked: u32, other: &mut P) -> Result<Prob
 
 /// The number of the hint for the lexeme with which a text is refused in the dialects, of the text that it is read as; none
 /// where more than white space follows its geometry, and a whole text is asked for. Or a status, as there.
-pub fn hint_in<P: Put>(text: &[u8], asked: u32, other: &mut P) -> Result<Option<u32>, u32>
-    requires asks { AsksDialects asked }
+pub fn hint_in<P: Put>(text: &[u8], options: u32, other: &mut P) -> Result<Option<u32>, u32>
+    requires asks { AsksDialects options }
     requires nothing { P.written other.old ≡ [] }
-    ensures { MatchResult result (IsHintIn asked text.now) (IsUnexplainedIn asked text.now) }
+    ensures { MatchResult result (IsHintIn options text.now) (IsUnexplainedIn options text.now) }
 {
-    let read = match read_as(text, asked, other) {
+    let read = match read_as(text, options, other) {
         Ok(read) => read,
         Err(status) => return Err(status),
     };
-    let plain = without_dialects(asked);
+    let plain = without_dialects(options);
     match problem(read.text, plain) {
         Ok(Problem::Refused(why)) => Ok(Some(number_of_hint(why.hint(
             read.text,

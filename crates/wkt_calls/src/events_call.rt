@@ -3,8 +3,8 @@ ghost use Rattle.std.specs.Prelude.{◌≡◌, ◌≤◌, ◌≢◌, ◌⊎◌, 
 ghost use Rattle.wkt_calls.specs.Answer.{read_at, places_in, asks_whole, EndsAsAsked, RefusesText};
 ghost use Rattle.wkt_calls.specs.EventCalls.{AreInRooms, AreWritten, HasNoRoomFor, HasMoreAfter};
 
-use crate::asked::{ends_as_asked, places_of};
 use crate::flat::{is_text_from, refused};
+use crate::options::{ends_as_asked, places_of};
 use crate::status::{DONE, NOT_TEXT, NOT_WHOLE, SMALL};
 use wkt_fill::{EventCounts, EventRoom, WktUnits, write_events};
 use wkt_num::Places;
@@ -26,13 +26,17 @@ fn front_events(text: &[u8], places: Places, room: &mut EventRoom<'_>) -> Result
 }
 
 /// The same with decimals of as many places as are asked for.
-fn front_events_asked(text: &[u8], asked: u32, room: &mut EventRoom<'_>) -> Result<EventCounts, u32>
-    requires { places_in asked ≤ 36 }
+fn front_events_asked(
+    text: &[u8],
+    options: u32,
+    room: &mut EventRoom<'_>,
+) -> Result<EventCounts, u32>
+    requires { places_in options ≤ 36 }
     ensures same_events { IfOk result (λ c. room.new.events.ghost_name ≡ room.old.events.ghost_name) }
     ensures same_numbers { IfOk result (λ c. room.new.numbers.ghost_name ≡ room.old.numbers.ghost_name) }
-    ensures answers { MatchResult result (AreInRooms (places_in asked) text.now room.old room.new) (RefusesText (read_at (places_in asked)) text.now) }
+    ensures answers { MatchResult result (AreInRooms (places_in options) text.now room.old room.new) (RefusesText (read_at (places_in options)) text.now) }
 {
-    front_events(text, Places::new(places_of(asked)), room)
+    front_events(text, Places::new(places_of(options)), room)
 }
 
 /// Writes the events and the numbers of the geometry that the text begins with to the fronts of the rooms, and how many

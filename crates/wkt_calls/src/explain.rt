@@ -2,13 +2,13 @@
 ghost use Rattle.std.specs.Prelude.{◌≡◌, ◌+◌, ◌≤◌, MatchResult, IsUtf8, length};
 ghost use Rattle.wkt_explain.specs.Problems.{IsAccepted, IsProblem};
 ghost use Rattle.wkt_calls.specs.Answer.{read_at, places_in, asks_whole};
-ghost use Rattle.wkt_explain.specs.Problems.{IsWalkedFor};
+ghost use Rattle.wkt_explain.specs.Problems.{IsPaddedFor};
 ghost use Rattle.wkt_calls.specs.Explained.{IsUnexplained, expected_number, hint_number};
 
-use crate::asked::{asks_whole, places_of};
 use crate::canonical::{SHORT, SHORTEST, before_zeros};
+use crate::options::{asks_whole, places_of};
 use crate::status::{ACCEPTED, NOT_TEXT};
-use wkt_explain::{Expected, Hint, Problem, check_near};
+use wkt_explain::{Expected, Hint, Problem, check_padded};
 use wkt_num::Places;
 
 /// The number of what could stand there.
@@ -63,51 +63,56 @@ pub fn number_of_hint(hint: Option<Hint>) -> u32
 }
 
 /// Why the text isn't accepted; or the status of a text that is accepted, or that is no text.
-pub fn problem(text: &[u8], asked: u32) -> Result<Problem, u32>
-    requires { places_in asked ≤ 36 }
+pub fn problem(text: &[u8], options: u32) -> Result<Problem, u32>
+    requires { places_in options ≤ 36 }
     ensures { MatchResult result
-        (λ p. IsUtf8 text.now × IsProblem (read_at (places_in asked)) (asks_whole asked) text.now p)
-        (IsUnexplained (read_at (places_in asked)) (asks_whole asked) text.now) }
+        (λ p. IsUtf8 text.now × IsProblem (read_at (places_in options)) (asks_whole options) text.now p)
+        (IsUnexplained (read_at (places_in options)) (asks_whole options) text.now) }
 {
     if text.len() <= SHORTEST {
-        return problem_cleared::<64>(text, asked);
+        return problem_cleared::<64>(text, options);
     }
     if text.len() <= SHORT {
-        return problem_cleared::<256>(text, asked);
+        return problem_cleared::<256>(text, options);
     }
     let Ok(text) = str::from_utf8(text) else {
         return Err(NOT_TEXT);
     };
-    problem_in(text, text, asked)
+    problem_in(text, text, options)
 }
 
 /// The same of a short text, with so many cleared bytes for it.
 #[inline(never)]
-fn problem_cleared<const NEAR: usize>(text: &[u8], asked: u32) -> Result<Problem, u32>
-    requires places { places_in asked ≤ 36 }
-    requires near { length text.now + 32 ≤ NEAR }
-    requires few { NEAR ≤ 256 }
+fn problem_cleared<const PADDED: usize>(text: &[u8], options: u32) -> Result<Problem, u32>
+    requires places { places_in options ≤ 36 }
+    requires padded { length text.now + 32 ≤ PADDED }
+    requires few { PADDED ≤ 256 }
     ensures { MatchResult result
-        (λ p. IsUtf8 text.now × IsProblem (read_at (places_in asked)) (asks_whole asked) text.now p)
-        (IsUnexplained (read_at (places_in asked)) (asks_whole asked) text.now) }
+        (λ p. IsUtf8 text.now × IsProblem (read_at (places_in options)) (asks_whole options) text.now p)
+        (IsUnexplained (read_at (places_in options)) (asks_whole options) text.now) }
 {
-    let mut near = [0u8; NEAR];
-    let Some((text, near)) = before_zeros(text, &mut near) else {
+    let mut padded = [0u8; PADDED];
+    let Some((text, padded_text)) = before_zeros(text, &mut padded) else {
         return Err(NOT_TEXT);
     };
-    problem_in(text, near, asked)
+    problem_in(text, padded_text, options)
 }
 
-/// The same of a text that is UTF-8. `near` is the text, or the text, a NUL and more.
-fn problem_in(text: &str, near: &str, asked: u32) -> Result<Problem, u32>
-    requires places { places_in asked ≤ 36 }
+/// The same of a text that is UTF-8. `padded_text` is the text, or the text, a NUL and more.
+fn problem_in(text: &str, padded_text: &str, options: u32) -> Result<Problem, u32>
+    requires places { places_in options ≤ 36 }
     requires utf8 { IsUtf8 text.now }
-    requires near { IsWalkedFor text.now near.now }
+    requires padded_text { IsPaddedFor text.now padded_text.now }
     ensures { MatchResult result
-        (λ p. IsUtf8 text.now × IsProblem (read_at (places_in asked)) (asks_whole asked) text.now p)
-        (IsUnexplained (read_at (places_in asked)) (asks_whole asked) text.now) }
+        (λ p. IsUtf8 text.now × IsProblem (read_at (places_in options)) (asks_whole options) text.now p)
+        (IsUnexplained (read_at (places_in options)) (asks_whole options) text.now) }
 {
-    match check_near(Places::new(places_of(asked)), text, near, asks_whole(asked)) {
+    match check_padded(
+        Places::new(places_of(options)),
+        text,
+        padded_text,
+        asks_whole(options),
+    ) {
         Ok(_) => Err(ACCEPTED),
         Err(problem) => Ok(problem),
     }

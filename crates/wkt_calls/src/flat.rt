@@ -4,10 +4,10 @@ ghost use Rattle.wkt_read.specs.Front.{HasNoFront};
 ghost use Rattle.wkt_calls.specs.Answer.{places_in, read_at, RefusesText};
 ghost use Rattle.wkt_calls.specs.Arrays.{IsFlat, IsFlatPoint, IsNotFlatIn};
 
-use crate::asked::places_of;
 use crate::infer::{number_of_dimension, number_of_kind};
+use crate::options::places_of;
 use crate::status::NOT_TEXT;
-use wkt_fill::{Filler, Room, fill_arrays};
+use wkt_fill::{ArrayBuilder, Room, fill_arrays};
 use wkt_num::Places;
 use wkt_sources::{FastPoint, fast_point};
 
@@ -17,7 +17,7 @@ pub struct Flat<'a> {
     pub kind: u32,
     pub dimension: u32,
     pub end: usize,
-    pub arrays: Filler<'a>,
+    pub arrays: ArrayBuilder<'a>,
 }
 
 /// The arrays of the geometry at the front of a text, in the room. 22: the room is too small.
@@ -87,11 +87,11 @@ pub(crate) fn refused(places: Places, text: &[u8]) -> u32
 }
 
 /// The flat arrays of a text's front, or why it has none, with decimals of as many places as are asked for.
-pub fn flat_asked<'a>(text: &[u8], asked: u32, room: Room<'a>) -> Result<Flat<'a>, u32>
-    requires { places_in asked ≤ 36 }
-    ensures { MatchResult result (IsFlat (places_in asked) text.now) (IsNotFlatIn (places_in asked) text.now room.entry) }
+pub fn flat_asked<'a>(text: &[u8], options: u32, room: Room<'a>) -> Result<Flat<'a>, u32>
+    requires { places_in options ≤ 36 }
+    ensures { MatchResult result (IsFlat (places_in options) text.now) (IsNotFlatIn (places_in options) text.now room.entry) }
 {
-    make_flat(text, Places::new(places_of(asked)), room)
+    make_flat(text, Places::new(places_of(options)), room)
 }
 
 /// The point of two numbers at the front of a text. `None` doesn't imply that none stands there.
@@ -111,10 +111,10 @@ pub fn make_point(places: u32, text: &[u8]) -> Option<FastPoint>
 /// Puts the point at the front of a text there, with decimals of as many places as are asked for, and returns whether
 /// there is one. A point that is returned would come through memory that is cleared for each text.
 #[inline(never)]
-pub(crate) fn find_point(text: &[u8], asked: u32, point: &mut FastPoint) -> bool
-    ensures { result ≡ true → IsFlatPoint (places_in asked) text.now point.new }
+pub(crate) fn find_point(text: &[u8], options: u32, point: &mut FastPoint) -> bool
+    ensures { result ≡ true → IsFlatPoint (places_in options) text.now point.new }
 {
-    match make_point(places_of(asked), text) {
+    match make_point(places_of(options), text) {
         Some(found) => {
             *point = found;
             true

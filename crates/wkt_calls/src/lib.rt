@@ -7,7 +7,6 @@
 #![tactic(auto)]
 
 pub mod arrays_call;
-pub mod asked;
 pub mod canonical;
 pub mod compare;
 pub mod dialects;
@@ -17,6 +16,7 @@ pub mod fill;
 pub mod flat;
 pub mod infer;
 pub mod lines;
+pub mod options;
 pub mod sizes;
 pub mod status;
 

@@ -1,3 +1,3 @@
 pub mod Texts
 pub mod ShortTexts
-pub mod PenOutput
+pub mod TextBuilderOutput

@@ -11,7 +11,7 @@ use Rattle.wkt_access.specs.Texts.{separated, space_if_empty, coordinate_text, l
 use Rattle.wkt_access.specs.Values.{size, Value, Values}
 use Rattle.wkt_machine.specs.Events.{Event, axis_of, numbers, further, listed, perhaps, events, geometries, members}
 use Rattle.wkt_machine.specs.declared.part.Part.{Part}
-use Rattle.wkt_canonical.specs.PenMaker.{write_append}
+use Rattle.wkt_canonical.specs.TextBuilderMaker.{write_append}
 use Rattle.wkt_canonical.specs.Written.{EventsWritten, separator, empty_text, added, write, write_all, is_polygon, is_hollow, opened, closed, polygon_closed, kind_text}
 use Rattle.wkt_access.specs.WellFormed.{CoordFits, LineStringFits, PolygonFits, PointFits, IsWellFormed, AreWellFormed}
 use Rattle.wkt_access.specs.Shapes.{dimension, header_of, polygon_of, rings_of, canon, canons, shape_of, shapes_of}

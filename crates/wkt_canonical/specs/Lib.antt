@@ -1,5 +1,5 @@
 pub mod Written
-pub mod PenMaker
+pub mod TextBuilderMaker
 pub mod Spaces
 pub mod Canonical
 pub mod Through

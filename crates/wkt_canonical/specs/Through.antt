@@ -1,4 +1,4 @@
--- What a pen that is lent has written, and rooms that grow to hold canonical texts.
+-- What a text builder that is lent has written, and rooms that grow to hold canonical texts.
 use Rattle.std.specs.Prelude.{◌≡◌, ℕ, ◌+◌, ◌*◌, ◌<◌, ◌≤◌, ◌⊎◌, List, length, take, Option, Result, Ok, Err, Bool, false, IsUtf8, Some, None}
 use Rattle.wkt_access.specs.Values.{Value}
 use Rattle.wkt_read.specs.Front.{Front, HasNoFront}
@@ -9,15 +9,15 @@ use Rattle.wkt_machine.specs.Events.{events}
 use Rattle.wkt_machine.specs.Goes.{StopsAt}
 use Rattle.wkt_machine.specs.declared.machine.Machine.{Machine}
 use Rattle.wkt_canonical.specs.Canonical.{IsCanonicalTo, HasLongText}
-use Rattle.wkt_canonical.specs.PenMaker.{Made}
-use Rattle.wkt_canonical.specs.declared.pen.Pen.{Pen}
+use Rattle.wkt_canonical.specs.TextBuilderMaker.{Made}
+use Rattle.wkt_canonical.specs.declared.text_builder.TextBuilder.{TextBuilder}
 use Rattle.wkt_canonical.specs.declared.space.Space.{Space}
 use Rattle.wkt_canonical.specs.declared.canonical.Next.{Next}
 use Rattle.wkt_canonical.specs.declared.canonical.NoRoom.{NoRoom}
 use Rattle.wkt_canonical.specs.declared.canonical.TextWritten.{TextWritten}
 use Rattle.wkt_canonical.specs.declared.canonical.Next.TheVariants as next
 
--- What a pen that is lent has written.
+-- What a text builder that is lent has written.
 
 -- What holds where it was written.
 abbrev pub IfEnds : Next → (ℕ → Type 0) → Type 0
@@ -36,19 +36,19 @@ abbrev pub StopsIn : {N : Type 0} → (List ℕ → Option N) → Bool → List 
 StopsIn read feed text m at = feed ≡ false → IsUtf8 text → StopsAt read text m at
 
 -- The events of the value that the text begins with were written, and it ends there.
-pub record WritesEvents {P N : Type 0} (read : List ℕ → Option N) (num : N → List ℕ) (text : List ℕ) (before after : Pen P) (to : ℕ) : Type 0 where
+pub record WritesEvents {P N : Type 0} (read : List ℕ → Option N) (num : N → List ℕ) (text : List ℕ) (before after : TextBuilder P) (to : ℕ) : Type 0 where
   pub value : Value N
   pub front : Front read text value to
   pub made : Made read num before (events value) after
   pub whole : length after.out.now ≡ length before.out.now
 
--- a pen over a sink's bytes, of which so many are written
-abbrev pub pen_over : {P : Type 0} → P → ℕ → Space → Pen P
-pen_over numbers polygon s = record { out = s.out; len = s.len; polygon = polygon; numbers = numbers }
+-- a text builder over a sink's bytes, of which so many are written
+abbrev pub text_builder_over : {P : Type 0} → P → ℕ → Space → TextBuilder P
+text_builder_over numbers polygon s = record { out = s.out; len = s.len; polygon = polygon; numbers = numbers }
 
--- That, by a pen over the bytes; or the text begins with none; or a number's text was too long.
+-- That, by a text builder over the bytes; or the text begins with none; or a number's text was too long.
 abbrev pub WritesNext : {P N : Type 0} → (List ℕ → Option N) → (N → List ℕ) → P → Bool → List ℕ → Space → Space → Next → Type 0
-WritesNext read num numbers feed text before after (next.Ends to) = (polygon : ℕ) × WritesEvents read num (line_of feed text) (pen_over numbers 0 before) (pen_over numbers polygon after) to
+WritesNext read num numbers feed text before after (next.Ends to) = (polygon : ℕ) × WritesEvents read num (line_of feed text) (text_builder_over numbers 0 before) (text_builder_over numbers polygon after) to
 WritesNext read num numbers feed text before after (next.Nothing m at) = IsUtf8 (line_of feed text) → HasNoFront read (line_of feed text)
 WritesNext read num numbers feed text before after next.NoRoom = HasLongText read num
 

@@ -3,14 +3,14 @@ ghost use Rattle.std.specs.Prelude.{◌≡◌, ◌+◌, ◌*◌, ◌≤◌, leng
 ghost use Rattle.wkt_canonical.specs.Canonical.{WritesCanonical, WritesFront, WritesInto, LeavesRoom};
 ghost use Rattle.wkt_canonical.specs.Through.{IfEnds, IfNothing, IfWritten, StopsIn, WritesNext, WritesOrSays};
 
-use crate::pen::Pen;
 use crate::room::has_room;
 use crate::space::Space;
+use crate::text_builder::TextBuilder;
 use wkt_machine::drive::drive;
-use wkt_machine::{At, Machine};
+use wkt_machine::{Machine, Progress};
 use wkt_num::{Numbers, OfType, WktNum};
 use wkt_read::Message;
-use wkt_sources::{Bytes, message_at};
+use wkt_sources::{ByteCursor, message_at};
 
 /// A number's text is at least twice as long as what it was read from, and there was no room for it: more may do. Decimals
 /// and whole numbers have no such texts.
@@ -209,7 +209,7 @@ pub(crate) enum Next {
 
 /// Writes the geometry that the text begins with. Where it isn't written, what the bytes hold is lost.
 ///
-/// The machine holds a pen by value, and its bytes are put back here, so that whoever lends them knows them afterwards.
+/// The machine holds a text builder by value, and its bytes are put back here, so that whoever lends them knows them afterwards.
 #[inline(always)]
 pub(crate) fn write_next<N: Numbers, const FEED_ENDS: bool>(
     numbers: N,
@@ -224,20 +224,23 @@ pub(crate) fn write_next<N: Numbers, const FEED_ENDS: bool>(
 {
     let whole = space.out.len();
     let out = std::mem::take(&mut space.out);
-    let pen = Pen {
+    let builder = TextBuilder {
         out,
         len: space.len,
         polygon: 0,
         numbers,
     };
-    match drive::<N::Number, Bytes<'_, FEED_ENDS>, Pen<'_, N>>(Bytes::new(text, 0), pen) {
+    match drive::<N::Number, ByteCursor<'_, FEED_ENDS>, TextBuilder<'_, N>>(
+        ByteCursor::new(text, 0),
+        builder,
+    ) {
         Ok(over) => {
-            let At {
+            let Progress {
                 source,
                 machine: _,
                 builder,
             } = over;
-            let Pen {
+            let TextBuilder {
                 out,
                 len,
                 polygon: _,

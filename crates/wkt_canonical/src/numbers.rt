@@ -4,10 +4,10 @@ ghost use Rattle.std.specs.Prelude.{◌≡◌, ◌+◌, ◌-◌, ◌*◌, ◌<�
 ghost use Rattle.wkt_read.specs.Lexemes.{without_plus};
 ghost use Rattle.wkt_events.specs.Remaining.{NoNumber};
 ghost use Rattle.wkt_machine.specs.Room.{shortest};
-ghost use Rattle.wkt_canonical.specs.PenMaker.{HasBytes, WritesNumber, Numbered, HasSpace};
+ghost use Rattle.wkt_canonical.specs.TextBuilderMaker.{HasBytes, WritesNumber, Numbered, HasSpace};
 
-use crate::pen::Pen;
 use crate::space::Space;
+use crate::text_builder::TextBuilder;
 use wkt_events::{byte_at, is_of_run, number_there};
 use wkt_machine::pad;
 use wkt_num::Numbers;
@@ -30,13 +30,13 @@ fn past_plus(text: &[u8], at: usize, end: usize) -> usize
     at
 }
 
-impl<'a, N: Numbers> Pen<'a, N> {
+impl<'a, N: Numbers> TextBuilder<'a, N> {
     /// The number's text.
     pub(crate) fn put_value(self, number: N::Number) -> Self
         requires { HasBytes self (length (N.num self.numbers number)) }
         ensures { WritesNumber (N.num self.entry.numbers) self.entry number result }
     {
-        let Pen {
+        let TextBuilder {
             out,
             len,
             polygon,
@@ -49,7 +49,7 @@ impl<'a, N: Numbers> Pen<'a, N> {
         };
         // There is room for it.
         let _ = numbers.write_number(number, &mut space);
-        Pen {
+        TextBuilder {
             out: space.out,
             len: space.len,
             polygon,
@@ -70,7 +70,7 @@ impl<'a, N: Numbers> Pen<'a, N> {
             return (self, None);
         };
         let run = past_plus(text, at, end);
-        let Pen {
+        let TextBuilder {
             out,
             len,
             polygon,
@@ -87,17 +87,17 @@ impl<'a, N: Numbers> Pen<'a, N> {
                 let (out, len) = (space.out, space.len);
                 // Each byte of the run was given room for two. A longer text has to leave room for what follows.
                 if len - before < 2 * (end - run) || leaves_room(out, len, text, end) {
-                    let pen = Pen {
+                    let builder = TextBuilder {
                         out,
                         len,
                         polygon,
                         numbers,
                     };
-                    return (pen, Some(end));
+                    return (builder, Some(end));
                 }
-                (Pen::stuck(numbers, out), Some(end))
+                (TextBuilder::stuck(numbers, out), Some(end))
             }
-            Err(_) => (Pen::stuck(numbers, space.out), Some(end)),
+            Err(_) => (TextBuilder::stuck(numbers, space.out), Some(end)),
         }
     }
 
@@ -135,20 +135,20 @@ impl<'a, N: Numbers> Pen<'a, N> {
     {
         let polygon = self.polygon;
         let numbers = self.numbers;
-        let (pen, end) = self.slow_number_outlined(text, at);
-        let Pen {
+        let (builder, end) = self.slow_number_outlined(text, at);
+        let TextBuilder {
             out,
             len,
             polygon: _,
             numbers: _,
-        } = pen;
-        let pen = Pen {
+        } = builder;
+        let builder = TextBuilder {
             out,
             len,
             polygon,
             numbers,
         };
-        (pen, end)
+        (builder, end)
     }
 
     /// Puts a number that no window shows whole, or that isn't written as it stands.

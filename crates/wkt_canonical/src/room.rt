@@ -10,7 +10,7 @@ use wkt_num::{Numbers, OfType, WktNum};
 ///
 /// Twice the text and one byte is what its canonical text takes at most: the text of a number is shorter than twice its
 /// run, which leaves a byte for the space before it, and a point of a multipoint has two bytes at least beside its
-/// numbers for its parentheses. The other 64 bytes stay free, since the pen stores words and numbers as whole windows.
+/// numbers for its parentheses. The other 64 bytes stay free, since the text builder stores words and numbers as whole windows.
 pub const SPARE: usize = 65;
 
 /// Whether a room of so many bytes surely is enough for the canonical text of `n` bytes, and a line feed.

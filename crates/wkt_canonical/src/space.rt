@@ -1,9 +1,9 @@
-//! A pen's bytes as a sink of text.
+//! A text builder's bytes as a sink of text.
 
 use std::fmt;
 use wkt_num::TextSink;
 
-/// A pen's bytes as a sink, which fails where a piece has no room.
+/// A text builder's bytes as a sink, which fails where a piece has no room.
 #[derive(Drop)]
 pub(crate) struct Space<'a> {
     pub(crate) out: &'a mut [u8],

@@ -5,7 +5,7 @@ ghost use Rattle.wkt.specs.Front.{HasNoFront};
 ghost use Rattle.wkt_examples.specs.Empties.{HasEmpty};
 
 use wkt::WktNum;
-use wkt::events::{Axis, Builder, Bytes, Part, drive, read_at};
+use wkt::events::{Axis, Builder, ByteCursor, Part, drive, read_at};
 use wkt::types::Dimension;
 
 /// Whether an EMPTY came.
@@ -62,9 +62,9 @@ impl<T: WktNum> Builder<T> for Empties {
 pub fn has_empty<T: WktNum>(text: &str) -> Option<bool>
     ensures { MatchOption result (HasNoFront T.read text.now) (HasEmpty T.read text.now) }
 {
-    let source = Bytes::<'_, false>::new(text.as_bytes(), 0);
+    let source = ByteCursor::<'_, false>::new(text.as_bytes(), 0);
     let empties = Empties { found: false };
-    match drive::<T, Bytes<'_, false>, Empties>(source, empties) {
+    match drive::<T, ByteCursor<'_, false>, Empties>(source, empties) {
         Ok(over) => Some(over.builder.found),
         Err(_) => None,
     }

@@ -19,7 +19,7 @@ use Rattle.wkt_read.proofs.Placings.{spanned-split, spanned-ends}
 use Rattle.wkt_events.specs.Remaining.{class_in, remaining_spanned}
 use Rattle.wkt_machine.specs.Goes.{IsStuck, StopsAt}
 use Rattle.wkt_machine.specs.declared.machine.Machine.{Machine}
-use Rattle.wkt_explain.specs.Problems.{IsWalkedFor}
+use Rattle.wkt_explain.specs.Problems.{IsPaddedFor}
 
 front-nul : (at : ℕ) (text more : List ℕ) → front at (text ++ (0 ∷ more)) ≡ front at text
 unfolding front class_of
@@ -62,10 +62,10 @@ nul-dark h = cc
 -- The machine doesn't pass a NUL, and stops where it stops in the text before.
 stops-nul : {N : Type 0} (read : List ℕ → Option N) (text more : List ℕ) (m : Machine) (at : ℕ) → StopsAt read (text ++ (0 ∷ more)) m at → StopsAt read text m at
 stops-nul read text more m at s =
-    let near = text ++ (0 ∷ more) in
+    let padded_text = text ++ (0 ∷ more) in
     let between = s.between in
-    let here : spanned text ≡ s.taken ++ remaining_spanned false near at = sym (spanned-nul 0 text more) ∙ s.split in
-    let (rest, takes, ends) = subst (AreEnds text) here (spanned-ends text) s.taken (remaining_spanned false near at) refl in
+    let here : spanned text ≡ s.taken ++ remaining_spanned false padded_text at = sym (spanned-nul 0 text more) ∙ s.split in
+    let (rest, takes, ends) = subst (AreEnds text) here (spanned-ends text) s.taken (remaining_spanned false padded_text at) refl in
     let from : end_after 0 s.taken ≤ length text = omega (arith, ends) in
     let inside : at ≤ length text = elim (cases_lt (length text) at) [
       | inl beyond ↦ absurd (nul-dark (subst (λ b. class_in false b ≡ White) (get_or-append_seam text 0 more 0) (between.white (length text) from beyond)))
@@ -88,7 +88,7 @@ stops-nul read text more m at s =
     }
 
 -- a text, and what stands behind a NUL after it, have the same fronts, and the machine stops in both at one place
-module _ {N : Type 0} (read : List ℕ → Option N) (text walked : List ℕ) (walks : IsWalkedFor text walked) where
+module _ {N : Type 0} (read : List ℕ → Option N) (text walked : List ℕ) (walks : IsPaddedFor text walked) where
   same-spanned : spanned walked ≡ spanned text
   same-spanned = elim walks [ inl e ↦ ap spanned e | inr h ↦ ap spanned h.1 ∙ spanned-nul 0 text h.0 ]
 

@@ -31,7 +31,7 @@ use Rattle.wkt_machine.specs.Goes.{IsStuck, StopsAt}
 use Rattle.wkt_machine.specs.Machine.{is_over, kind_step, move, moved}
 use Rattle.wkt_machine.specs.Machine as place
 use Rattle.wkt_machine.specs.Machines.{state_of}
-use Rattle.wkt_machine.specs.Refusing.{expected_at, own, refused}
+use Rattle.wkt_machine.specs.Refusing.{expected_at, open_parens, refused}
 use Rattle.wkt_machine.specs.declared.machine.Machine.{Machine}
 use Rattle.wkt_sources.proofs.ByteViews.{between_more, none_left}
 use Rattle.wkt_machine.proofs.WaysJoin.{lexemes_append, end_last}
@@ -274,8 +274,8 @@ module _ {N : Type 0} (read : List ℕ → Option N) (text : List ℕ) where
     pub told_message : IsRefusedWith read text r.message
     told_message = stops_message read text m at s r.message t.message
 
-    same_message : r.message ≡ reported read r.expected (own (state_of m).place + m.depth) (remaining false text at)
-    same_message = t.message ∙ ap (λ e. reported read e (own (state_of m).place + m.depth) (remaining false text at)) (sym t.expected)
+    same_message : r.message ≡ reported read r.expected (open_parens (state_of m).place + m.depth) (remaining false text at)
+    same_message = t.message ∙ ap (λ e. reported read e (open_parens (state_of m).place + m.depth) (remaining false text at)) (sym t.expected)
 
     whole : lexemes_of (spanned text) ≡ before ++ remaining false text at
     unfolding remaining
@@ -286,9 +286,9 @@ module _ {N : Type 0} (read : List ℕ → Option N) (text : List ℕ) where
         let (h, same) = refused_there in record {
           refused = h;
           there = remaining false text at;
-          parens = own (state_of m).place + m.depth;
+          parens = open_parens (state_of m).place + m.depth;
           split = subst (IsSplit text) (whole ∙ ap (λ b. b ++ remaining false text at) (sym same)) (spanned-split text);
-          counted = subst (λ b. own (state_of m).place + m.depth + closes b ≡ opens b) (sym same) (counted read before (state_of m, s.events) s.ran);
+          counted = subst (λ b. open_parens (state_of m).place + m.depth + closes b ≡ opens b) (sym same) (counted read before (state_of m, s.events) s.ran);
           turn = subst (λ b. IsTurn r.expected (context b)) (sym same) (subst (λ e. IsTurn e (context before)) (sym t.expected) (turn read before (state_of m, s.events) s.ran));
           is = same_message;
         }

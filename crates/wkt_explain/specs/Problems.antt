@@ -59,8 +59,8 @@ module _ {N : Type 0} (read : List ℕ → Option N) where
   IsProblem whole text (Rest at) = (whole ≡ true) × HasRestFrom text at
 
 -- The bytes are the text, or the text, a NUL and more.
-abbrev pub IsWalkedFor : List ℕ → List ℕ → Type 0
-IsWalkedFor text walked = (walked ≡ text) ⊎ ((more : List ℕ) × (walked ≡ text ++ (0 ∷ more)))
+abbrev pub IsPaddedFor : List ℕ → List ℕ → Type 0
+IsPaddedFor text walked = (walked ≡ text) ⊎ ((more : List ℕ) × (walked ≡ text ++ (0 ∷ more)))
 
 -- What is told of a text in which the machine stops. Only private contracts cite these words.
 

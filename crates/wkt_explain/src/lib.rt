@@ -13,5 +13,5 @@ mod whole;
 pub use api::{explain, explain_by, message, message_by, refusal};
 pub use explanation::{Explanation, Refusal};
 pub use hint::Hint;
-pub use whole::{Problem, check, check_by, check_near};
+pub use whole::{Problem, check, check_by, check_padded};
 pub use wkt_read::Expected;

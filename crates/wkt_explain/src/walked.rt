@@ -4,7 +4,7 @@ ghost use Rattle.wkt_read.specs.Front.{HasNoFront};
 ghost use Rattle.wkt_read.specs.Refusal.{IsRefusedWith};
 ghost use Rattle.wkt_read.specs.Explained.{EndsFront, IsRefusedAt, IsPart};
 ghost use Rattle.wkt_read.specs.Table.{IsReportedAt};
-ghost use Rattle.wkt_explain.specs.Problems.{IsPastWhite, EndsLexeme, IsTold, IsToldFirst, IsWalkedFor};
+ghost use Rattle.wkt_explain.specs.Problems.{IsPastWhite, EndsLexeme, IsTold, IsToldFirst, IsPaddedFor};
 ghost use Rattle.wkt_events.specs.Remaining.{remaining_spanned};
 ghost use Rattle.wkt_machine.specs.View.{IsDark};
 ghost use Rattle.wkt_machine.specs.Goes.{IsStuck, StopsAt};
@@ -12,11 +12,11 @@ ghost use Rattle.wkt_machine.specs.Goes.{IsStuck, StopsAt};
 use crate::explanation::Refusal;
 use wkt_events::{begins_number, byte_at, run_end, skip_white};
 use wkt_machine::drive::drive;
-use wkt_machine::{Machine, Nothing};
+use wkt_machine::{Machine, NullBuilder};
 use wkt_num::Numbers;
 use wkt_read::table::at_word;
 use wkt_read::words::{is_white, kind_in};
-use wkt_sources::{Bytes, message_at};
+use wkt_sources::{ByteCursor, message_at};
 
 /// The first place from here on where no white space stands.
 pub(crate) fn past_white(text: &[u8], from: usize) -> usize
@@ -77,9 +77,9 @@ pub(crate) fn driven<N: Numbers>(numbers: N, text: &str) -> Result<usize, (Machi
     ensures within { IfOk result (λ end. end ≤ length text.now) }
     ensures stopped { IfErr result (λ s. StopsAt (N.read numbers) text.now s.0 s.1) }
 {
-    let nothing = Nothing { numbers };
-    match drive::<N::Number, Bytes<'_, false>, Nothing<N>>(
-        Bytes::new(text.as_bytes(), 0),
+    let nothing = NullBuilder { numbers };
+    match drive::<N::Number, ByteCursor<'_, false>, NullBuilder<N>>(
+        ByteCursor::new(text.as_bytes(), 0),
         nothing,
     ) {
         Ok(over) => Ok(over.source.at),
@@ -121,10 +121,14 @@ fn refused_first<N: Numbers>(numbers: N, text: &str) -> Option<Refusal>
     })
 }
 
-/// Where the geometry ends that the text begins with, or where the text is refused. The machine goes over `near`, which is
+/// Where the geometry ends that the text begins with, or where the text is refused. The machine goes over `padded_text`, which is
 /// the text, or the text, a NUL and more.
-pub(crate) fn walked<N: Numbers>(numbers: N, text: &str, near: &str) -> Result<usize, Refusal>
-    requires { IsWalkedFor text.now near.now }
+pub(crate) fn walked<N: Numbers>(
+    numbers: N,
+    text: &str,
+    padded_text: &str,
+) -> Result<usize, Refusal>
+    requires { IsPaddedFor text.now padded_text.now }
     ensures front { IfOk result (λ end. EndsFront (N.read numbers) text.now end) }
     ensures within { IfOk result (λ end. end ≤ length text.now) }
     ensures no_front { OnErr result (HasNoFront (N.read numbers) text.now) }
@@ -136,7 +140,7 @@ pub(crate) fn walked<N: Numbers>(numbers: N, text: &str, near: &str) -> Result<u
     if let Some(why) = refused_first(numbers, text) {
         return Err(why);
     }
-    match driven(numbers, near) {
+    match driven(numbers, padded_text) {
         Ok(end) => Ok(end),
         Err((machine, at)) => Err(refusal_at(numbers, machine, text, at)),
     }

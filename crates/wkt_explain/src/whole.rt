@@ -1,6 +1,6 @@
 //! Whether a text is accepted, and what follows its geometry.
 ghost use Rattle.std.specs.Prelude.{MatchResult};
-ghost use Rattle.wkt_explain.specs.Problems.{IsAccepted, IsProblem, IsWalkedFor};
+ghost use Rattle.wkt_explain.specs.Problems.{IsAccepted, IsProblem, IsPaddedFor};
 
 use crate::explanation::Refusal;
 use crate::walked::{past_white, walked};
@@ -38,24 +38,24 @@ pub fn check<T: WktNum>(text: &str, whole: bool) -> Result<usize, Problem>
 pub fn check_by<N: Numbers>(numbers: N, text: &str, whole: bool) -> Result<usize, Problem>
     ensures { MatchResult result (IsAccepted (N.read numbers) whole text.now) (IsProblem (N.read numbers) whole text.now) }
 {
-    check_near(numbers, text, text, whole)
+    check_padded(numbers, text, text, whole)
 }
 
-/// The same, where `near` is the text, or the text, a NUL and more. With 31 bytes or more behind the NUL the numbers at the
+/// The same, where `padded_text` is the text, or the text, a NUL and more. With 31 bytes or more behind the NUL the numbers at the
 /// text's end are read as fast as those before them.
 ///
 /// # Errors
 /// As there.
-pub fn check_near<N: Numbers>(
+pub fn check_padded<N: Numbers>(
     numbers: N,
     text: &str,
-    near: &str,
+    padded_text: &str,
     whole: bool,
 ) -> Result<usize, Problem>
-    requires { IsWalkedFor text.now near.now }
+    requires { IsPaddedFor text.now padded_text.now }
     ensures { MatchResult result (IsAccepted (N.read numbers) whole text.now) (IsProblem (N.read numbers) whole text.now) }
 {
-    let end = match walked(numbers, text, near) {
+    let end = match walked(numbers, text, padded_text) {
         Ok(end) => end,
         Err(why) => return Err(Problem::Refused(why)),
     };

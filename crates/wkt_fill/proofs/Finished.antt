@@ -9,9 +9,9 @@ use Rattle.wkt_num.proofs.NumberInWindow.{held-is}
 use Rattle.wkt_events.proofs.Runs.{kept-there}
 use Rattle.wkt_machine.specs.Makers.{MakesNumber}
 use Rattle.wkt_machine.specs.declared.part.Axis.{Axis}
-use Rattle.wkt_fill.specs.Filled.{put, on, Headed, is_collection, steps, arrays_of, unheaded, Lacks, lacks_on, FillerBecomes, filler_maker, view, Fills, FillerBegins, RefusesCollection, HoldsAll, FillsFront}
-use Rattle.wkt_fill.specs.declared.filler.Filler.{Filler}
-use Rattle.wkt_fill.specs.declared.filler.Room.{Room}
+use Rattle.wkt_fill.specs.Filled.{put, on, Headed, is_collection, steps, arrays_of, unheaded, Lacks, lacks_on, ArrayBuilderBecomes, array_builder_maker, view, Fills, ArrayBuilderBegins, RefusesCollection, HoldsAll, FillsFront}
+use Rattle.wkt_fill.specs.declared.array_builder.ArrayBuilder.{ArrayBuilder}
+use Rattle.wkt_fill.specs.declared.array_builder.Room.{Room}
 use Rattle.wkt_num.specs.DecimalLaws.{decimal_reads_values}
 use Rattle.wkt_num.proofs.ReadNumbers.{decimal_utf8}
 use Rattle.wkt_access.specs.Values.{Value}
@@ -24,14 +24,14 @@ use Rattle.wkt_fill.proofs.EventsToArrays.{IsHeld, IsCollected, outcome}
 
 -- A number that is read from its first bytes stands there.
 
-pub makes-fast : (D : ℕ) (text : List ℕ) (at : ℕ) (axis : Axis) (end : ℕ) (units : ℤ) (s t : Filler) → at ≤ length text → BeginsUnits D (take (length text - at) (drop at text)) units end
-    → FillerBecomes s (on (λ k. put k axis (to_z w64 (of_z w64 units))) (view s)) t → MakesNumber (read_decimal 127 36 D) filler_maker s text at axis t (at + end)
+pub makes-fast : (D : ℕ) (text : List ℕ) (at : ℕ) (axis : Axis) (end : ℕ) (units : ℤ) (s t : ArrayBuilder) → at ≤ length text → BeginsUnits D (take (length text - at) (drop at text)) units end
+    → ArrayBuilderBecomes s (on (λ k. put k axis (to_z w64 (of_z w64 units))) (view s)) t → MakesNumber (read_decimal 127 36 D) array_builder_maker s text at axis t (at + end)
 makes-fast D text at axis end units s t inside b does =
     let k : BeginsUnits D (drop at text) units end = subst (λ l. BeginsUnits D l units end) (take_rest text at) b in
     record {
       number = k.keeps.number;
       there = kept-there (read_decimal 127 36 D) (λ (u : ℤ). []) text at end 0 (at + end) inside refl k.keeps;
-      makes = subst (λ u. FillerBecomes s (on (λ k. put k axis u) (view s)) t) (held-is units b.fits ∙ sym k.is) does;
+      makes = subst (λ u. ArrayBuilderBecomes s (on (λ k. put k axis u) (view s)) t) (held-is units b.fits ∙ sym k.is) does;
     }
 
 -- The arrays of the front of a text.
@@ -40,7 +40,7 @@ is-zero : (n : ℕ) → (n ≡ 0) ⊎ (n ≢ 0)
 is-zero zero = inl refl
 is-zero (suc n) = inr (λ e. absurd (omega (arith, e)))
 
-module _ (places : ℕ) (v : Value ℤ) (r : Room) (s0 s t : Filler) (begins : FillerBegins places r s0) (fills : Fills s0 (events v) s) (reports : RefusesCollection s t) (out : IsHeld v (arrays_of (events v)) ⊎ IsCollected v (arrays_of (events v))) where
+module _ (places : ℕ) (v : Value ℤ) (r : Room) (s0 s t : ArrayBuilder) (begins : ArrayBuilderBegins places r s0) (fills : Fills s0 (events v) s) (reports : RefusesCollection s t) (out : IsHeld v (arrays_of (events v)) ⊎ IsCollected v (arrays_of (events v))) where
   made-is : s.status ≡ 0 → view s ≡ arrays_of (events v)
   made-is z = elim (is-zero s0.status) [
     | inl z0 ↦ fills.does z0 z ∙ ap (steps (events v)) (begins.fresh z0)
@@ -134,7 +134,7 @@ module _ (places : ℕ) (text : List ℕ) where
   run-text : (run : List ℕ) (x : ℤ) → read run ≡ Some x → IsUtf8 run
   run-text run x e = subst (λ (o : Option ℤ). IfSome o (λ u. IsUtf8 run)) e (decimal_utf8 places run)
 
-  pub filled : (r : Room) (s0 s t : Filler) (v : Value ℤ) (to : ℕ) → FillerBegins places r s0 → Front read text v to → Fills s0 (events v) s → RefusesCollection s t → FillsFront places text r t to
+  pub filled : (r : Room) (s0 s t : ArrayBuilder) (v : Value ℤ) (to : ℕ) → ArrayBuilderBegins places r s0 → Front read text v to → Fills s0 (events v) s → RefusesCollection s t → FillsFront places text r t to
   filled r s0 s t v to begins front fills reports =
       let fits = geometry_fits (IsUnits places) read (decimal_reads_values places) v front.lexemes front.reads in
       let out = outcome (IsUnits places) v fits in

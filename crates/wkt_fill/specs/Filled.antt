@@ -14,8 +14,8 @@ use Rattle.wkt_machine.specs.declared.part.Axis.TheVariants as axis
 use Rattle.wkt_machine.specs.declared.part.Part.TheVariants as part
 use Rattle.wkt_fill.specs.Arrays.{HasLarge, parts_of, joined, offsets, numbers_in, IsUnheld}
 use Rattle.wkt_machine.specs.Makers.{Maker}
-use Rattle.wkt_fill.specs.declared.filler.Filler.{Filler}
-use Rattle.wkt_fill.specs.declared.filler.Room.{Room}
+use Rattle.wkt_fill.specs.declared.array_builder.ArrayBuilder.{ArrayBuilder}
+use Rattle.wkt_fill.specs.declared.array_builder.Room.{Room}
 use Rattle.wkt_num.specs.Decimal.{read_decimal, IsUnits}
 use Rattle.wkt_access.specs.Values.{Value}
 use Rattle.wkt_access.specs.WellFormed.{IsWellFormed}
@@ -239,28 +239,28 @@ steps-grow : (es : List (Event ℤ)) (w : Headed) → Grows w.flat (steps es w).
 steps-grow [] w = grows-same w.flat
 steps-grow (e ∷ es) w = grows-both w.flat (step e w).flat (steps es (step e w)).flat (step-grows e w) (steps-grow es (step e w))
 
--- What a filler has filled.
+-- What an array builder has filled.
 
--- The arrays of a filler: the first places of its room.
-abbrev pub view : Filler → Headed
+-- The arrays of an array builder: the first places of its room.
+abbrev pub view : ArrayBuilder → Headed
 view f = record { kind = f.kind; dimension = f.dimension; flat = record { numbers = take f.number_count f.numbers.now; rings = take (f.ring_count + 1) f.rings.now; polygons = take (f.polygon_count + 1) f.polygons.now; coordinates = f.coordinates; ring_count = f.ring_count } }
 
--- A list of these arrays is longer than its place in the filler's room.
-abbrev pub Lacks : Filler → FlatArrays → Type 0
+-- A list of these arrays is longer than its place in the array builder's room.
+abbrev pub Lacks : ArrayBuilder → FlatArrays → Type 0
 Lacks f a = (length f.numbers.now < length a.numbers) ⊎ ((length f.rings.now < length a.rings) ⊎ (length f.polygons.now < length a.polygons))
 
 -- The room is as large as it was.
-pub record KeepsRoom (s t : Filler) : Type 0 where
+pub record KeepsRoom (s t : ArrayBuilder) : Type 0 where
   pub numbers : length t.numbers.now ≡ length s.numbers.now
   pub rings : length t.rings.now ≡ length s.rings.now
   pub polygons : length t.polygons.now ≡ length s.polygons.now
 
 -- Each coordinate has a number.
-abbrev pub IsOrderly : Filler → Type 0
+abbrev pub IsOrderly : ArrayBuilder → Type 0
 IsOrderly f = f.coordinates ≤ f.number_count
 
--- The arrays became these, unless they have no room or a number of theirs was too large; then the filler's status says so, and stays.
-pub record FillerBecomes (s : Filler) (w : Headed) (t : Filler) : Type 0 where
+-- The arrays became these, unless they have no room or a number of theirs was too large; then the array builder's status says so, and stays.
+pub record ArrayBuilderBecomes (s : ArrayBuilder) (w : Headed) (t : ArrayBuilder) : Type 0 where
   pub room : KeepsRoom s t
   pub places : t.places ≡ s.places
   pub orderly : IsOrderly s → IsOrderly t
@@ -269,32 +269,32 @@ pub record FillerBecomes (s : Filler) (w : Headed) (t : Filler) : Type 0 where
   pub fails : s.status ≡ 0 → t.status ≢ 0 → ((t.status ≡ 22) × (IsOrderly s → Lacks s w.flat)) ⊎ ((t.status ≡ 25) × HasLarge w.flat.numbers)
 
 -- What had no room has none after more.
-lacks-more : (f : Filler) (a b : FlatArrays) → Grows a b → Lacks f a → Lacks f b
+lacks-more : (f : ArrayBuilder) (a b : FlatArrays) → Grows a b → Lacks f a → Lacks f b
 lacks-more f a b g l = elim l [
   | inl h ↦ inl (omega (arith, h, g.numbers))
   | inr k ↦ elim k [ inl h ↦ inr (inl (omega (arith, h, g.rings))) | inr h ↦ inr (inr (omega (arith, h, g.polygons))) ]
 ]
 
-pub lacks_on : (f : Filler) (es : List (Event ℤ)) (w : Headed) → Lacks f w.flat → Lacks f (steps es w).flat
+pub lacks_on : (f : ArrayBuilder) (es : List (Event ℤ)) (w : Headed) → Lacks f w.flat → Lacks f (steps es w).flat
 lacks_on f es w l = lacks-more f w.flat (steps es w).flat (steps-grow es w) l
 
-lacks-before : (s t : Filler) (a : FlatArrays) → KeepsRoom s t → Lacks t a → Lacks s a
+lacks-before : (s t : ArrayBuilder) (a : FlatArrays) → KeepsRoom s t → Lacks t a → Lacks s a
 lacks-before s t a r l = elim l [
   | inl h ↦ inl (omega (arith, h, r.numbers))
   | inr k ↦ elim k [ inl h ↦ inr (inl (omega (arith, h, r.rings))) | inr h ↦ inr (inr (omega (arith, h, r.polygons))) ]
 ]
 
-abbrev pub Fills : Filler → List (Event ℤ) → Filler → Type 0
-Fills s es t = FillerBecomes s (steps es (view s)) t
+abbrev pub Fills : ArrayBuilder → List (Event ℤ) → ArrayBuilder → Type 0
+Fills s es t = ArrayBuilderBecomes s (steps es (view s)) t
 
 is-zero : (n : ℕ) → (n ≡ 0) ⊎ (n ≢ 0)
 is-zero zero = inl refl
 is-zero (suc n) = inr (λ e. absurd (omega (arith, e)))
 
-pub fills_none : (s : Filler) → Fills s [] s
+pub fills_none : (s : ArrayBuilder) → Fills s [] s
 fills_none s = record { room = record { numbers = refl; rings = refl; polygons = refl }; places = refl; orderly = λ h. h; stays = λ n. refl; does = λ z e. refl; fails = λ z n. absurd (n z) }
 
-pub fills_more : (s t u : Filler) (es fs : List (Event ℤ)) → Fills s es t → Fills t fs u → Fills s (es ++ fs) u
+pub fills_more : (s t u : ArrayBuilder) (es fs : List (Event ℤ)) → Fills s es t → Fills t fs u → Fills s (es ++ fs) u
 fills_more s t u es fs h k = record {
   room = record {
     numbers = k.room.numbers ∙ h.room.numbers;
@@ -321,8 +321,8 @@ fills_more s t u es fs h k = record {
 }
 
 -- What is made is arrays; where there is no room, the status says so.
-abbrev pub filler_maker : Maker ℤ Filler
-filler_maker = record {
+abbrev pub array_builder_maker : Maker ℤ ArrayBuilder
+array_builder_maker = record {
   makes = Fills;
   reads = λ f. read_decimal 127 36 f.places;
   fits = λ f n. Unit {0};
@@ -333,17 +333,17 @@ filler_maker = record {
   less = λ s m n order h. tt;
 }
 
-abbrev pub with_flat : Filler → (FlatArrays → FlatArrays) → Headed
+abbrev pub with_flat : ArrayBuilder → (FlatArrays → FlatArrays) → Headed
 with_flat f g = record { kind = f.kind; dimension = f.dimension; flat = g (view f).flat }
 
--- The filler has this room.
-pub record HasPlaces (r : Room) (f : Filler) : Type 0 where
+-- The array builder has this room.
+pub record HasPlaces (r : Room) (f : ArrayBuilder) : Type 0 where
   pub numbers : length f.numbers.now ≡ length r.numbers.now
   pub rings : length f.rings.now ≡ length r.rings.now
   pub polygons : length f.polygons.now ≡ length r.polygons.now
 
 -- Nothing yet, unless there is no room.
-pub record FillerBegins (given : ℕ) (r : Room) (f : Filler) : Type 0 where
+pub record ArrayBuilderBegins (given : ℕ) (r : Room) (f : ArrayBuilder) : Type 0 where
   pub places : f.places ≡ given
   pub room : HasPlaces r f
   pub orderly : IsOrderly f
@@ -351,7 +351,7 @@ pub record FillerBegins (given : ℕ) (r : Room) (f : Filler) : Type 0 where
   pub or_full : f.status ≢ 0 → (f.status ≡ 22) × Lacks f nothing
 
 -- The arrays stay; the status is that of a collection, if nothing was wrong before.
-pub record RefusesCollection (s t : Filler) : Type 0 where
+pub record RefusesCollection (s t : ArrayBuilder) : Type 0 where
   pub same : view t ≡ view s
   pub held : t.status ≡ 0 → (s.status ≡ 0) × (is_collection s.kind ≡ false)
   pub unheld : t.status ≢ 0 → ((t.status ≡ s.status) × (s.status ≢ 0)) ⊎ ((t.status ≡ 24) × (s.status ≡ 0) × (is_collection s.kind ≡ true))
@@ -359,7 +359,7 @@ pub record RefusesCollection (s t : Filler) : Type 0 where
 -- The flat arrays of a text's front.
 
 -- The arrays of a value: its kind, its dimension, all its numbers in order, where each ring begins among the coordinates, and where each polygon begins among the rings, with the end of the last.
-pub record HoldsAll (f : Filler) (value : Value ℤ) : Type 0 where
+pub record HoldsAll (f : ArrayBuilder) (value : Value ℤ) : Type 0 where
   pub parts : List (List (List (List ℤ)))
   pub flat : parts_of value ≡ Some parts
   pub kind_is : f.kind ≡ kind_of value
@@ -369,7 +369,7 @@ pub record HoldsAll (f : Filler) (value : Value ℤ) : Type 0 where
   pub polygons_are : (view f).flat.polygons ≡ offsets 0 parts
 
 -- The bytes have a front that ends there, and are UTF-8 if and only if those behind it are; each of its coordinates has as many numbers as its dimension says; and the arrays are those of its value, or the status says why it has none.
-pub record FillsFront (places : ℕ) (text : List ℕ) (r : Room) (f : Filler) (end : ℕ) : Type 0 where
+pub record FillsFront (places : ℕ) (text : List ℕ) (r : Room) (f : ArrayBuilder) (end : ℕ) : Type 0 where
   pub value : Value ℤ
   pub front : Front (read_decimal 127 36 places) text value end
   pub within : end ≤ length text

@@ -3,7 +3,7 @@ ghost use Rattle.std.specs.Prelude.{◌≡◌, ◌<◌, length, slice_set};
 ghost use Rattle.wkt_fill.specs.Filled.{counted};
 ghost use Rattle.wkt_fill.specs.EventLists.{begins, ends, add, push, is_area, is_inner, is_line, end_list, end_line, begin_part, end_part, Becomes};
 
-use crate::filler::kind_of;
+use crate::array_builder::kind_of;
 use crate::units::{WktUnits, halves};
 use wkt_machine::{Axis, Builder, Part, read_by};
 use wkt_num::Places;

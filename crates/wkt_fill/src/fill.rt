@@ -1,16 +1,16 @@
 //! The flat arrays of the geometry that a text begins with.
 ghost use Rattle.wkt_fill.specs.Filled.{FillsFrontIfAny};
 
-use crate::filler::{Filler, Room};
-use wkt_machine::At;
+use crate::array_builder::{ArrayBuilder, Room};
+use wkt_machine::Progress;
 use wkt_machine::drive::drive;
 use wkt_num::Places;
-use wkt_sources::Bytes;
+use wkt_sources::ByteCursor;
 
 /// Arrays, and where their geometry ends in the text.
 #[derive(Drop)]
 pub struct Filled<'a> {
-    pub arrays: Filler<'a>,
+    pub arrays: ArrayBuilder<'a>,
     pub end: usize,
 }
 
@@ -19,10 +19,13 @@ pub struct Filled<'a> {
 pub fn fill_arrays<'a>(places: Places, text: &[u8], room: Room<'a>) -> Option<Filled<'a>>
     ensures { FillsFrontIfAny places text.now room.entry result }
 {
-    let source = Bytes::<'_, false>::new(text, 0);
-    match drive::<i128, Bytes<'_, false>, Filler<'a>>(source, Filler::new(places, room)) {
+    let source = ByteCursor::<'_, false>::new(text, 0);
+    match drive::<i128, ByteCursor<'_, false>, ArrayBuilder<'a>>(
+        source,
+        ArrayBuilder::new(places, room),
+    ) {
         Ok(over) => {
-            let At {
+            let Progress {
                 source,
                 builder,
                 ..

@@ -3,10 +3,10 @@ ghost use Rattle.std.specs.Prelude.{◌≡◌, IfSome};
 ghost use Rattle.wkt_fill.specs.EventLists.{WritesFrontIfAny};
 
 use crate::event_writer::{EventRoom, EventWriter};
-use wkt_machine::At;
+use wkt_machine::Progress;
 use wkt_machine::drive::drive;
 use wkt_num::Places;
-use wkt_sources::Bytes;
+use wkt_sources::ByteCursor;
 use wkt_types::Dimension;
 
 /// How many events and numbers a geometry has, and where it ends in the text.
@@ -27,7 +27,7 @@ pub fn write_events(places: Places, text: &[u8], room: &mut EventRoom<'_>) -> Op
     ensures same_numbers { IfSome result (λ c. room.new.numbers.ghost_name ≡ room.old.numbers.ghost_name) }
     ensures writes { WritesFrontIfAny places text.now room.old room.new result }
 {
-    let source = Bytes::<'_, false>::new(text, 0);
+    let source = ByteCursor::<'_, false>::new(text, 0);
     let events = std::mem::take(&mut room.events);
     let numbers = std::mem::take(&mut room.numbers);
     let writer = EventWriter {
@@ -39,9 +39,9 @@ pub fn write_events(places: Places, text: &[u8], room: &mut EventRoom<'_>) -> Op
         dimension: Dimension::XY,
         places,
     };
-    match drive::<i128, Bytes<'_, false>, EventWriter<'_>>(source, writer) {
+    match drive::<i128, ByteCursor<'_, false>, EventWriter<'_>>(source, writer) {
         Ok(over) => {
-            let At {
+            let Progress {
                 source,
                 machine: _,
                 builder,

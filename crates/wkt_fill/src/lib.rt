@@ -3,18 +3,18 @@
 //! Below stands `wkt_machine`, whose `drive` calls this builder; above, `wkt_calls`.
 #![tactic(auto)]
 
+mod array_builder;
 mod event_writer;
 mod fill;
-mod filler;
 mod front_events;
 mod given;
 mod status;
 mod telling;
 mod units;
 
+pub use array_builder::{ArrayBuilder, Room};
 pub use event_writer::EventRoom;
 pub use fill::{Filled, fill_arrays};
-pub use filler::{Filler, Room};
 pub use front_events::{EventCounts, write_events};
 pub use given::{Given, are_arrays};
 pub use telling::tell;

@@ -1,6 +1,6 @@
 //! Text to arrays, and arrays to the events that fill them again.
 
-use crate::{Filler, Given, Room, are_arrays, fill_arrays, tell};
+use crate::{ArrayBuilder, Given, Room, are_arrays, fill_arrays, tell};
 use std::process::Abort;
 use wkt_num::Places;
 use wkt_types::{Dimension, GeometryType};
@@ -37,7 +37,7 @@ fn again(rt: &impl Abort, text: &str) {
         rings: &mut more_rings,
         polygons: &mut more_polygons,
     };
-    let told = tell::<Filler<'_>>(given, Filler::new(places, more));
+    let told = tell::<ArrayBuilder<'_>>(given, ArrayBuilder::new(places, more));
     assert_eq!(rt; told.status, 0);
     assert!(rt; told.kind == given.kind && told.dimension == given.dimension);
     assert!(rt; told.numbers() == given.numbers);

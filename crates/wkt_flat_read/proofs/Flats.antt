@@ -29,9 +29,9 @@ use Rattle.wkt_flat_read.specs.declared.tree.FlatTree.{FlatTree}
 use Rattle.wkt_machine.specs.Machine.{is_over}
 use Rattle.wkt_machine.specs.Goes.{GoesFrom}
 use Rattle.wkt_machine.specs.Machines.{state_of}
-use Rattle.wkt_machine.specs.declared.source.At.{At}
+use Rattle.wkt_machine.specs.declared.source.Progress.{Progress}
 use Rattle.wkt_sources.proofs.FrontValues.{front_whole, taken}
-use Rattle.wkt_flat_read.specs.declared.grower.FlatGrower.{FlatGrower}
+use Rattle.wkt_flat_read.specs.declared.flat_builder.FlatBuilder.{FlatBuilder}
 
 -- A value whose coordinates fit is what some tree is read as.
 
@@ -161,7 +161,7 @@ lent {N} E b c w e h = subst (λ (b : MutBor (FlatTree N)). FlatHolds E b.now w)
 
 -- A tree that holds nothing yet grows over the source, and a value ends.
 module _ {N S : Type 0} (is_value : N → Type 0) (read : List ℕ → Option N) (values : (bs : List ℕ) → IfSome (read bs) is_value) (E : Coord N → Coord N → Bool) (view : View N S)
-    (text : List ℕ) (s : S) (begins : view.remaining s ≡ spanned text) (b : FlatGrower N) (to : At S (FlatGrower N))
+    (text : List ℕ) (s : S) (begins : view.remaining s ≡ spanned text) (b : FlatBuilder N) (to : Progress S (FlatBuilder N))
     (on : GoesFrom read view (tree_maker E read) s b to) (over : is_over (state_of to.machine) ≡ true) (empty : FlatHolds E (tree_of b).now (rest [] None))
     (u : FlatTree N) (same : u ≡ (tree_of to.builder).now) where
   grew_by : (v : Value N) × TakesValue read view s v to.source × FlatGrew E (tree_of b).now (events v) u

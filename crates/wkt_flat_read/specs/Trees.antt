@@ -23,7 +23,7 @@ use Rattle.wkt_flat_read.specs.declared.tree.FlatEnded.{FlatEnded}
 use Rattle.wkt_flat_read.specs.declared.tree.FlatTree.{FlatTree}
 use Rattle.wkt_values.specs.Trees.{grow_append}
 use Rattle.wkt_machine.specs.Makers.{Maker}
-use Rattle.wkt_flat_read.specs.declared.grower.FlatGrower.{FlatGrower}
+use Rattle.wkt_flat_read.specs.declared.flat_builder.FlatBuilder.{FlatBuilder}
 use Rattle.wkt_convert.specs.declared.flattened.Found.TheVariants as found
 use Rattle.wkt_flat_read.specs.declared.tree.FlatEnded.TheVariants as ended
 use Rattle.wkt_read.specs.Answered.{IsFront}
@@ -247,7 +247,7 @@ module _ {T : Type 0} (E : Coord T → Coord T → Bool) where
 -- What is made where a flat tree grows that is lent.
 
 -- the tree that is lent
-abbrev pub tree_of : {T : Type 0} → FlatGrower T → MutBor (FlatTree T)
+abbrev pub tree_of : {T : Type 0} → FlatBuilder T → MutBor (FlatTree T)
 tree_of g = g.tree
 
 may_front : {N : Type 0} (es fs : List (Event N)) (s : Growing N) → MayAll (es ++ fs) s → MayAll es s × MayAll fs (grow_all es s)
@@ -272,7 +272,7 @@ module _ {T : Type 0} (E : Coord T → Coord T → Bool) where
       first w two (inl h) = second w (b.holds (grow_all es w) h two)
       first w two (inr l) = inr (b.stays l)
 
-  abbrev pub tree_maker : (List ℕ → Option T) → Maker T (FlatGrower T)
+  abbrev pub tree_maker : (List ℕ → Option T) → Maker T (FlatBuilder T)
   tree_maker read = record {
     makes = λ g es h. FlatGrew E (tree_of g).now es (tree_of h).now;
     reads = λ g. read;

@@ -3,7 +3,7 @@
 //! Below stand `wkt_machine`, with the machine and its events, and `wkt_convert`, with what is flat; above, `wkt`.
 #![tactic(auto)]
 
-mod grower;
+mod flat_builder;
 mod text;
 mod tree;
 

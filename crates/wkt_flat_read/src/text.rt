@@ -7,7 +7,7 @@ ghost use Rattle.wkt_read.specs.Items.{bad_number};
 ghost use Rattle.wkt_read.specs.Refusal.{IsTextRefused, IfText};
 ghost use Rattle.wkt_flat_read.specs.Trees.{AnswersFlat, IsFlatFront};
 
-use crate::grower::FlatGrower;
+use crate::flat_builder::FlatBuilder;
 use crate::tree::FlatTree;
 use std::alloc::{AllocError, Global};
 use wkt_convert::{Flattened, Found};
@@ -15,7 +15,7 @@ use wkt_flat::{Geometry, Point};
 use wkt_machine::drive::drive;
 use wkt_num::{OfType, WktNum};
 use wkt_read::{Message, ReadError};
-use wkt_sources::{Bytes, message_at};
+use wkt_sources::{ByteCursor, message_at};
 
 /// What has grown.
 ///
@@ -71,9 +71,12 @@ fn front_of<T: WktNum>(alloc: Global, text: &str) -> Result<Flattened<T>, ReadEr
     ensures bad { OnMessage result bad_number (HasBadNumber T.read text.now) }
     ensures refusal { IfText result (λ said. IsTextRefused T.read text.now said) }
 {
-    let source = Bytes::<'_, false>::new(text.as_bytes(), 0);
+    let source = ByteCursor::<'_, false>::new(text.as_bytes(), 0);
     let mut tree = FlatTree::new(alloc);
-    match drive::<T, Bytes<'_, false>, FlatGrower<'_, T>>(source, FlatGrower::new(&mut tree)) {
+    match drive::<T, ByteCursor<'_, false>, FlatBuilder<'_, T>>(
+        source,
+        FlatBuilder::new(&mut tree),
+    ) {
         Ok(over) => {
             let grown = over.builder.into_tree();
             // Most geometries are points: their parts are written where they stay.

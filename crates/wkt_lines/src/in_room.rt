@@ -55,7 +55,7 @@ pub fn answer_line_by<N: Numbers>(
 {
     match write_front::<N, true>(numbers, rest, out, len) {
         Ok(Some((end, n))) => {
-            let from = tests_from(numbers, end);
+            let from = utf8_from(numbers, end);
             // Most lines end there. They are answered here, so that no `Option` is made for them.
             if ends_there(rest, from) {
                 out[n] = b'\n';
@@ -82,7 +82,7 @@ pub fn answer_line_by<N: Numbers>(
 
 /// From where on a line is to be tested for UTF-8, of which a front was read that ends there.
 #[inline(always)]
-pub(crate) fn tests_from<N: Numbers>(numbers: N, end: usize) -> usize
+pub(crate) fn utf8_from<N: Numbers>(numbers: N, end: usize) -> usize
     ensures { TestsFrom (N.read numbers) end result }
 {
     if numbers.reads_texts() { end } else { 0 }

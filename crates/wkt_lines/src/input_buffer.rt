@@ -186,7 +186,7 @@ impl InputBuffer {
     }
 
     /// Drops the first bytes, which were answered.
-    pub fn forget(&mut self, n: usize)
+    pub fn consume(&mut self, n: usize)
         requires { n ≤ length (unanswered self.old) }
         ensures { unanswered self.new ≡ drop n (unanswered self.old) }
     {

@@ -183,7 +183,7 @@ impl<R: ByteSource> Lines<R> {
         self.start = 0;
         self.end = 0;
         self.next = 0;
-        self.buffer.forget(given);
+        self.buffer.consume(given);
     }
 
     /// Goes past a line that ends there.

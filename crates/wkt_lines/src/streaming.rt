@@ -98,7 +98,7 @@ fn stream_blocks<A: Answers, R: ByteSource, W: ByteSink>(
                     &mut output,
                     writer,
                 ) {
-                    Ok(()) => buffer.forget(whole),
+                    Ok(()) => buffer.consume(whole),
                     Err(e) => return Err(e),
                 }
             }

@@ -6,7 +6,7 @@ ghost use Rattle.wkt_lines.specs.Lines.{before_feed, input_lines};
 ghost use Rattle.wkt_lines.specs.Replies.{AreReplies};
 
 use crate::ends::{ends_there, text_end};
-use crate::in_room::{Answer, tests_from};
+use crate::in_room::{Answer, utf8_from};
 use wkt_canonical::{has_room, write_front};
 use wkt_num::Numbers;
 use wkt_read::words::is_blank;
@@ -80,7 +80,7 @@ fn answer_whole<N: Numbers>(
 {
     match write_front::<N, true>(numbers, rest, &mut *room, len) {
         Ok(Some((end, n))) => {
-            let from = tests_from(numbers, end);
+            let from = utf8_from(numbers, end);
             let line = if ends_there(rest, from) {
                 from
             } else {

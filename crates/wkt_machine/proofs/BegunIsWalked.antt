@@ -16,7 +16,7 @@ use Rattle.wkt_machine.proofs.Complete.{Runs, stay, first, both, one, lexemes, n
 use Rattle.wkt_types.specs.declared.geometry_type.GeometryType.TheVariants as kind
 use Rattle.wkt_machine.specs.declared.part.Part.TheVariants as part
 use Rattle.wkt_machine.specs.Action as act
-use Rattle.wkt_machine.proofs.Places.{Before, In, Past, Then, Headed, Free, Top, To, Alone, ToCoord, Behind, At, alone_top, member_past}
+use Rattle.wkt_machine.proofs.Places.{Before, In, Past, Then, Headed, Free, Top, To, Alone, ToCoord, Behind, Progress, alone_top, member_past}
 
 -- What is begun as a geometry is walked over.
 
@@ -321,7 +321,7 @@ module _ {N : Type 0} (read : List ℕ → Option N) where
   nothing kind.MultiPolygon d = inl (inl refl)
   nothing kind.GeometryCollection d = inl (inl refl)
 
-  pub at_begun : (p : Place) (n : ℕ) (ls : List Lexeme) → over_at p n ≡ false → At read p n ls → Begun ls
+  pub at_begun : (p : Place) (n : ℕ) (ls : List Lexeme) → over_at p n ≡ false → Progress read p n ls → Begun ls
   at_begun place.Kind n ls o h = subst Begun (append-nil ls) (free_begun n ls [] h (1, inl refl))
   at_begun (place.Alone p) n ls o h = let (k, is, head) = alone_top read p n ls h in subst Begun (append-nil ls) (headed_begun n 0 (free_begun n) k XY ls [] head (nothing k XY))
   at_begun (place.Opening p d) n ls o h = to_begun d n p ls h

@@ -10,7 +10,7 @@ use Rattle.wkt_read.proofs.KindWords.{empty_is, is_empty}
 use Rattle.wkt_read.specs.Explained.{IsKind, IsDimension, IsOpening, IsNumber, IsNamed, IsExpectedAfter}
 use Rattle.wkt_machine.specs.Machine.{start, is_over, over_at, Move, outside, numbers_after, kind_step, dimension_step, bare_step, comma_step, said, moved, at, and_then, after, move, run, part_of, inside, joined_step, number_step, Place, State}
 use Rattle.wkt_machine.specs.Events.{Event}
-use Rattle.wkt_machine.specs.Refusing.{last_number, item_expected, opening_expected, expected_at, around, own}
+use Rattle.wkt_machine.specs.Refusing.{last_number, item_expected, opening_expected, expected_at, outer_parens, open_parens}
 use Rattle.wkt_machine.specs.declared.part.Part.{Part}
 use Rattle.wkt_machine.specs.Machine as place
 use Rattle.wkt_machine.specs.Action.{Action}
@@ -248,22 +248,22 @@ module _ {N : Type 0} (read : List ℕ → Option N) where
 
 -- how many are open
 abbrev pub parens : State → ℕ
-parens s = own s.place + s.depth
+parens s = open_parens s.place + s.depth
 
 -- what a move opens and closes
 abbrev Counts : {N : Type 0} → ℕ → Lexeme → Option (Move N) → Type 0
 Counts k l None = Unit {0}
 Counts k l (Some m) = parens m.0 + closes (l ∷ []) ≡ k + opens (l ∷ [])
 
-in_parens : (p : Part) (d : Dimension) (n : ℕ) → parens (inside p d n) ≡ around p + 1 + n
+in_parens : (p : Part) (d : Dimension) (n : ℕ) → parens (inside p d n) ≡ outer_parens p + 1 + n
 in_parens part.Collection d n = omega arith
 in_parens p d n = omega arith
 
-out_parens : (p : Part) (d : Dimension) (n : ℕ) → NotBare p → parens (outside p d n) ≡ around p + n
+out_parens : (p : Part) (d : Dimension) (n : ℕ) → NotBare p → parens (outside p d n) ≡ outer_parens p + n
 out_parens part.Bare d n b = absurd b
 out_parens p d n b = omega arith
 
-none_around : (p : Part) → is_inner p ≡ false → around p ≡ 0
+none_around : (p : Part) → is_inner p ≡ false → outer_parens p ≡ 0
 none_around part.Member e = cc
 none_around part.Ring e = cc
 none_around part.Line e = cc
@@ -271,7 +271,7 @@ none_around part.Area e = cc
 none_around part.AreaRing e = cc
 none_around p e = refl
 
-part_around : (k : GeometryType) → around (part_of k) ≡ 0
+part_around : (k : GeometryType) → outer_parens (part_of k) ≡ 0
 part_around kind.Point = refl
 part_around kind.LineString = refl
 part_around kind.Polygon = refl
@@ -304,56 +304,56 @@ module _ {N : Type 0} (read : List ℕ → Option N) where
   empty_counts true k s a w e = omega (arith, e)
   empty_counts false k s a w e = tt
 
-  dimension_counts : (o : Option Dimension) (p : Part) (n : ℕ) (w : List ℕ) → NotBare p → around p ≡ 0 → Counts n (Word w) (moved read (dimension_step o p w n) (Some None))
+  dimension_counts : (o : Option Dimension) (p : Part) (n : ℕ) (w : List ℕ) → NotBare p → outer_parens p ≡ 0 → Counts n (Word w) (moved read (dimension_step o p w n) (Some None))
   dimension_counts (Some d) p n w b h = omega (arith, h)
   dimension_counts None p n w b h = let out = out_parens p XY n b in empty_counts (is_empty_word w) n (outside p XY n) (act.HeaderEmpty p) w (omega (arith, out, h))
 
-  at_alone : (p : Part) (n : ℕ) → NotBare p → around p ≡ 0 → (l : Lexeme) → Counts n l (move read (at n (place.Alone p)) l)
+  at_alone : (p : Part) (n : ℕ) → NotBare p → outer_parens p ≡ 0 → (l : Lexeme) → Counts n l (move read (at n (place.Alone p)) l)
   at_alone p n b h Open = let into = in_parens p XY n in omega (arith, into, h)
   at_alone p n b h Close = tt
   at_alone p n b h Comma = tt
   at_alone p n b h (Word w) = dimension_counts (dim_word w) p n w b h
   at_alone p n b h (Num run) = no_counts (said read (read run)) n (Num run)
 
-  bare_counts : (p : Part) (d : Dimension) (n : ℕ) (run : List ℕ) (o : Option N) → Counts (around p + n) (Num run) (moved read (bare_step p d n) (said read o))
+  bare_counts : (p : Part) (d : Dimension) (n : ℕ) (run : List ℕ) (o : Option N) → Counts (outer_parens p + n) (Num run) (moved read (bare_step p d n) (said read o))
   bare_counts part.Member d n run (Some x) = omega arith
   bare_counts part.Member d n run None = tt
-  bare_counts p d n run o = no_counts (said read o) (around p + n) (Num run)
+  bare_counts p d n run o = no_counts (said read o) (outer_parens p + n) (Num run)
 
-  at_opening : (p : Part) (d : Dimension) (n : ℕ) → NotBare p → (l : Lexeme) → Counts (around p + n) l (move read (at n (place.Opening p d)) l)
+  at_opening : (p : Part) (d : Dimension) (n : ℕ) → NotBare p → (l : Lexeme) → Counts (outer_parens p + n) l (move read (at n (place.Opening p d)) l)
   at_opening p d n b Open = let into = in_parens p d n in omega (arith, into)
   at_opening p d n b Close = tt
   at_opening p d n b Comma = tt
-  at_opening p d n b (Word w) = empty_counts (is_empty_word w) (around p + n) (outside p d n) (act.Empty p) w (out_parens p d n b)
+  at_opening p d n b (Word w) = empty_counts (is_empty_word w) (outer_parens p + n) (outside p d n) (act.Empty p) w (out_parens p d n b)
   at_opening p d n b (Num run) = bare_counts p d n run (read run)
 
-  last_counts : (p : Part) (d : Dimension) (n : ℕ) → parens (number_step p d 0 n).0 ≡ around p + 1 + n
+  last_counts : (p : Part) (d : Dimension) (n : ℕ) → parens (number_step p d 0 n).0 ≡ outer_parens p + 1 + n
   last_counts part.Bare d n = omega arith
   last_counts p d n = omega arith
 
-  number_counts : (o : Option N) (p : Part) (d : Dimension) (more n : ℕ) (run : List ℕ) → Counts (around p + 1 + n) (Num run) (moved read (Some (number_step p d more n)) (said read o))
+  number_counts : (o : Option N) (p : Part) (d : Dimension) (more n : ℕ) (run : List ℕ) → Counts (outer_parens p + 1 + n) (Num run) (moved read (Some (number_step p d more n)) (said read o))
   number_counts None p d more n run = tt
   number_counts (Some x) p d zero n run = let last = last_counts p d n in omega (arith, last)
   number_counts (Some x) p d (suc more) n run = omega arith
 
-  at_number : (p : Part) (d : Dimension) (more n : ℕ) (l : Lexeme) → Counts (around p + 1 + n) l (move read (at n (place.Number p d more)) l)
+  at_number : (p : Part) (d : Dimension) (more n : ℕ) (l : Lexeme) → Counts (outer_parens p + 1 + n) l (move read (at n (place.Number p d more)) l)
   at_number p d more n Open = tt
   at_number p d more n Close = tt
   at_number p d more n Comma = tt
   at_number p d more n (Word w) = tt
   at_number p d more n (Num run) = number_counts (read run) p d more n run
 
-  comma_counts : (p : Part) (d : Dimension) (n : ℕ) → Counts (around p + 1 + n) Comma (moved read (comma_step p d n) (Some None))
+  comma_counts : (p : Part) (d : Dimension) (n : ℕ) → Counts (outer_parens p + 1 + n) Comma (moved read (comma_step p d n) (Some None))
   comma_counts part.Point d n = tt
   comma_counts part.Member d n = tt
   comma_counts p d n = let into = in_parens p d n in omega (arith, into)
 
-  at_item : (p : Part) (d : Dimension) (n : ℕ) → NotBare p → (l : Lexeme) → Counts (around p + 1 + n) l (move read (at n (place.Item p d)) l)
+  at_item : (p : Part) (d : Dimension) (n : ℕ) → NotBare p → (l : Lexeme) → Counts (outer_parens p + 1 + n) l (move read (at n (place.Item p d)) l)
   at_item p d n b Open = tt
   at_item p d n b Close = let out = out_parens p d n b in omega (arith, out)
   at_item p d n b Comma = comma_counts p d n
   at_item p d n b (Word w) = tt
-  at_item p d n b (Num run) = no_counts (said read (read run)) (around p + 1 + n) (Num run)
+  at_item p d n b (Num run) = no_counts (said read (read run)) (outer_parens p + 1 + n) (Num run)
 
   at_geometry : (n : ℕ) (l : Lexeme) → Counts n l (move read (at n place.Geometry) l)
   at_geometry (suc n) Close = omega arith
@@ -366,7 +366,7 @@ module _ {N : Type 0} (read : List ℕ → Option N) where
   from_none : (n : ℕ) (l : Lexeme) (o : Option (Move N)) → Counts n l o → Counts (0 + n) l o
   from_none n l o h = let z : n ≡ 0 + n = omega arith in subst (λ k. Counts k l o) z h
 
-  counts_at : (p : Place) (n : ℕ) (c : Context) → Fits p n c → (l : Lexeme) → Counts (own p + n) l (move read (at n p) l)
+  counts_at : (p : Place) (n : ℕ) (c : Context) → Fits p n c → (l : Lexeme) → Counts (open_parens p + n) l (move read (at n p) l)
   counts_at place.Kind n c h l = from_none n l (move read (at n place.Kind) l) (at_kind n l)
   counts_at (place.Alone p) n c (b, outer, of, o) l = from_none n l (move read (at n (place.Alone p)) l) (at_alone p n b (none_around p outer) l)
   counts_at (place.Opening p d) n c (b, of, o, z) l = at_opening p d n b l

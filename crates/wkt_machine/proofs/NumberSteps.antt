@@ -18,12 +18,12 @@ use Rattle.wkt_machine.specs.View.{seen_of, seen_word, seen_other, sight, View}
 use Rattle.wkt_read.specs.Grammar.{KindWord, kind_word, dim_word, is_empty_word}
 use Rattle.wkt_machine.specs.Events.{Event, axis_of}
 use Rattle.wkt_machine.specs.Makers.{Maker}
-use Rattle.wkt_machine.specs.declared.machine.Seen.{Seen}
+use Rattle.wkt_machine.specs.declared.machine.LexemeKind.{LexemeKind}
 use Rattle.wkt_machine.specs.declared.part.Axis.{Axis}
 use Rattle.wkt_machine.specs.declared.part.Part.{Part}
-use Rattle.wkt_machine.specs.declared.source.At.{At}
+use Rattle.wkt_machine.specs.declared.source.Progress.{Progress}
 use Rattle.wkt_machine.proofs.Stepping.{goes_one, seen_at, number_none}
-use Rattle.wkt_machine.specs.declared.machine.Seen.TheVariants as seen
+use Rattle.wkt_machine.specs.declared.machine.LexemeKind.TheVariants as seen
 use Rattle.wkt_machine.specs.declared.machine.State.TheVariants as next
 use Rattle.wkt_machine.specs.declared.part.Axis.TheVariants as axis
 
@@ -144,7 +144,7 @@ module _ {N S B : Type 0} (read : List ℕ → Option N) (view : View N S) (make
         moves_at (suc k) q1 ∙ ap (λ a. Some (at m.depth (place.Number m.part m.dim k), Event.Number a h.number ∷ [])) q2 ∙ ap (λ s. Some (s, Event.Number a h.number ∷ [])) there in
         goes_one read view maker m n s t b c (record { lexeme = Num h.run; end = h.end }) (Event.Number a h.number ∷ []) h.remaining h.place h.keeps moves h.makes (subst IsSound (sym e) next_has)
 
-    pub closes_number : (r : Result (At S B) (At S B)) → next_after a m.dim ≡ next.Item → EndsPoint maker m t c r → IfOk r (Goes read view maker m s b)
+    pub closes_number : (r : Result (Progress S B) (Progress S B)) → next_after a m.dim ≡ next.Item → EndsPoint maker m t c r → IfOk r (Goes read view maker m s b)
     closes_number (Err to) i k = absurd k
     closes_number (Ok to) i (same, there, to_sound, closed) =
         let (q1, q2) = at_last a m.dim m.part has i in
@@ -155,7 +155,7 @@ module _ {N S B : Type 0} (read : List ℕ → Option N) (view : View N S) (make
         (h.remaining ∙ ap (λ s. record { lexeme = Num h.run; end = h.end } ∷ view.remaining s) (sym same)) (subst (λ x. view.place x h.end) (sym same) h.place) (λ j k. subst (λ x. view.keeps x j) (sym same) (h.keeps j k))
         moves (maker.more b c to.builder (Event.Number a h.number ∷ []) (closes m.part) h.makes closed) to_sound
 
-    pub no_err : (r : Result (At S B) (At S B)) → EndsPoint maker m t c r → IfErr r (Refuses read view maker m s b)
+    pub no_err : (r : Result (Progress S B) (Progress S B)) → EndsPoint maker m t c r → IfErr r (Refuses read view maker m s b)
     no_err (Err to) k = absurd k
     no_err (Ok to) k = tt
 
@@ -172,7 +172,7 @@ module _ {N S B : Type 0} (read : List ℕ → Option N) (view : View N S) (make
       (maker.more b o c (Event.Open part.Member ∷ []) (Event.Number axis.X h.number ∷ []) makes h.makes) (subst IsSound (sym e) tt)
 
 -- where a number comes next, nothing else does
-pub other_none : (a : Axis) (p : Part) (d : Dimension) (n : ℕ) (k : Seen) → (k ≡ seen.Number → ⊥) → seen_at (place_of (state_for a) p d) n k ≡ None
+pub other_none : (a : Axis) (p : Part) (d : Dimension) (n : ℕ) (k : LexemeKind) → (k ≡ seen.Number → ⊥) → seen_at (place_of (state_for a) p d) n k ≡ None
 other_none axis.X p d n k other = number_none p d (numbers_after d) n k other
 other_none axis.Y p d n k other = number_none p d (numbers_after d - 1) n k other
 other_none axis.Z p d n k other = number_none p d (after_third d) n k other

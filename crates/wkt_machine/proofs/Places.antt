@@ -135,18 +135,18 @@ module _ {N : Type 0} (read : List ℕ → Option N) where
   Behind part.Collection d n = λ ls. ⊥
 
   -- What stands before a place.
-  abbrev pub At : Place → ℕ → List Lexeme → Type 0
-  At place.Kind n ls = Free n ls
-  At (place.Alone p) n ls = (a : List Lexeme) × (w : List ℕ) × (e : KindWord) × Free n a × (kind_word w ≡ Some e) × (part_of e.kind ≡ p) × (e.joined ≡ None) × (ls ≡ a ++ (Word w ∷ []))
-  At (place.Opening p d) n ls = To p d n ls
-  At (place.Number p d more) n ls = (c : List Lexeme) × (m : List Lexeme) × (xs : List N) × ToCoord p d n c × Numbers read m xs × (length xs + suc more ≡ size d) × (ls ≡ c ++ m)
-  At (place.Item p d) n ls = Behind p d n ls
-  At place.Geometry n ls = Whole n ls
+  abbrev pub Progress : Place → ℕ → List Lexeme → Type 0
+  Progress place.Kind n ls = Free n ls
+  Progress (place.Alone p) n ls = (a : List Lexeme) × (w : List ℕ) × (e : KindWord) × Free n a × (kind_word w ≡ Some e) × (part_of e.kind ≡ p) × (e.joined ≡ None) × (ls ≡ a ++ (Word w ∷ []))
+  Progress (place.Opening p d) n ls = To p d n ls
+  Progress (place.Number p d more) n ls = (c : List Lexeme) × (m : List Lexeme) × (xs : List N) × ToCoord p d n c × Numbers read m xs × (length xs + suc more ≡ size d) × (ls ≡ c ++ m)
+  Progress (place.Item p d) n ls = Behind p d n ls
+  Progress place.Geometry n ls = Whole n ls
 
   -- A step leads on to its place.
   abbrev pub Keeps : Option (State × Action) → List Lexeme → Type 0
   Keeps None ls = Unit {0}
-  Keeps (Some s) ls = At s.0.place s.0.depth ls
+  Keeps (Some s) ls = Progress s.0.place s.0.depth ls
 
   -- after a header
   to_top : (k : GeometryType) (d : Dimension) (n : ℕ) (ls : List Lexeme) → Headed (Free n) k d ls → To (part_of k) d n ls
@@ -219,10 +219,10 @@ module _ {N : Type 0} (read : List ℕ → Option N) where
   kind_keeps (Some e) n ls w is h = after_kind e.kind e.joined e n ls w is refl refl h
 
   -- after a kind word alone
-  pub alone_top : (p : Part) (n : ℕ) (ls : List Lexeme) → At (place.Alone p) n ls → Top p XY n ls
+  pub alone_top : (p : Part) (n : ℕ) (ls : List Lexeme) → Progress (place.Alone p) n ls → Top p XY n ls
   alone_top p n ls (a, w, e, free, is, ek, ej, split) = (e.kind, ek, (a, Word w ∷ [], free, (w, e, [], refl, is, refl, subst (λ o. DimPart o XY []) (sym ej) (inl (refl, refl))), split))
 
-  with_dimension : (p : Part) (d : Dimension) (n : ℕ) (ls : List Lexeme) (v : List ℕ) → dim_word v ≡ Some d → At (place.Alone p) n ls → Top p d n (ls ++ (Word v ∷ []))
+  with_dimension : (p : Part) (d : Dimension) (n : ℕ) (ls : List Lexeme) (v : List ℕ) → dim_word v ≡ Some d → Progress (place.Alone p) n ls → Top p d n (ls ++ (Word v ∷ []))
   with_dimension p d n ls v named (a, w, e, free, is, ek, ej, split) =
       (e.kind, ek, (a, Word w ∷ Word v ∷ [], free, (w, e, Word v ∷ [], refl, is, refl, subst (λ o. DimPart o d (Word v ∷ [])) (sym ej) (inr (v, refl, named))), ap (λ l. l ++ (Word v ∷ [])) split ∙ append_assoc a (Word w ∷ []) (Word v ∷ [])))
 
@@ -237,11 +237,11 @@ module _ {N : Type 0} (read : List ℕ → Option N) where
   top_outside : (p : Part) (d : Dimension) (n : ℕ) (a : Action) (ls ks : List Lexeme) → Top p d n ks → Whole n ls → Keeps (Some (outside p d n, a)) ls
   top_outside p d n a ls ks (k, is, t) h = subst (λ p. Keeps (Some (outside p d n, a)) ls) is (whole_outside k d n a ls h)
 
-  dimension_empty : (p : Part) (n : ℕ) (ls : List Lexeme) (w : List ℕ) (b : Bool) → is_empty_word w ≡ b → At (place.Alone p) n ls → Keeps (cond b (Some (outside p XY n, act.HeaderEmpty p)) None) (ls ++ (Word w ∷ []))
+  dimension_empty : (p : Part) (n : ℕ) (ls : List Lexeme) (w : List ℕ) (b : Bool) → is_empty_word w ≡ b → Progress (place.Alone p) n ls → Keeps (cond b (Some (outside p XY n, act.HeaderEmpty p)) None) (ls ++ (Word w ∷ []))
   dimension_empty p n ls w true is h = top_outside p XY n (act.HeaderEmpty p) _ ls (alone_top p n ls h) (top_empty p XY n ls w is (alone_top p n ls h))
   dimension_empty p n ls w false is h = tt
 
-  dimension_keeps : (o : Option Dimension) (p : Part) (n : ℕ) (ls : List Lexeme) (w : List ℕ) → dim_word w ≡ o → At (place.Alone p) n ls → Keeps (dimension_step o p w n) (ls ++ (Word w ∷ []))
+  dimension_keeps : (o : Option Dimension) (p : Part) (n : ℕ) (ls : List Lexeme) (w : List ℕ) → dim_word w ≡ o → Progress (place.Alone p) n ls → Keeps (dimension_step o p w n) (ls ++ (Word w ∷ []))
   dimension_keeps (Some d) p n ls w is h = top_to p d n _ (with_dimension p d n ls w is h)
   dimension_keeps None p n ls w is h = dimension_empty p n ls w (is_empty_word w) refl h
 
@@ -250,7 +250,7 @@ module _ {N : Type 0} (read : List ℕ → Option N) where
   collection_kind k e = let no : ⊥ = cc in absurd no
 
   -- a parenthesis
-  first_number : (p : Part) (d : Dimension) (n : ℕ) (ls : List Lexeme) → ToCoord p d n ls → At (place.Number p d (numbers_after d)) n ls
+  first_number : (p : Part) (d : Dimension) (n : ℕ) (ls : List Lexeme) → ToCoord p d n ls → Progress (place.Number p d (numbers_after d)) n ls
   first_number p d n ls h = (ls, [], [], h, refl, omega (arith, size_after d), sym (append-nil ls))
 
   open_keeps : (p : Part) (d : Dimension) (n : ℕ) (a : Action) (ls : List Lexeme) → To p d n ls → Keeps (Some (inside p d n, a)) (ls ++ (Open ∷ []))
@@ -274,7 +274,7 @@ module _ {N : Type 0} (read : List ℕ → Option N) where
   numbers_more (y ∷ xs) x m run (r, more, e, is, h) k = (r, more ++ (Num run ∷ []), ap (λ l. l ++ (Num run ∷ [])) e, is, numbers_more xs x more run h k)
 
   -- a whole coordinate
-  coord_end : (p : Part) (d : Dimension) (n : ℕ) (c f ls : List Lexeme) (x : List N) → ls ≡ c ++ f → ToCoord p d n c → Coord read d f x → At (last_place p d) n ls
+  coord_end : (p : Part) (d : Dimension) (n : ℕ) (c f ls : List Lexeme) (x : List N) → ls ≡ c ++ f → ToCoord p d n c → Coord read d f x → Progress (last_place p d) n ls
   coord_end part.Point d n c f ls x e h k = (c, f, x, h, k, e)
   coord_end part.Member d n c f ls x e h k = (c, f, x, h, k, e)
   coord_end part.Bare d n c f ls x e h k = subst (Behind part.MultiPoint d n) (sym e) (ended (Member read d) (Top part.MultiPoint d n) c f (Some x) h (inl k))
@@ -284,7 +284,7 @@ module _ {N : Type 0} (read : List ℕ → Option N) where
   coord_end part.AreaRing d n c f ls x e h k = subst (Behind part.AreaRing d n) (sym e) (ended (Coord read d) (To part.AreaRing d n) c f x h k)
   coord_end p d n c f ls x e h k = absurd h
 
-  number_keeps : (p : Part) (d : Dimension) (more n : ℕ) (ls : List Lexeme) (run : List ℕ) (x : N) → read run ≡ Some x → At (place.Number p d more) n ls → Keeps (Some (number_step p d more n)) (ls ++ (Num run ∷ []))
+  number_keeps : (p : Part) (d : Dimension) (more n : ℕ) (ls : List Lexeme) (run : List ℕ) (x : N) → read run ≡ Some x → Progress (place.Number p d more) n ls → Keeps (Some (number_step p d more n)) (ls ++ (Num run ∷ []))
   number_keeps p d zero n ls run x is (c, m, xs, h, nums, len, split) =
       coord_end p d n c (m ++ (Num run ∷ [])) _ (xs ++ (x ∷ [])) (ap (λ l. l ++ (Num run ∷ [])) split ∙ append_assoc c m (Num run ∷ [])) h
       (numbers_more xs x m run nums is, length-append xs (x ∷ []) ∙ len)
@@ -363,7 +363,7 @@ module _ {N : Type 0} (read : List ℕ → Option N) where
   IsRead l = Unit {0}
 
   -- each step leads on to its place
-  pub keeps : (p : Place) (n : ℕ) (l : Lexeme) (ls : List Lexeme) → IsRead l → At p n ls → Keeps (step_at p n l) (ls ++ (l ∷ []))
+  pub keeps : (p : Place) (n : ℕ) (l : Lexeme) (ls : List Lexeme) → IsRead l → Progress p n ls → Keeps (step_at p n l) (ls ++ (l ∷ []))
   keeps place.Kind n (Word w) ls r h = kind_keeps (kind_word w) n ls w refl h
   keeps (place.Alone p) n (Word w) ls r h = dimension_keeps (dim_word w) p n ls w refl h
   keeps (place.Alone p) n Open ls r h = open_keeps p XY n (act.HeaderOpen p) ls (top_to p XY n ls (alone_top p n ls h))

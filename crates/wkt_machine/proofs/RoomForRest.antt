@@ -18,9 +18,9 @@ use Rattle.wkt_events.proofs.RemainingLexemes.{class-in-mark, class-in-run, span
 use Rattle.wkt_machine.specs.Machine.{part_of, at, inside, outside}
 use Rattle.wkt_machine.specs.Room.{name_length, header_cost, shortest, number_cost, cost, need, owed, owed_at, Leaves, HasRoom, RoomAt, HasNumberRoom, LeavesNumber}
 use Rattle.wkt_machine.specs.View.{seen_of, seen_word, seen_other, sight, View}
-use Rattle.wkt_machine.specs.declared.machine.Seen.{Seen}
+use Rattle.wkt_machine.specs.declared.machine.LexemeKind.{LexemeKind}
 use Rattle.wkt_types.specs.declared.geometry_type.GeometryType.TheVariants as kind
-use Rattle.wkt_machine.specs.declared.machine.Seen.TheVariants as seen
+use Rattle.wkt_machine.specs.declared.machine.LexemeKind.TheVariants as seen
 use Rattle.wkt_access.specs.declared.dimensions.Dimension.TheVariants.{XY, XYZ, XYM, XYZM}
 use Rattle.wkt_machine.specs.Goes.{Stays, Skips}
 use Rattle.wkt_machine.specs.Machines.{state_of, place_of, next_after}
@@ -29,7 +29,7 @@ use Rattle.wkt_machine.specs.declared.machine.Machine.{Machine}
 use Rattle.wkt_machine.specs.declared.machine.State.{State as Next}
 use Rattle.wkt_machine.specs.declared.part.Axis.{Axis}
 use Rattle.wkt_machine.specs.declared.part.Part.{Part}
-use Rattle.wkt_machine.specs.declared.source.At.{At}
+use Rattle.wkt_machine.specs.declared.source.Progress.{Progress}
 use Rattle.wkt_machine.specs.declared.machine.State.TheVariants as next
 use Rattle.wkt_machine.specs.declared.part.Axis.TheVariants as axis
 use Rattle.wkt_machine.specs.declared.part.Part.TheVariants as part
@@ -90,7 +90,7 @@ kind_cost run e is =
     omega (arith, long, some)
 
 -- How much a lexeme takes at least that is seen so.
-abbrev pub seen_cost : Seen → ℕ
+abbrev pub seen_cost : LexemeKind → ℕ
 seen_cost seen.Open = 1
 seen_cost seen.Close = 1
 seen_cost seen.Comma = 1
@@ -121,14 +121,14 @@ cost_seen Comma = lit≤ tt
 cost_seen (Num run) = omega arith
 cost_seen (Word w) = word_cost w (kind_word w) refl
 
-pub need_seen : (ps qs : List Spanned) (p : Spanned) (k : Seen) → k ≡ sight ps → ps ≡ p ∷ qs → seen_cost k + need qs ≤ need ps
+pub need_seen : (ps qs : List Spanned) (p : Spanned) (k : LexemeKind) → k ≡ sight ps → ps ≡ p ∷ qs → seen_cost k + need qs ≤ need ps
 need_seen ps qs p k sees is =
     let all : need ps ≡ cost p.lexeme + need qs = ap need is in
     let same : seen_cost k ≡ seen_cost (seen_of p.lexeme) = ap seen_cost (sees ∙ ap sight is) in
     let least = cost_seen p.lexeme in
     omega (arith, all, same, least)
 
-pub seen_need : (ps : List Spanned) (k : Seen) → k ≡ sight ps → seen_cost k ≤ need ps
+pub seen_need : (ps : List Spanned) (k : LexemeKind) → k ≡ sight ps → seen_cost k ≤ need ps
 seen_need [] k e = let none : seen_cost k ≡ 0 = ap seen_cost e in omega (arith, none)
 seen_need (p ∷ ps) k e = let more = need_seen (p ∷ ps) ps p k e refl in omega (arith, more)
 
@@ -304,13 +304,13 @@ module _ {N S B : Type 0} (view : View N S) (maker : Maker N B) where
   less_room m n s b order h = record { fits = maker.less b (m + need (view.remaining s)) (n + need (view.remaining s)) (omega (arith, order)) h.fits; values = h.values; reads = h.reads }
 
   -- There is room for what the lexeme makes that is seen.
-  pub fits_seen : (n spent : ℕ) (k : Seen) (s : S) (b : B) → k ≡ sight (view.remaining s) → spent ≤ n + seen_cost k → HasRoom view maker n s b → maker.fits b spent
+  pub fits_seen : (n spent : ℕ) (k : LexemeKind) (s : S) (b : B) → k ≡ sight (view.remaining s) → spent ≤ n + seen_cost k → HasRoom view maker n s b → maker.fits b spent
   fits_seen n spent k s b sees order h =
       let least = seen_need (view.remaining s) k sees in
       maker.less b spent (n + need (view.remaining s)) (omega (arith, order, least)) h.fits
 
   -- It is taken, and so much is made of it.
-  pub spent_room : (n after spent : ℕ) (k : Seen) (s t : S) (b c : B) → k ≡ sight (view.remaining s) → Skips view s t → after + spent ≤ n + seen_cost k → Leaves maker b spent c → HasRoom view maker n s b → HasRoom view maker after t c
+  pub spent_room : (n after spent : ℕ) (k : LexemeKind) (s t : S) (b c : B) → k ≡ sight (view.remaining s) → Skips view s t → after + spent ≤ n + seen_cost k → Leaves maker b spent c → HasRoom view maker n s b → HasRoom view maker after t c
   spent_room n after spent k s t b c sees skips order leaves h =
       let least = need_seen (view.remaining s) (view.remaining t) skips.lexeme k sees skips.remaining in
       record {
@@ -330,7 +330,7 @@ module _ {N S B : Type 0} (view : View N S) (maker : Maker N B) where
   pub fits_so_much : (n : ℕ) (s : S) (b : B) → HasRoom view maker n s b → maker.fits b n
   fits_so_much n s b h = maker.less b n (n + need (view.remaining s)) (omega arith) h.fits
 
-  pub room_at : (s : S) (b : B) (m : Machine) (r : Result (At S B) (At S B)) → r ≡ Ok (record { source = s; machine = m; builder = b }) → owed (state_of m) ≡ 0 → HasRoom view maker 0 s b → IfOk r (RoomAt view maker)
+  pub room_at : (s : S) (b : B) (m : Machine) (r : Result (Progress S B) (Progress S B)) → r ≡ Ok (record { source = s; machine = m; builder = b }) → owed (state_of m) ≡ 0 → HasRoom view maker 0 s b → IfOk r (RoomAt view maker)
   room_at s b m r is owes h = subst (λ r. IfOk r (RoomAt view maker)) (sym is) (subst (λ n. HasRoom view maker n s b) (sym owes) h)
 
   -- the room at a state

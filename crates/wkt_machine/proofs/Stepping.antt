@@ -17,14 +17,14 @@ use Rattle.wkt_machine.specs.Makers.{Maker}
 use Rattle.wkt_machine.specs.Machine as place
 use Rattle.wkt_machine.specs.View.{seen_of, seen_word, seen_other, sight, View}
 use Rattle.wkt_machine.specs.declared.machine.Machine.{Machine}
-use Rattle.wkt_machine.specs.declared.machine.Seen.{Seen}
-use Rattle.wkt_machine.specs.declared.machine.Seen.TheVariants as seen
+use Rattle.wkt_machine.specs.declared.machine.LexemeKind.{LexemeKind}
+use Rattle.wkt_machine.specs.declared.machine.LexemeKind.TheVariants as seen
 use Rattle.wkt_machine.specs.declared.part.Part.{Part}
 use Rattle.wkt_machine.specs.declared.part.Part.TheVariants as part
-use Rattle.wkt_machine.specs.declared.source.At.{At}
+use Rattle.wkt_machine.specs.declared.source.Progress.{Progress}
 
 -- What is seen at each place.
-abbrev pub seen_at : Place → ℕ → Seen → Option (State × Action)
+abbrev pub seen_at : Place → ℕ → LexemeKind → Option (State × Action)
 seen_at place.Kind n (seen.Kind k j) = Some (joined_step (part_of k) j n)
 seen_at (place.Alone p) n (seen.Dimension d) = Some (at n (place.Opening p d), act.Header p d)
 seen_at (place.Alone p) n seen.Empty = Some (outside p XY n, act.HeaderEmpty p)
@@ -39,11 +39,11 @@ seen_at place.Geometry (suc n) seen.Comma = Some (at (suc n) place.Kind, act.Com
 seen_at place.Geometry (suc n) seen.Close = Some (at n place.Geometry, act.Close part.Collection)
 seen_at p n k = None
 
-abbrev pub is_number : Seen → Bool
+abbrev pub is_number : LexemeKind → Bool
 is_number seen.Number = true
 is_number k = false
 
-pub never_number : (k : Seen) → is_number k ≡ false → k ≢ seen.Number
+pub never_number : (k : LexemeKind) → is_number k ≡ false → k ≢ seen.Number
 never_number seen.Number e = let never : ⊥ = cc in absurd never
 never_number k e = λ q. cc
 
@@ -64,7 +64,7 @@ words w None (Some d) true ek ed eb = let clash : ◌≡◌ {A = Option Dimensio
 words w None (Some d) false ek ed eb = tt
 words w None None b ek ed eb = tt
 
-abbrev word_seen : Option KindWord → Option Dimension → Bool → Seen
+abbrev word_seen : Option KindWord → Option Dimension → Bool → LexemeKind
 word_seen (Some e) d b = seen.Kind e.kind e.joined
 word_seen None (Some d) b = seen.Dimension d
 word_seen None None b = cond b seen.Empty seen.Other
@@ -163,17 +163,17 @@ seen_is place.Geometry (suc n) Comma = refl
 seen_is place.Geometry (suc n) (Num w) = refl
 
 -- What isn't seen at a place.
-pub kind_none : (n : ℕ) (k : Seen) → ((g : GeometryType) (d : Option Dimension) → k ≡ seen.Kind g d → ⊥) → seen_at place.Kind n k ≡ None
+pub kind_none : (n : ℕ) (k : LexemeKind) → ((g : GeometryType) (d : Option Dimension) → k ≡ seen.Kind g d → ⊥) → seen_at place.Kind n k ≡ None
 kind_none n (seen.Kind g d) never = absurd (never g d refl)
 kind_none n k never = refl
 
-pub alone_none : (p : Part) (n : ℕ) (k : Seen) → ((d : Dimension) → k ≡ seen.Dimension d → ⊥) → (k ≡ seen.Open → ⊥) → (k ≡ seen.Empty → ⊥) → seen_at (place.Alone p) n k ≡ None
+pub alone_none : (p : Part) (n : ℕ) (k : LexemeKind) → ((d : Dimension) → k ≡ seen.Dimension d → ⊥) → (k ≡ seen.Open → ⊥) → (k ≡ seen.Empty → ⊥) → seen_at (place.Alone p) n k ≡ None
 alone_none p n (seen.Dimension d) a b c = absurd (a d refl)
 alone_none p n seen.Open a b c = absurd (b refl)
 alone_none p n seen.Empty a b c = absurd (c refl)
 alone_none p n k a b c = refl
 
-pub opening_none : (p : Part) (d : Dimension) (n : ℕ) (k : Seen) → (k ≡ seen.Open → ⊥) → (k ≡ seen.Empty → ⊥) → (k ≡ seen.Number → ⊥) → seen_at (place.Opening p d) n k ≡ None
+pub opening_none : (p : Part) (d : Dimension) (n : ℕ) (k : LexemeKind) → (k ≡ seen.Open → ⊥) → (k ≡ seen.Empty → ⊥) → (k ≡ seen.Number → ⊥) → seen_at (place.Opening p d) n k ≡ None
 opening_none p d n seen.Open a b c = absurd (a refl)
 opening_none p d n seen.Empty a b c = absurd (b refl)
 opening_none p d n seen.Number a b c = absurd (c refl)
@@ -183,11 +183,11 @@ pub bare_none : (p : Part) (d : Dimension) (n : ℕ) → (p ≡ part.Member → 
 bare_none part.Member d n never = absurd (never refl)
 bare_none p d n never = refl
 
-pub number_none : (p : Part) (d : Dimension) (more n : ℕ) (k : Seen) → (k ≡ seen.Number → ⊥) → seen_at (place.Number p d more) n k ≡ None
+pub number_none : (p : Part) (d : Dimension) (more n : ℕ) (k : LexemeKind) → (k ≡ seen.Number → ⊥) → seen_at (place.Number p d more) n k ≡ None
 number_none p d more n seen.Number never = absurd (never refl)
 number_none p d more n k never = refl
 
-pub item_none : (p : Part) (d : Dimension) (n : ℕ) (k : Seen) → (k ≡ seen.Close → ⊥) → (k ≡ seen.Comma → ⊥) → seen_at (place.Item p d) n k ≡ None
+pub item_none : (p : Part) (d : Dimension) (n : ℕ) (k : LexemeKind) → (k ≡ seen.Close → ⊥) → (k ≡ seen.Comma → ⊥) → seen_at (place.Item p d) n k ≡ None
 item_none p d n seen.Close a b = absurd (a refl)
 item_none p d n seen.Comma a b = absurd (b refl)
 item_none p d n k a b = refl
@@ -202,7 +202,7 @@ several part.Point d n e = let never : ⊥ = cc in absurd never
 several part.Member d n e = let never : ⊥ = cc in absurd never
 several p d n e = refl
 
-pub geometry_none : (n : ℕ) (k : Seen) → (k ≡ seen.Close → ⊥) → (k ≡ seen.Comma → ⊥) → seen_at place.Geometry n k ≡ None
+pub geometry_none : (n : ℕ) (k : LexemeKind) → (k ≡ seen.Close → ⊥) → (k ≡ seen.Comma → ⊥) → seen_at place.Geometry n k ≡ None
 geometry_none zero k a b = refl
 geometry_none (suc n) seen.Close a b = absurd (a refl)
 geometry_none (suc n) seen.Comma a b = absurd (b refl)
@@ -221,7 +221,7 @@ inner_open zero h = absurd (omega (arith, h))
 inner_open (suc n) h = refl
 
 -- what is seen is a lexeme that is left
-pub some_left : (ps : List Spanned) (k : Seen) → k ≡ sight ps → (k ≡ seen.Other → ⊥) → 1 ≤ length ps
+pub some_left : (ps : List Spanned) (k : LexemeKind) → k ≡ sight ps → (k ≡ seen.Other → ⊥) → 1 ≤ length ps
 some_left [] k e never = absurd (never e)
 some_left (p ∷ ps) k e never = omega arith
 
@@ -234,7 +234,7 @@ module _ {N S B : Type 0} (read : List ℕ → Option N) (view : View N S) (make
   no_number Comma never = refl
   no_number (Word w) never = refl
 
-  pub from_goes : (m : Machine) (s t : S) (b : B) (to : At S B) → Stays view s t → Goes read view maker m t b to → Goes read view maker m s b to
+  pub from_goes : (m : Machine) (s t : S) (b : B) (to : Progress S B) → Stays view s t → Goes read view maker m t b to → Goes read view maker m s b to
   from_goes m s t b to stays h = record {
     given = h.given;
     last = h.last;
@@ -247,7 +247,7 @@ module _ {N S B : Type 0} (read : List ℕ → Option N) (view : View N S) (make
     keeps = λ j k. h.keeps j (stays.keeps j k);
   }
 
-  pub from_refuses : (m : Machine) (s t : S) (b : B) (to : At S B) → Stays view s t → Refuses read view maker m t b to → Refuses read view maker m s b to
+  pub from_refuses : (m : Machine) (s t : S) (b : B) (to : Progress S B) → Stays view s t → Refuses read view maker m t b to → Refuses read view maker m s b to
   from_refuses m s t b to stays h = record {
     taken = h.taken;
     events = h.events;
@@ -276,7 +276,7 @@ module _ {N S B : Type 0} (read : List ℕ → Option N) (view : View N S) (make
   }
 
   -- A lexeme that is seen is taken.
-  pub skipped : (m n : Machine) (s t : S) (b c : B) (a : Action) (k : Seen) → k ≡ sight (view.remaining s) → k ≢ seen.Number → Skips view s t
+  pub skipped : (m n : Machine) (s t : S) (b c : B) (a : Action) (k : LexemeKind) → k ≡ sight (view.remaining s) → k ≢ seen.Number → Skips view s t
       → seen_at (state_of m).place m.depth k ≡ Some (state_of n, a) → maker.makes b (made a None) c → IsSound n → Goes read view maker m s b (record { source = t; machine = n; builder = c })
   skipped m n s t b c a k is other skips steps makes sound =
       let sees : k ≡ seen_of skips.lexeme.lexeme = is ∙ ap sight skips.remaining in
@@ -304,5 +304,5 @@ module _ {N S B : Type 0} (read : List ℕ → Option N) (view : View N S) (make
   unmoved m (p ∷ ps) e = ap (λ o. moved read o (number_of read p.lexeme)) (sym (seen_is (state_of m).place m.depth p.lexeme) ∙ e)
 
   -- A lexeme that is seen isn't taken.
-  pub stands_at : (m : Machine) (s : S) (b : B) (k : Seen) → k ≡ sight (view.remaining s) → is_over (state_of m) ≡ false → seen_at (state_of m).place m.depth k ≡ None → Refuses read view maker m s b (record { source = s; machine = m; builder = b })
+  pub stands_at : (m : Machine) (s : S) (b : B) (k : LexemeKind) → k ≡ sight (view.remaining s) → is_over (state_of m) ≡ false → seen_at (state_of m).place m.depth k ≡ None → Refuses read view maker m s b (record { source = s; machine = m; builder = b })
   stands_at m s b k is o e = stands m s b o (λ j h. unmoved m (view.remaining s) (ap (seen_at (state_of m).place m.depth) (sym is) ∙ e))

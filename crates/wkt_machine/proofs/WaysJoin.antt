@@ -10,7 +10,7 @@ use Rattle.wkt_machine.specs.Machines.{state_of}
 use Rattle.wkt_machine.specs.Makers.{Maker}
 use Rattle.wkt_machine.specs.View.{View}
 use Rattle.wkt_machine.specs.declared.machine.Machine.{Machine}
-use Rattle.wkt_machine.specs.declared.source.At.{At}
+use Rattle.wkt_machine.specs.declared.source.Progress.{Progress}
 use Rattle.wkt_machine.proofs.WholeRuns.{run_append}
 use Rattle.wkt_machine.specs.declared.machine.State.{State as Next}
 
@@ -37,7 +37,7 @@ module _ {N S B : Type 0} (read : List ℕ → Option N) (view : View N S) (make
   pub runs : (xs ys : List Spanned) (s t u : State) (es fs : List (Event N)) → run read s (lexemes_of xs) ≡ Some (t, es) → run read t (lexemes_of ys) ≡ Some (u, fs) → run read s (lexemes_of (xs ++ ys)) ≡ Some (u, es ++ fs)
   runs xs ys s t u es fs h k = ap (run read s) (lexemes_append xs ys) ∙ run_append read (lexemes_of xs) (lexemes_of ys) s (t, es) h ∙ ap (after es) k
 
-  pub goes_on_to : (m : Machine) (s : S) (b : B) (a c : At S B) → Goes read view maker m s b a → Goes read view maker a.machine a.source a.builder c → Goes read view maker m s b c
+  pub goes_on_to : (m : Machine) (s : S) (b : B) (a c : Progress S B) → Goes read view maker m s b a → Goes read view maker a.machine a.source a.builder c → Goes read view maker m s b c
   goes_on_to m s b a c h k = record {
     given = (h.given ++ (h.last ∷ [])) ++ k.given;
     last = k.last;
@@ -51,7 +51,7 @@ module _ {N S B : Type 0} (read : List ℕ → Option N) (view : View N S) (make
     keeps = λ j l. k.keeps j (h.keeps j l);
   }
 
-  pub refuses_after : (m : Machine) (s : S) (b : B) (a c : At S B) → Goes read view maker m s b a → Refuses read view maker a.machine a.source a.builder c → Refuses read view maker m s b c
+  pub refuses_after : (m : Machine) (s : S) (b : B) (a c : Progress S B) → Goes read view maker m s b a → Refuses read view maker a.machine a.source a.builder c → Refuses read view maker m s b c
   refuses_after m s b a c h k = record {
     taken = (h.given ++ (h.last ∷ [])) ++ k.taken;
     events = h.events ++ k.events;
@@ -73,27 +73,27 @@ module _ {N S B : Type 0} (view : View N S) (maker : Maker N B) where
   read_so : (b c : B) (es : List (Event N)) (P : (List ℕ → Option N) → Type 0) → maker.makes b es c → P (maker.reads c) → P (maker.reads b)
   read_so b c es P makes h = subst P (maker.same b c es makes).0 h
 
-  abbrev Goes_from : Machine → S → B → At S B → Type 0
+  abbrev Goes_from : Machine → S → B → Progress S B → Type 0
   Goes_from m s b to = Goes (maker.reads b) view maker m s b to
 
-  abbrev Refuses_from : Machine → S → B → At S B → Type 0
+  abbrev Refuses_from : Machine → S → B → Progress S B → Type 0
   Refuses_from m s b to = Refuses (maker.reads b) view maker m s b to
 
-  pub goes_then : (m : Machine) (s : S) (b : B) (a c : At S B) → Goes_from m s b a → Goes_from a.machine a.source a.builder c → Goes_from m s b c
+  pub goes_then : (m : Machine) (s : S) (b : B) (a c : Progress S B) → Goes_from m s b a → Goes_from a.machine a.source a.builder c → Goes_from m s b c
   goes_then m s b a c h k = goes_on_to (maker.reads b) view maker m s b a c h
       (read_so b a.builder h.events (λ read. Goes read view maker a.machine a.source a.builder c) h.makes k)
 
-  pub refuses_then : (m : Machine) (s : S) (b : B) (a c : At S B) → Goes_from m s b a → Refuses_from a.machine a.source a.builder c → Refuses_from m s b c
+  pub refuses_then : (m : Machine) (s : S) (b : B) (a c : Progress S B) → Goes_from m s b a → Refuses_from a.machine a.source a.builder c → Refuses_from m s b c
   refuses_then m s b a c h k = refuses_after (maker.reads b) view maker m s b a c h
       (read_so b a.builder h.events (λ read. Refuses read view maker a.machine a.source a.builder c) h.makes k)
 
-  pub from_start : (s : S) (b : B) (a c : At S B) → GoesFrom (maker.reads b) view maker s b a → Goes_from a.machine a.source a.builder c → GoesFrom (maker.reads b) view maker s b c
+  pub from_start : (s : S) (b : B) (a c : Progress S B) → GoesFrom (maker.reads b) view maker s b a → Goes_from a.machine a.source a.builder c → GoesFrom (maker.reads b) view maker s b c
   from_start s b a c (m, is, h) k = (m, is, goes_then m s b a c h k)
 
-  pub refused_from : (s : S) (b : B) (a c : At S B) → GoesFrom (maker.reads b) view maker s b a → Refuses_from a.machine a.source a.builder c → RefusesFrom (maker.reads b) view maker s b c
+  pub refused_from : (s : S) (b : B) (a c : Progress S B) → GoesFrom (maker.reads b) view maker s b a → Refuses_from a.machine a.source a.builder c → RefusesFrom (maker.reads b) view maker s b c
   refused_from s b a c (m, is, h) k = (m, is, refuses_then m s b a c h k)
 
-  pub refused_if : (s : S) (b : B) (a : At S B) (r : Result (At S B) (At S B)) → GoesFrom (maker.reads b) view maker s b a → IfErr r (Refuses_from a.machine a.source a.builder) → IfErr r (RefusesFrom (maker.reads b) view maker s b)
+  pub refused_if : (s : S) (b : B) (a : Progress S B) (r : Result (Progress S B) (Progress S B)) → GoesFrom (maker.reads b) view maker s b a → IfErr r (Refuses_from a.machine a.source a.builder) → IfErr r (RefusesFrom (maker.reads b) view maker s b)
   refused_if s b a (Ok c) h k = tt
   refused_if s b a (Err c) h k = refused_from s b a c h k
 
@@ -111,7 +111,7 @@ module _ {N S B : Type 0} (read : List ℕ → Option N) (view : View N S) (make
     keeps = λ j k. k;
   }
 
-  pub goes_leads : (m : Machine) (s : S) (b : B) (to : At S B) → Goes read view maker m s b to → Leads read view maker m s b to.machine to.source to.builder
+  pub goes_leads : (m : Machine) (s : S) (b : B) (to : Progress S B) → Goes read view maker m s b to → Leads read view maker m s b to.machine to.source to.builder
   goes_leads m s b to h = record {
     taken = h.given ++ (h.last ∷ []);
     events = h.events;
@@ -123,7 +123,7 @@ module _ {N S B : Type 0} (read : List ℕ → Option N) (view : View N S) (make
   }
 
 module _ {N S B : Type 0} (view : View N S) (maker : Maker N B) where
-  pub leads_goes : (m : Machine) (s : S) (b : B) (n : Machine) (t : S) (c : B) (to : At S B) → Leads (maker.reads b) view maker m s b n t c → Goes_from view maker n t c to → Goes_from view maker m s b to
+  pub leads_goes : (m : Machine) (s : S) (b : B) (n : Machine) (t : S) (c : B) (to : Progress S B) → Leads (maker.reads b) view maker m s b n t c → Goes_from view maker n t c to → Goes_from view maker m s b to
   leads_goes m s b n t c to l g =
       let h = read_so view maker b c l.events (λ read. Goes read view maker n t c to) l.makes g in
       record {
@@ -139,7 +139,7 @@ module _ {N S B : Type 0} (view : View N S) (maker : Maker N B) where
         keeps = λ j k. h.keeps j (l.keeps j k);
       }
 
-  pub leads_refuses : (m : Machine) (s : S) (b : B) (n : Machine) (t : S) (c : B) (to : At S B) → Leads (maker.reads b) view maker m s b n t c → Refuses_from view maker n t c to → Refuses_from view maker m s b to
+  pub leads_refuses : (m : Machine) (s : S) (b : B) (n : Machine) (t : S) (c : B) (to : Progress S B) → Leads (maker.reads b) view maker m s b n t c → Refuses_from view maker n t c to → Refuses_from view maker m s b to
   leads_refuses m s b n t c to l g =
       let h = read_so view maker b c l.events (λ read. Refuses read view maker n t c to) l.makes g in
       record {
@@ -180,8 +180,8 @@ module _ {N S B : Type 0} (view : View N S) (maker : Maker N B) (m : Machine) wh
   same : (p : Next) → m.state ≡ p → standing m p ≡ m
   same p e = ap (λ (s : Next). standing m s) (sym e)
 
-  pub way_from : (p : Next) (s : S) (b : B) (to : At S B) → m.state ≡ p → Goes_from view maker (standing m p) s b to → Goes_from view maker m s b to
+  pub way_from : (p : Next) (s : S) (b : B) (to : Progress S B) → m.state ≡ p → Goes_from view maker (standing m p) s b to → Goes_from view maker m s b to
   way_from p s b to e h = subst (λ x. Goes_from view maker x s b to) (same p e) h
 
-  pub stop_from : (p : Next) (s : S) (b : B) (to : At S B) → m.state ≡ p → Refuses_from view maker (standing m p) s b to → Refuses_from view maker m s b to
+  pub stop_from : (p : Next) (s : S) (b : B) (to : Progress S B) → m.state ≡ p → Refuses_from view maker (standing m p) s b to → Refuses_from view maker m s b to
   stop_from p s b to e h = subst (λ x. Refuses_from view maker x s b to) (same p e) h

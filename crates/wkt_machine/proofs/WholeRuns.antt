@@ -11,7 +11,7 @@ use Rattle.wkt_machine.specs.Machine as place
 use Rattle.wkt_machine.specs.Action.{Action}
 use Rattle.wkt_machine.proofs.Complete.{after-nil, after-after, value_run}
 use Rattle.wkt_machine.proofs.BegunIsWalked.{begun_on, at_begun}
-use Rattle.wkt_machine.proofs.Places.{At, Keeps, IsRead, keeps}
+use Rattle.wkt_machine.proofs.Places.{Progress, Keeps, IsRead, keeps}
 use Rattle.wkt_read.specs.Refusal.{StopsBetween, HasMessage}
 use Rattle.wkt_read.proofs.Begun.{cuts_geometry, one_fault}
 use Rattle.wkt_read.specs.declared.messages.Message.{Message}
@@ -24,7 +24,7 @@ use Rattle.wkt_machine.specs.Machines.{state_of}
 use Rattle.wkt_machine.specs.Makers.{Maker}
 use Rattle.wkt_machine.specs.View.{View}
 use Rattle.wkt_machine.specs.declared.machine.Machine.{Machine}
-use Rattle.wkt_machine.specs.declared.source.At.{At as SourceAt}
+use Rattle.wkt_machine.specs.declared.source.Progress.{Progress as SourceAt}
 use Rattle.wkt_machine.specs.declared.part.Part.{Part}
 use Rattle.wkt_machine.specs.declared.part.Part.TheVariants as part
 
@@ -58,17 +58,17 @@ module _ {N : Type 0} (read : List ℕ → Option N) where
   is_read l y e = tt
 
   -- the place after a run
-  run_at : (ls pre : List Lexeme) (s : State) (m : Move N) → At read s.place s.depth pre → run read s ls ≡ Some m → At read m.0.place m.0.depth (pre ++ ls)
+  run_at : (ls pre : List Lexeme) (s : State) (m : Move N) → Progress read s.place s.depth pre → run read s ls ≡ Some m → Progress read m.0.place m.0.depth (pre ++ ls)
   run_at [] pre s m h e =
       let same : s ≡ m.0 = cc in
-      subst (λ (t : State). At read t.place t.depth (pre ++ [])) same (subst (At read s.place s.depth) (sym (append-nil pre)) h)
+      subst (λ (t : State). Progress read t.place t.depth (pre ++ [])) same (subst (Progress read s.place s.depth) (sym (append-nil pre)) h)
   run_at (l ∷ ls) pre s m h e =
       let (q, r, moves, runs, split) = then_some (move read s l) (λ t. run read t ls) m e in
       let (a, y, steps, number) = moved_some (step s l) (number_of read l) q moves in
       let there = subst (λ o. Keeps read o (pre ++ (l ∷ []))) steps (keeps read s.place s.depth l pre (is_read l y number) h) in
       let end = run_at ls (pre ++ (l ∷ [])) q.0 r there runs in
       let same : r.0 ≡ m.0 = cc in
-      subst (λ k. At read m.0.place m.0.depth k) (append_assoc pre (l ∷ []) ls) (subst (λ (t : State). At read t.place t.depth ((pre ++ (l ∷ [])) ++ ls)) same end)
+      subst (λ k. Progress read m.0.place m.0.depth k) (append_assoc pre (l ∷ []) ls) (subst (λ (t : State). Progress read t.place t.depth ((pre ++ (l ∷ [])) ++ ls)) same end)
 
   -- nothing moves where a geometry is over
   pub over_stops : (s : State) (l : Lexeme) → is_over s ≡ true → move read s l ≡ None
@@ -104,7 +104,7 @@ module _ {N : Type 0} (read : List ℕ → Option N) where
   pub exact : (ls : List Lexeme) (s : State) (es : List (Event N)) → run read start ls ≡ Some (s, es) → is_over s ≡ true → (v : Value N) × StandFor read ls v × (es ≡ events v)
   exact ls s es e o = go s.place s.depth o (run_at ls [] start (s, es) refl e)
     where
-      go : (p : Place) (n : ℕ) → over_at p n ≡ true → At read p n ls → (v : Value N) × StandFor read ls v × (es ≡ events v)
+      go : (p : Place) (n : ℕ) → over_at p n ≡ true → Progress read p n ls → (v : Value N) × StandFor read ls v × (es ≡ events v)
       go place.Geometry zero o (c, f, v, free, g, split) =
           let stands : StandFor read ls v = subst (λ l. StandFor read l v) (sym (split ∙ ap (λ l. l ++ f) free)) g in
           let whole : run read start ls ≡ Some (at 0 place.Geometry, events v ++ []) = ap (run read start) (sym (append-nil ls)) ∙ (value_run read v ls 0 stands).on [] in

@@ -5,7 +5,7 @@ use Rattle.wkt_machine.specs.declared.part.Axis.{Axis}
 
 -- Nothing; a header; the header of a kind word alone, with a parenthesis or EMPTY; what stands in parentheses; a number of a coordinate, which may be the first or the last of a point without parentheses.
 pub data Action : Type 0 where
-  Nothing : Action
+  NullBuilder : Action
   Header : Part → Dimension → Action
   HeaderOpen : Part → Action
   HeaderEmpty : Part → Action

@@ -10,7 +10,7 @@ use Rattle.wkt_machine.specs.View.{View, IsBetween}
 use Rattle.wkt_machine.specs.declared.machine.Machine.{Machine}
 use Rattle.wkt_machine.specs.declared.part.Axis.{Axis}
 use Rattle.wkt_machine.specs.declared.part.Part.{Part}
-use Rattle.wkt_machine.specs.declared.source.At.{At}
+use Rattle.wkt_machine.specs.declared.source.Progress.{Progress}
 use Rattle.wkt_num.specs.Bytes as lex
 use Rattle.wkt_machine.specs.declared.part.Axis.TheVariants as axis
 use Rattle.wkt_machine.specs.declared.part.Part.TheVariants as part
@@ -60,7 +60,7 @@ module _ {N S B : Type 0} (read : List ℕ → Option N) (view : View N S) (make
     pub number : MakesOneNumber s opened axis.X t c
 
   -- Some lexemes are taken, the machine goes over them, and what they say is made.
-  pub record Goes (m : Machine) (s : S) (b : B) (to : At S B) : Type 0 where
+  pub record Goes (m : Machine) (s : S) (b : B) (to : Progress S B) : Type 0 where
     pub given : List Spanned
     pub last : Spanned
     pub events : List (Event N)
@@ -72,7 +72,7 @@ module _ {N S B : Type 0} (read : List ℕ → Option N) (view : View N S) (make
     pub keeps : (k : view.Known) → view.keeps s k → view.keeps to.source k
 
   -- The machine goes over some lexemes, or none, up to one with which it doesn't move, or that lacks. What they say is made, and no more.
-  pub record Refuses (m : Machine) (s : S) (b : B) (to : At S B) : Type 0 where
+  pub record Refuses (m : Machine) (s : S) (b : B) (to : Progress S B) : Type 0 where
     pub taken : List Spanned
     pub events : List (Event N)
     pub split : view.remaining s ≡ taken ++ view.remaining to.source
@@ -84,10 +84,10 @@ module _ {N S B : Type 0} (read : List ℕ → Option N) (view : View N S) (make
     pub stuck : (k : view.Known) → view.keeps s k → IsStuck read to.machine (view.remaining to.source)
 
   -- How the machine goes over what a source gives from where a text begins.
-  abbrev pub GoesFrom : S → B → At S B → Type 0
+  abbrev pub GoesFrom : S → B → Progress S B → Type 0
   GoesFrom s b to = (m : Machine) × (state_of m ≡ start) × Goes m s b to
 
-  abbrev pub RefusesFrom : S → B → At S B → Type 0
+  abbrev pub RefusesFrom : S → B → Progress S B → Type 0
   RefusesFrom s b to = (m : Machine) × (state_of m ≡ start) × Refuses m s b to
 
 -- A point without parentheses ends with its last number; what has parentheses stays as it is.
@@ -95,7 +95,7 @@ abbrev pub closes : {N : Type 0} → Part → List (Event N)
 closes part.Bare = Event.Close part.Member ∷ []
 closes p = []
 
-abbrev pub EndsPoint : {N S B : Type 0} → Maker N B → Machine → S → B → Result (At S B) (At S B) → Type 0
+abbrev pub EndsPoint : {N S B : Type 0} → Maker N B → Machine → S → B → Result (Progress S B) (Progress S B) → Type 0
 EndsPoint maker m s b (Ok to) = (to.source ≡ s) × (state_of to.machine ≡ at m.depth (last_place m.part m.dim)) × IsSound to.machine × maker.makes b (closes m.part) to.builder
 EndsPoint maker m s b (Err to) = ⊥
 
@@ -106,7 +106,7 @@ abbrev pub standing : Machine → Next → Machine
 standing m s = record { state = s; part = m.part; dim = m.dim; depth = m.depth }
 
 -- A source and what was made, with such a machine.
-abbrev pub reached : {S B : Type 0} → Machine → Next → S → B → At S B
+abbrev pub reached : {S B : Type 0} → Machine → Next → S → B → Progress S B
 reached m s source builder = record { source = source; machine = standing m s; builder = builder }
 
 pub record Leads {N S B : Type 0} (read : List ℕ → Option N) (view : View N S) (maker : Maker N B) (m : Machine) (s : S) (b : B) (n : Machine) (t : S) (c : B) : Type 0 where

@@ -76,7 +76,7 @@ outside p d n = at n Geometry
 -- a kind word, with the dimension that is joined to it
 abbrev pub joined_step : Part → Option Dimension → ℕ → State × Action
 joined_step p (Some d) n = (at n (Opening p d), act.Header p d)
-joined_step p None n = (at n (Alone p), act.Nothing)
+joined_step p None n = (at n (Alone p), act.NullBuilder)
 
 abbrev pub kind_step : Option KindWord → ℕ → Option (State × Action)
 kind_step (Some e) n = Some (joined_step (part_of e.kind) e.joined n)

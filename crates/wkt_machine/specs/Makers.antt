@@ -4,7 +4,7 @@ use Rattle.std.specs.Prelude.{◌≡◌, ℕ, ◌≤◌, List, [], ◌∷◌, �
 use Rattle.wkt_events.specs.Remaining.{IsNumberAt}
 use Rattle.wkt_machine.specs.Events.{Event}
 use Rattle.wkt_machine.specs.declared.part.Axis.{Axis}
-use Rattle.wkt_machine.specs.declared.nothing.Nothing.{Nothing}
+use Rattle.wkt_machine.specs.declared.null_builder.NullBuilder.{NullBuilder}
 use Rattle.wkt_machine.specs.declared.part.Axis.TheVariants as axis
 use Rattle.wkt_machine.specs.declared.part.Part.TheVariants as part
 
@@ -44,8 +44,8 @@ pub record MakesBareNumber {N S : Type 0} (read : List ℕ → Option N) (maker 
 -- What is made where nothing is kept.
 
 -- Any events make nothing. How numbers are read stays.
-abbrev pub nothing_maker : {P N : Type 0} → (P → List ℕ → Option N) → Maker N (Nothing P)
-nothing_maker read = record {
+abbrev pub null_builder_maker : {P N : Type 0} → (P → List ℕ → Option N) → Maker N (NullBuilder P)
+null_builder_maker read = record {
   makes = λ s es t. t.numbers ≡ s.numbers;
   reads = λ s. read s.numbers;
   fits = λ s n. Unit {0};

@@ -53,20 +53,20 @@ expected_at place.Geometry n = expected.More
 -- With which message lexemes are refused at a place, and which of them are left.
 
 -- how many parentheses are open around a part, but those of collections
-abbrev pub around : Part → ℕ
-around part.Member = 1
-around part.Ring = 1
-around part.Line = 1
-around part.Area = 1
-around part.AreaRing = 2
-around p = 0
+abbrev pub outer_parens : Part → ℕ
+outer_parens part.Member = 1
+outer_parens part.Ring = 1
+outer_parens part.Line = 1
+outer_parens part.Area = 1
+outer_parens part.AreaRing = 2
+outer_parens p = 0
 
 -- and at a place
-abbrev pub own : Place → ℕ
-own (place.Opening p d) = around p
-own (place.Number p d more) = around p + 1
-own (place.Item p d) = around p + 1
-own p = 0
+abbrev pub open_parens : Place → ℕ
+open_parens (place.Opening p d) = outer_parens p
+open_parens (place.Number p d more) = outer_parens p + 1
+open_parens (place.Item p d) = outer_parens p + 1
+open_parens p = 0
 
 -- whether a number may stand at a place
 abbrev pub takes_number : Place → Bool
@@ -91,4 +91,4 @@ module _ {N : Type 0} (read : List ℕ → Option N) where
 
   -- the message behind these places, and what is left
   abbrev pub refused : State → List Lexeme → Message × List Lexeme
-  refused s ls = closings read (own s.place + s.depth) (at_place read (expected_at s.place s.depth) ls) (left_at read (expected_at s.place s.depth) ls)
+  refused s ls = closings read (open_parens s.place + s.depth) (at_place read (expected_at s.place s.depth) ls) (left_at read (expected_at s.place s.depth) ls)

@@ -12,7 +12,7 @@ use Rattle.wkt_machine.specs.Machine as place
 use Rattle.wkt_machine.specs.View.{View}
 use Rattle.wkt_machine.specs.declared.part.Part.{Part}
 use Rattle.wkt_machine.specs.declared.part.Part.TheVariants as part
-use Rattle.wkt_machine.specs.declared.source.At.{At}
+use Rattle.wkt_machine.specs.declared.source.Progress.{Progress}
 
 -- how many letters the kind word of a part has
 abbrev pub name_length : Part → ℕ
@@ -89,7 +89,7 @@ module _ {N S B : Type 0} (view : View N S) (maker : Maker N B) where
     pub reads : view.by_value → (c : B) → maker.reads c ≡ view.number
 
   -- There is room at a place for the lexemes that are left.
-  abbrev pub RoomAt : At S B → Type 0
+  abbrev pub RoomAt : Progress S B → Type 0
   RoomAt to = HasRoom (owed (state_of to.machine)) to.source to.builder
 
   -- The next lexeme is a number: there is room for it and for those behind it.

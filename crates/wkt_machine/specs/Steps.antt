@@ -7,8 +7,8 @@ use Rattle.wkt_machine.specs.Makers.{Maker}
 use Rattle.wkt_machine.specs.Room.{owed, HasRoom, RoomAt}
 use Rattle.wkt_machine.specs.View.{View, sight}
 use Rattle.wkt_machine.specs.declared.machine.Machine.{Machine}
-use Rattle.wkt_machine.specs.declared.machine.Seen.{Seen}
-use Rattle.wkt_machine.specs.declared.source.At.{At}
+use Rattle.wkt_machine.specs.declared.machine.LexemeKind.{LexemeKind}
+use Rattle.wkt_machine.specs.declared.source.Progress.{Progress}
 
 module _ {N S B : Type 0} (view : View N S) (maker : Maker N B) where
   -- A machine that isn't over may go on: its depth fits a usize whatever comes, and there is room for what is left.
@@ -19,13 +19,13 @@ module _ {N S B : Type 0} (view : View N S) (maker : Maker N B) where
     pub room : HasRoom view maker (owed (state_of m)) s b
 
   -- The same where the lexeme that comes next was looked at.
-  pub record MayTake (m : Machine) (k : Seen) (s : S) (b : B) : Type 0 where
+  pub record MayTake (m : Machine) (k : LexemeKind) (s : S) (b : B) : Type 0 where
     pub may : MayStep m s b
     pub looked : view.looked s
     pub seen : k ≡ sight (view.remaining s)
 
   -- It goes over a lexeme or more, and leaves room for the others; or one of them is refused.
-  pub record Steps (m : Machine) (s : S) (b : B) (r : Result (At S B) (At S B)) : Type 0 where
+  pub record Steps (m : Machine) (s : S) (b : B) (r : Result (Progress S B) (Progress S B)) : Type 0 where
     pub on : IfOk r (Goes (maker.reads b) view maker m s b)
     pub room : IfOk r (RoomAt view maker)
     pub refused : IfErr r (Refuses (maker.reads b) view maker m s b)

@@ -7,8 +7,8 @@ use Rattle.wkt_num.specs.Bytes as lex
 use Rattle.wkt_access.specs.declared.dimensions.Dimension.{Dimension}
 use Rattle.wkt_read.specs.Grammar.{KindWord, kind_word, dim_word, is_empty_word}
 use Rattle.wkt_read.specs.Spanned.{Spanned}
-use Rattle.wkt_machine.specs.declared.machine.Seen.{Seen}
-use Rattle.wkt_machine.specs.declared.machine.Seen.TheVariants as seen
+use Rattle.wkt_machine.specs.declared.machine.LexemeKind.{LexemeKind}
+use Rattle.wkt_machine.specs.declared.machine.LexemeKind.TheVariants as seen
 use Rattle.wkt_events.specs.Remaining.{class_in, remaining_spanned}
 
 -- What is known of a source of lexemes, and lexemes as far as the machine looks at them.
@@ -16,17 +16,17 @@ use Rattle.wkt_events.specs.Remaining.{class_in, remaining_spanned}
 -- Lexemes as far as the machine looks at them.
 
 -- a word that is no kind word
-abbrev pub seen_other : Option Dimension → List ℕ → Seen
+abbrev pub seen_other : Option Dimension → List ℕ → LexemeKind
 seen_other (Some d) w = seen.Dimension d
 seen_other None w = if is_empty_word w then seen.Empty else seen.Other
 
 -- a word
-abbrev pub seen_word : Option KindWord → List ℕ → Seen
+abbrev pub seen_word : Option KindWord → List ℕ → LexemeKind
 seen_word (Some e) w = seen.Kind e.kind e.joined
 seen_word None w = seen_other (dim_word w) w
 
 -- a lexeme
-abbrev pub seen_of : Lexeme → Seen
+abbrev pub seen_of : Lexeme → LexemeKind
 seen_of lex.Open = seen.Open
 seen_of lex.Close = seen.Close
 seen_of lex.Comma = seen.Comma
@@ -34,7 +34,7 @@ seen_of (lex.Word w) = seen_word (kind_word w) w
 seen_of (lex.Num run) = seen.Number
 
 -- the lexeme that comes next, or that none does
-abbrev pub sight : List Spanned → Seen
+abbrev pub sight : List Spanned → LexemeKind
 sight [] = seen.Other
 sight (p ∷ ps) = seen_of p.lexeme
 

@@ -9,16 +9,16 @@ ghost use Rattle.wkt_machine.specs.Steps.{MayStep, Steps};
 use crate::builder::Builder;
 use crate::machine::{Machine, State};
 use crate::marks::marks;
-use crate::source::{At, Walk, Walked};
+use crate::source::{FastSource, Progress, StepResult};
 use wkt_num::WktNum;
 
 /// After one lexeme or more.
 #[inline(always)]
-fn further<T: WktNum, S: Walk<T>, B: Builder<T>>(
+fn step_many<T: WktNum, S: FastSource<T>, B: Builder<T>>(
     machine: Machine,
     source: S,
     builder: B,
-) -> Walked<S, B>
+) -> StepResult<S, B>
     requires { MayStep S.view B.maker machine source builder }
     ensures { Steps S.view B.maker machine source builder result }
 {
@@ -32,7 +32,7 @@ fn further<T: WktNum, S: Walk<T>, B: Builder<T>>(
 
 /// Behind the geometry that comes next; or where it is refused.
 #[inline(always)]
-pub fn drive<T: WktNum, S: Walk<T>, B: Builder<T>>(source: S, builder: B) -> Walked<S, B>
+pub fn drive<T: WktNum, S: FastSource<T>, B: Builder<T>>(source: S, builder: B) -> StepResult<S, B>
     requires depth { length (S.view.remaining source) ≤ usize.MAX }
     requires room { HasRoom S.view B.maker 0 source builder }
     ensures on { IfOk result (GoesFrom (B.maker.reads builder) S.view B.maker source builder) }
@@ -40,7 +40,7 @@ pub fn drive<T: WktNum, S: Walk<T>, B: Builder<T>>(source: S, builder: B) -> Wal
     ensures room { IfOk result (RoomAt S.view B.maker) }
     ensures refused { IfErr result (RefusesFrom (B.maker.reads builder) S.view B.maker source builder) }
 {
-    let At {
+    let Progress {
         source: begun,
         machine: first,
         builder: made,
@@ -49,17 +49,17 @@ pub fn drive<T: WktNum, S: Walk<T>, B: Builder<T>>(source: S, builder: B) -> Wal
     let (mut source, mut machine, mut builder) = (begun, Machine { ..first }, made);
     'lexemes: loop {
         if machine.is_over() {
-            return Ok(At {
+            return Ok(Progress {
                 source,
                 machine,
                 builder,
             });
         }
-        let At {
+        let Progress {
             source: behind,
             machine: next,
             builder: made,
-        } = further(machine, source, builder)?;
+        } = step_many(machine, source, builder)?;
         (source, machine, builder) = (behind, Machine { ..next }, made);
     }
 }

@@ -1,7 +1,7 @@
 //! What could stand at the machine's place.
 ghost use Rattle.std.specs.Prelude.{◌≡◌};
 ghost use Rattle.wkt_machine.specs.Machines.{state_of};
-ghost use Rattle.wkt_machine.specs.Refusing.{around, expected_at, item_expected, last_number, opening_expected, own, takes_number};
+ghost use Rattle.wkt_machine.specs.Refusing.{outer_parens, expected_at, item_expected, last_number, opening_expected, open_parens, takes_number};
 
 use crate::machine::{Machine, State};
 use crate::part::Part;
@@ -37,8 +37,8 @@ fn item_expected(part: Part) -> Expected
 }
 
 /// How many parentheses are open around a part, but those of collections.
-fn around(part: Part) -> usize
-    ensures { result ≡ around part }
+fn outer_parens(part: Part) -> usize
+    ensures { result ≡ outer_parens part }
 {
     match part {
         Part::Member | Part::Ring | Part::Line | Part::Area => 1,
@@ -70,13 +70,13 @@ impl Machine {
     }
 
     /// How many parentheses are open at the place, but those of collections.
-    pub fn own(self) -> usize
-        ensures { result ≡ own (state_of self).place }
+    pub fn open_parens(self) -> usize
+        ensures { result ≡ open_parens (state_of self).place }
     {
         match self.state {
             State::Kind | State::Dimension | State::Geometry => 0,
-            State::Opening => around(self.part),
-            State::X | State::Y | State::Z | State::M | State::Item => around(self.part) + 1,
+            State::Opening => outer_parens(self.part),
+            State::X | State::Y | State::Z | State::M | State::Item => outer_parens(self.part) + 1,
         }
     }
 }

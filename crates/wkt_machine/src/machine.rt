@@ -4,7 +4,7 @@ ghost use Rattle.std.specs.Prelude.{◌≡◌, ◌≢◌, ◌<◌, ◌-◌};
 ghost use Rattle.wkt_machine.specs.Machine.{at, part_of, inside, outside, start, is_over};
 ghost use Rattle.wkt_machine.specs.Machines.{state_of, next_after, is_single, IsSound};
 ghost use Rattle.wkt_machine.specs.Machine as place;
-ghost use Rattle.wkt_machine.specs.declared.machine.Seen.TheVariants as sees;
+ghost use Rattle.wkt_machine.specs.declared.machine.LexemeKind.TheVariants as sees;
 
 use crate::part::{Axis, Part};
 use wkt_access::Dimension;
@@ -12,7 +12,7 @@ use wkt_types::GeometryType;
 
 /// A lexeme, as far as the machine looks at it.
 #[derive(Clone, Copy)]
-pub enum Seen {
+pub enum LexemeKind {
     Open,
     Close,
     Comma,
@@ -72,20 +72,20 @@ pub fn part_of(kind: GeometryType) -> Part
 
 /// Whether it is a closing parenthesis. A match over all lexemes would be a jump by a table.
 #[inline(always)]
-pub(crate) fn is_close(seen: Seen) -> bool
+pub(crate) fn is_close(seen: LexemeKind) -> bool
     ensures on { OnTrue result (seen ≡ sees.Close) }
     ensures off { OnFalse result (seen ≢ sees.Close) }
 {
-    matches!(seen, Seen::Close)
+    matches!(seen, LexemeKind::Close)
 }
 
 /// Whether it is a comma.
 #[inline(always)]
-pub(crate) fn is_comma(seen: Seen) -> bool
+pub(crate) fn is_comma(seen: LexemeKind) -> bool
     ensures on { OnTrue result (seen ≡ sees.Comma) }
     ensures off { OnFalse result (seen ≢ sees.Comma) }
 {
-    matches!(seen, Seen::Comma)
+    matches!(seen, LexemeKind::Comma)
 }
 
 /// Whether a part has one coordinate alone.
@@ -134,7 +134,7 @@ impl Machine {
     }
 
     #[inline(always)]
-    pub fn to(self, state: State) -> Machine
+    pub fn with_state(self, state: State) -> Machine
         ensures { result ≡ record { state = state; part = self.part; dim = self.dim; depth = self.depth } }
     {
         Machine {
@@ -147,7 +147,7 @@ impl Machine {
 
     /// The machine at another state, in another part and a dimension.
     #[inline(always)]
-    pub fn begun(self, state: State, part: Part, dim: Dimension) -> Machine
+    pub fn with_part(self, state: State, part: Part, dim: Dimension) -> Machine
         ensures { result ≡ record { state = state; part = part; dim = dim; depth = self.depth } }
     {
         Machine {
@@ -211,7 +211,7 @@ impl Machine {
 
     /// Behind a collection.
     #[inline(always)]
-    pub fn shallower(self) -> Machine
+    pub fn leave_collection(self) -> Machine
         requires { 0 < self.depth }
         ensures state { state_of result ≡ at (self.depth - 1) place.Geometry }
         ensures sound { IsSound result }

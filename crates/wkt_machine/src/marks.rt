@@ -6,9 +6,9 @@ ghost use Rattle.wkt_machine.specs.Machines.{state_of};
 ghost use Rattle.wkt_machine.specs.Steps.{MayStep, MayTake, Steps};
 
 use crate::builder::Builder;
-use crate::machine::{Machine, Seen, State};
+use crate::machine::{LexemeKind, Machine, State};
 use crate::part::Axis;
-use crate::source::{At, Source, Walked};
+use crate::source::{Progress, Source, StepResult};
 use crate::step::on;
 use wkt_num::WktNum;
 
@@ -19,14 +19,14 @@ pub(crate) fn marks<T: WktNum, S: Source<T>, B: Builder<T>>(
     machine: Machine,
     source: S,
     builder: B,
-) -> Walked<S, B>
+) -> StepResult<S, B>
     requires { MayStep S.view B.maker machine source builder }
     ensures { Steps S.view B.maker machine source builder result }
 {
     let (mut source, mut machine, mut builder) = (source, machine, builder);
     'marks: loop {
         let (seen, looked) = source.look();
-        let At {
+        let Progress {
             source: behind,
             machine: next,
             builder: made,
@@ -34,7 +34,7 @@ pub(crate) fn marks<T: WktNum, S: Source<T>, B: Builder<T>>(
         // Rebuilt, so padding isn't copied.
         (source, machine, builder) = (behind, Machine { ..next }, made);
         if !has_mark(machine) {
-            return Ok(At {
+            return Ok(Progress {
                 source,
                 machine,
                 builder,
@@ -59,10 +59,10 @@ fn has_mark(machine: Machine) -> bool
 #[inline(always)]
 fn mark<T: WktNum, S: Source<T>, B: Builder<T>>(
     machine: Machine,
-    seen: Seen,
+    seen: LexemeKind,
     source: S,
     builder: B,
-) -> Walked<S, B>
+) -> StepResult<S, B>
     requires { MayTake S.view B.maker machine seen source builder }
     ensures { Steps S.view B.maker machine source builder result }
 {
@@ -70,7 +70,7 @@ fn mark<T: WktNum, S: Source<T>, B: Builder<T>>(
         State::Item => machine.at_item(seen, source, builder),
         State::Geometry => machine.at_geometry(seen, source, builder),
         State::Opening => {
-            let At {
+            let Progress {
                 source: behind,
                 machine: next,
                 builder: made,

@@ -4,24 +4,24 @@ ghost use Rattle.wkt_machine.specs.Goes.{Stays, Skips, MakesBare, MakesOneNumber
 ghost use Rattle.wkt_machine.specs.Room.{HasRoom, HasNumberRoom, LeavesNumber};
 ghost use Rattle.wkt_machine.specs.Steps.{MayStep, Steps};
 ghost use Rattle.wkt_machine.specs.View.{sight, View};
-ghost use Rattle.wkt_machine.specs.declared.machine.Seen.TheVariants as seen;
+ghost use Rattle.wkt_machine.specs.declared.machine.LexemeKind.TheVariants as seen;
 ghost use Rattle.wkt_machine.specs.declared.machine.State.TheVariants as next;
 
 use crate::builder::Builder;
-use crate::machine::{Machine, Seen};
+use crate::machine::{LexemeKind, Machine};
 use crate::part::Axis;
 use wkt_num::WktNum;
 
 /// A source, a machine behind what was taken from it, and what was made of that.
 #[derive(Drop)]
-pub struct At<S, B> {
+pub struct Progress<S, B> {
     pub source: S,
     pub machine: Machine,
     pub builder: B,
 }
 
 /// After some lexemes; or where the next one is refused.
-pub type Walked<S, B> = Result<At<S, B>, At<S, B>>;
+pub type StepResult<S, B> = Result<Progress<S, B>, Progress<S, B>>;
 
 /// A place in a text.
 pub trait Source<T: WktNum>: Sized + Drop {
@@ -29,7 +29,7 @@ pub trait Source<T: WktNum>: Sized + Drop {
     ghost view: { View T Self };
 
     /// The lexeme that comes next, which stays.
-    fn look(self) -> (Seen, Self)
+    fn look(self) -> (LexemeKind, Self)
         ensures seen { result.0 ≡ sight (view.remaining self) }
         ensures stays { Stays view self result.1 }
         ensures looked { view.looked result.1 };
@@ -68,21 +68,21 @@ pub trait Source<T: WktNum>: Sized + Drop {
 }
 
 /// A source that takes in one go what begins in it.
-pub trait Walk<T: WktNum>: Source<T> {
+pub trait FastSource<T: WktNum>: Source<T> {
     /// After one lexeme or more: a geometry begins here.
-    fn header<B: Builder<T>>(self, machine: Machine, builder: B) -> Walked<Self, B>
+    fn header<B: Builder<T>>(self, machine: Machine, builder: B) -> StepResult<Self, B>
         requires state { machine.state ≡ next.Kind }
         requires may { MayStep Self.view B.maker machine self builder }
         ensures { Steps Self.view B.maker machine self builder result };
 
     /// Before the first lexeme: the geometry begins here. Each of the two has one caller, and is built into it.
-    fn first<B: Builder<T>>(self, machine: Machine, builder: B) -> Walked<Self, B>
+    fn first<B: Builder<T>>(self, machine: Machine, builder: B) -> StepResult<Self, B>
         requires state { machine.state ≡ next.Kind }
         requires may { MayStep Self.view B.maker machine self builder }
         ensures { Steps Self.view B.maker machine self builder result };
 
     /// After one lexeme or more: a coordinate begins here.
-    fn coordinates<B: Builder<T>>(self, machine: Machine, builder: B) -> Walked<Self, B>
+    fn coordinates<B: Builder<T>>(self, machine: Machine, builder: B) -> StepResult<Self, B>
         requires state { machine.state ≡ next.X }
         requires may { MayStep Self.view B.maker machine self builder }
         ensures { Steps Self.view B.maker machine self builder result };

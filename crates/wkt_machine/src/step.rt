@@ -4,13 +4,13 @@ ghost use Rattle.wkt_machine.specs.Goes.{EndsPoint};
 ghost use Rattle.wkt_machine.specs.Machines.{state_for};
 ghost use Rattle.wkt_machine.specs.Room.{HasRoom, RoomAt};
 ghost use Rattle.wkt_machine.specs.Steps.{MayStep, MayTake, Steps};
-ghost use Rattle.wkt_machine.specs.declared.machine.Seen.TheVariants as sees;
+ghost use Rattle.wkt_machine.specs.declared.machine.LexemeKind.TheVariants as sees;
 ghost use Rattle.wkt_machine.specs.declared.machine.State.TheVariants as next;
 
 use crate::builder::Builder;
-use crate::machine::{Machine, Seen, State, after, is_close, is_comma, is_single, part_of};
+use crate::machine::{LexemeKind, Machine, State, after, is_close, is_comma, is_single, part_of};
 use crate::part::{Axis, Part};
-use crate::source::{At, Source, Walked};
+use crate::source::{Progress, Source, StepResult};
 use wkt_access::Dimension;
 use wkt_num::WktNum;
 
@@ -19,7 +19,11 @@ impl Machine {
     ///
     /// What it returns comes through memory, whose place is cleared here, away from the ways beside it.
     #[inline(always)]
-    pub fn step<T: WktNum, S: Source<T>, B: Builder<T>>(self, source: S, builder: B) -> Walked<S, B>
+    pub fn step<T: WktNum, S: Source<T>, B: Builder<T>>(
+        self,
+        source: S,
+        builder: B,
+    ) -> StepResult<S, B>
         requires { MayStep S.view B.maker self source builder }
         ensures { Steps S.view B.maker self source builder result }
     {
@@ -32,7 +36,7 @@ impl Machine {
         self,
         source: S,
         builder: B,
-    ) -> Walked<S, B>
+    ) -> StepResult<S, B>
         requires { MayStep S.view B.maker self source builder }
         ensures { Steps S.view B.maker self source builder result }
     {
@@ -54,26 +58,26 @@ impl Machine {
     #[inline(always)]
     pub fn at_kind<T: WktNum, S: Source<T>, B: Builder<T>>(
         self,
-        seen: Seen,
+        seen: LexemeKind,
         source: S,
         builder: B,
-    ) -> Walked<S, B>
+    ) -> StepResult<S, B>
         requires state { self.state ≡ next.Kind }
         requires may { MayTake S.view B.maker self seen source builder }
         ensures { Steps S.view B.maker self source builder result }
     {
         match seen {
-            Seen::Kind(kind, joined) => {
+            LexemeKind::Kind(kind, joined) => {
                 let part = part_of(kind);
                 match joined {
                     None => on(
                         source.skip(),
-                        self.begun(State::Dimension, part, Dimension::XY),
+                        self.with_part(State::Dimension, part, Dimension::XY),
                         builder,
                     ),
                     Some(dim) => on(
                         source.skip(),
-                        self.begun(State::Opening, part, dim),
+                        self.with_part(State::Opening, part, dim),
                         builder.begin(part, dim),
                     ),
                 }
@@ -86,29 +90,30 @@ impl Machine {
     #[inline(always)]
     pub fn at_dimension<T: WktNum, S: Source<T>, B: Builder<T>>(
         self,
-        seen: Seen,
+        seen: LexemeKind,
         source: S,
         builder: B,
-    ) -> Walked<S, B>
+    ) -> StepResult<S, B>
         requires state { self.state ≡ next.Dimension }
         requires may { MayTake S.view B.maker self seen source builder }
         ensures { Steps S.view B.maker self source builder result }
     {
         let part = self.part;
         match seen {
-            Seen::Dimension(dim) => on(
+            LexemeKind::Dimension(dim) => on(
                 source.skip(),
-                self.begun(State::Opening, part, dim),
+                self.with_part(State::Opening, part, dim),
                 builder.begin(part, dim),
             ),
-            Seen::Open => on(
+            LexemeKind::Open => on(
                 source.skip(),
-                self.begun(State::Opening, part, Dimension::XY).inside(),
+                self.with_part(State::Opening, part, Dimension::XY).inside(),
                 builder.begin(part, Dimension::XY).open(part),
             ),
-            Seen::Empty => on(
+            LexemeKind::Empty => on(
                 source.skip(),
-                self.begun(State::Opening, part, Dimension::XY).outside(),
+                self.with_part(State::Opening, part, Dimension::XY)
+                    .outside(),
                 builder.begin(part, Dimension::XY).empty(part),
             ),
             _ => refused(source, self, builder),
@@ -119,18 +124,18 @@ impl Machine {
     #[inline(always)]
     pub(crate) fn at_opening<T: WktNum, S: Source<T>, B: Builder<T>>(
         self,
-        seen: Seen,
+        seen: LexemeKind,
         source: S,
         builder: B,
-    ) -> Walked<S, B>
+    ) -> StepResult<S, B>
         requires state { self.state ≡ next.Opening }
         requires may { MayTake S.view B.maker self seen source builder }
         ensures { Steps S.view B.maker self source builder result }
     {
         match seen {
-            Seen::Open => on(source.skip(), self.inside(), builder.open(self.part)),
-            Seen::Empty => on(source.skip(), self.outside(), builder.empty(self.part)),
-            Seen::Number => self.at_member(source, builder),
+            LexemeKind::Open => on(source.skip(), self.inside(), builder.open(self.part)),
+            LexemeKind::Empty => on(source.skip(), self.outside(), builder.empty(self.part)),
+            LexemeKind::Number => self.at_member(source, builder),
             _ => refused(source, self, builder),
         }
     }
@@ -141,14 +146,18 @@ impl Machine {
         self,
         source: S,
         builder: B,
-    ) -> Walked<S, B>
+    ) -> StepResult<S, B>
         requires state { self.state ≡ next.Opening }
         requires may { MayTake S.view B.maker self sees.Number source builder }
         ensures { Steps S.view B.maker self source builder result }
     {
         match self.part {
             Part::Member => match source.bare(builder) {
-                Ok((behind, made)) => on(behind, self.begun(State::Y, Part::Bare, self.dim), made),
+                Ok((behind, made)) => on(
+                    behind,
+                    self.with_part(State::Y, Part::Bare, self.dim),
+                    made,
+                ),
                 Err((before, made)) => refused(before, self, made),
             },
             _ => refused(source, self, builder),
@@ -160,21 +169,21 @@ impl Machine {
     pub fn at_number<T: WktNum, S: Source<T>, B: Builder<T>>(
         self,
         axis: Axis,
-        seen: Seen,
+        seen: LexemeKind,
         source: S,
         builder: B,
-    ) -> Walked<S, B>
+    ) -> StepResult<S, B>
         requires axis { self.state ≡ state_for axis }
         requires may { MayTake S.view B.maker self seen source builder }
         ensures { Steps S.view B.maker self source builder result }
     {
         match seen {
-            Seen::Number => {
+            LexemeKind::Number => {
                 let state = after(axis, self.dim);
                 match source.number(builder, axis) {
                     Ok((behind, made)) => match state {
                         State::Item => self.behind_coordinate(behind, made),
-                        _ => on(behind, self.to(state), made),
+                        _ => on(behind, self.with_state(state), made),
                     },
                     Err((before, made)) => refused(before, self, made),
                 }
@@ -189,14 +198,14 @@ impl Machine {
         self,
         source: S,
         builder: B,
-    ) -> Walked<S, B>
+    ) -> StepResult<S, B>
         requires room { HasRoom S.view B.maker 1 source builder }
         ensures ends { EndsPoint B.maker self source builder result }
         ensures room { IfOk result (RoomAt S.view B.maker) }
     {
         match self.part {
             Part::Bare => on(source, self.outside(), builder.close(Part::Member)),
-            _ => on(source, self.to(State::Item), builder),
+            _ => on(source, self.with_state(State::Item), builder),
         }
     }
 
@@ -204,10 +213,10 @@ impl Machine {
     #[inline(always)]
     pub(crate) fn at_item<T: WktNum, S: Source<T>, B: Builder<T>>(
         self,
-        seen: Seen,
+        seen: LexemeKind,
         source: S,
         builder: B,
-    ) -> Walked<S, B>
+    ) -> StepResult<S, B>
         requires state { self.state ≡ next.Item }
         requires may { MayTake S.view B.maker self seen source builder }
         ensures { Steps S.view B.maker self source builder result }
@@ -229,10 +238,10 @@ impl Machine {
     #[inline(always)]
     pub(crate) fn at_geometry<T: WktNum, S: Source<T>, B: Builder<T>>(
         self,
-        seen: Seen,
+        seen: LexemeKind,
         source: S,
         builder: B,
-    ) -> Walked<S, B>
+    ) -> StepResult<S, B>
         requires state { self.state ≡ next.Geometry }
         requires inner { 0 < self.depth }
         requires may { MayTake S.view B.maker self seen source builder }
@@ -241,13 +250,13 @@ impl Machine {
         if is_close(seen) {
             on(
                 source.skip(),
-                self.shallower(),
+                self.leave_collection(),
                 builder.close(Part::Collection),
             )
         } else if is_comma(seen) {
             on(
                 source.skip(),
-                self.to(State::Kind),
+                self.with_state(State::Kind),
                 builder.comma(Part::Collection),
             )
         } else {
@@ -258,10 +267,10 @@ impl Machine {
 
 /// On at the place, with what was made.
 #[inline(always)]
-pub fn on<S, B>(source: S, machine: Machine, builder: B) -> Walked<S, B>
+pub fn on<S, B>(source: S, machine: Machine, builder: B) -> StepResult<S, B>
     ensures { result ≡ Ok (record { source = source; machine = machine; builder = builder }) }
 {
-    Ok(At {
+    Ok(Progress {
         source,
         machine,
         builder,
@@ -270,10 +279,10 @@ pub fn on<S, B>(source: S, machine: Machine, builder: B) -> Walked<S, B>
 
 /// Refused at the place.
 #[inline(always)]
-pub fn refused<S, B>(source: S, machine: Machine, builder: B) -> Walked<S, B>
+pub fn refused<S, B>(source: S, machine: Machine, builder: B) -> StepResult<S, B>
     ensures { result ≡ Err (record { source = source; machine = machine; builder = builder }) }
 {
-    Err(At {
+    Err(Progress {
         source,
         machine,
         builder,

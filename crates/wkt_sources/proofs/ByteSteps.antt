@@ -16,16 +16,16 @@ use Rattle.wkt_machine.specs.Machine.{at, numbers_after, inside, outside, last_p
 use Rattle.wkt_machine.specs.Machines.{state_of, place_of, after_third, state_for, next_after, is_single, HasNext, IsSound}
 use Rattle.wkt_machine.specs.Makers.{Maker}
 use Rattle.wkt_machine.specs.Machine as place
-use Rattle.wkt_sources.specs.declared.bytes.Bytes.{Bytes}
+use Rattle.wkt_sources.specs.declared.bytes.ByteCursor.{ByteCursor}
 use Rattle.wkt_machine.specs.declared.machine.Machine.{Machine}
 use Rattle.wkt_machine.specs.declared.machine.State.{State as Next}
 use Rattle.wkt_machine.specs.declared.part.Axis.{Axis}
 use Rattle.wkt_machine.specs.declared.part.Part.{Part}
-use Rattle.wkt_machine.specs.declared.source.At.{At}
+use Rattle.wkt_machine.specs.declared.source.Progress.{Progress}
 use Rattle.wkt_machine.proofs.WaysJoin.{goes_on_to}
 use Rattle.wkt_machine.proofs.NumberSteps.{over_number, inner_number, closes_number}
 use Rattle.wkt_machine.proofs.Stepping.{skipped, several}
-use Rattle.wkt_machine.specs.declared.machine.Seen.TheVariants as seen
+use Rattle.wkt_machine.specs.declared.machine.LexemeKind.TheVariants as seen
 use Rattle.wkt_machine.specs.declared.machine.State.TheVariants as next
 use Rattle.wkt_machine.specs.declared.part.Axis.TheVariants as axis
 use Rattle.wkt_machine.specs.declared.part.Part.TheVariants as part
@@ -114,7 +114,7 @@ module _ {N : Type 0} (read : List ℕ → Option N) where
 
 module _ {N B : Type 0} (read : List ℕ → Option N) (maker : Maker N B) {n : ℕ} (feed : Bool) where
   -- a number is taken
-  pub number_goes : (m k : Machine) (s t : Bytes n) (b c : B) (a : Axis) → m.state ≡ state_for a → IsSound m → has_coordinates m.part ≡ true → MakesOneNumber read (bytes_view feed) maker s b a t c
+  pub number_goes : (m k : Machine) (s t : ByteCursor n) (b c : B) (a : Axis) → m.state ≡ state_for a → IsSound m → has_coordinates m.part ≡ true → MakesOneNumber read (bytes_view feed) maker s b a t c
       → k ≡ record { state = next_after a m.dim; part = m.part; dim = m.dim; depth = m.depth } → Goes read (bytes_view feed) maker m s b (record { source = t; machine = k; builder = c })
   number_goes m k s t b c a at_a sound has h is = go (next_after a m.dim) refl
     where
@@ -138,7 +138,7 @@ module _ {N B : Type 0} (read : List ℕ → Option N) (maker : Maker N B) {n : 
       go next.Geometry e = inner (λ i. let clash : next.Geometry ≡ next.Item = sym e ∙ i in cc)
 
   -- none is
-  pub number_stays : (m : Machine) (s t : Bytes n) (b c : B) (a : Axis) → m.state ≡ state_for a → Stays {N = N} (bytes_view feed) s t → IsDark feed t.text.now t.at → NoNumber read t.text.now t.at → maker.makes b [] c
+  pub number_stays : (m : Machine) (s t : ByteCursor n) (b c : B) (a : Axis) → m.state ≡ state_for a → Stays {N = N} (bytes_view feed) s t → IsDark feed t.text.now t.at → NoNumber read t.text.now t.at → maker.makes b [] c
       → Refuses read (bytes_view feed) maker m s b (record { source = t; machine = m; builder = c })
   number_stays m s t b c a at_a stays dark none nothing = record {
     taken = [];
@@ -153,7 +153,7 @@ module _ {N B : Type 0} (read : List ℕ → Option N) (maker : Maker N B) {n : 
   }
 
   -- the same, past white space
-  pub number_stays_at : (m : Machine) (s t : Bytes n) (b c : B) (a : Axis) (start : ℕ) → m.state ≡ state_for a → IsBetween feed s.text.now s.at start
+  pub number_stays_at : (m : Machine) (s t : ByteCursor n) (b c : B) (a : Axis) (start : ℕ) → m.state ≡ state_for a → IsBetween feed s.text.now s.at start
       → (Legible feed s.text.now s.at → Legible feed s.text.now start) → IsDark feed s.text.now start → NoNumber read s.text.now start → t.text ≡ s.text → t.at ≡ start → maker.makes b [] c
       → Refuses read (bytes_view feed) maker m s b (record { source = t; machine = m; builder = c })
   number_stays_at m s t b c a start at_a between further dark none text at nothing =
@@ -163,11 +163,11 @@ module _ {N B : Type 0} (read : List ℕ → Option N) (maker : Maker N B) {n : 
       (subst (λ x. IsDark feed x.now t.at) (sym text) (subst (IsDark feed s.text.now) (sym at) dark))
       (subst (λ x. NoNumber read x.now t.at) (sym text) (subst (NoNumber read s.text.now) (sym at) none)) nothing
 
-  sees_mark : (s : Bytes n) (l : Lexeme) → class_of (get_or s.text.now s.at 0) ≡ Mark l → seen_of l ≡ sight (remaining_spanned feed s.text.now s.at)
+  sees_mark : (s : ByteCursor n) (l : Lexeme) → class_of (get_or s.text.now s.at 0) ≡ Mark l → seen_of l ≡ sight (remaining_spanned feed s.text.now s.at)
   sees_mark s l mark = (bytes.sees_mark feed s.text.now s.at (get_or s.text.now s.at 0) l (seen_of l) refl mark refl).sees
 
   -- a comma, and then a coordinate
-  pub comma_goes : (m : Machine) (s t : Bytes n) (b c : B) → m.state ≡ next.X → has_coordinates m.part ≡ true → is_single m.part ≡ false → class_of (get_or s.text.now s.at 0) ≡ Mark Comma → t.text ≡ s.text → t.at ≡ s.at + 1
+  pub comma_goes : (m : Machine) (s t : ByteCursor n) (b c : B) → m.state ≡ next.X → has_coordinates m.part ≡ true → is_single m.part ≡ false → class_of (get_or s.text.now s.at 0) ≡ Mark Comma → t.text ≡ s.text → t.at ≡ s.at + 1
       → maker.makes b (Event.Comma m.part ∷ []) c → Goes read (bytes_view feed) maker (behind_item m) s b (record { source = t; machine = m; builder = c })
   comma_goes m s t b c at_x has more mark text to makes =
       let there : inside m.part m.dim m.depth ≡ state_of m = (holds m.part has).0 m.dim m.depth ∙ ap (λ x. at m.depth (place_of x m.part m.dim)) (sym at_x) in
@@ -175,25 +175,25 @@ module _ {N B : Type 0} (read : List ℕ → Option N) (maker : Maker N B) {n : 
       (several m.part m.dim m.depth more ∙ ap (λ x. Some (x, act.Comma m.part)) there) makes (subst (λ x. HasNext x m.dim) (sym at_x) tt)
 
   -- the parenthesis that closes the part
-  pub close_goes : (m k : Machine) (s t : Bytes n) (b c : B) → class_of (get_or s.text.now s.at 0) ≡ Mark Close → t.text ≡ s.text → t.at ≡ s.at + 1 → state_of k ≡ outside m.part m.dim m.depth → IsSound k
+  pub close_goes : (m k : Machine) (s t : ByteCursor n) (b c : B) → class_of (get_or s.text.now s.at 0) ≡ Mark Close → t.text ≡ s.text → t.at ≡ s.at + 1 → state_of k ≡ outside m.part m.dim m.depth → IsSound k
       → maker.makes b (Event.Close m.part ∷ []) c → Goes read (bytes_view feed) maker (behind_item m) s b (record { source = t; machine = k; builder = c })
   close_goes m k s t b c mark text to there sound makes =
       skipped read (bytes_view feed) maker (behind_item m) k s t b c (act.Close m.part) seen.Close (sees_mark s Close mark) (λ e. cc) (bytes.skips_mark feed s t Close mark text to)
       (ap (λ x. Some (x, act.Close m.part)) (sym there)) makes sound
 
   -- behind a coordinate the machine is at its item
-  from_item : (m : Machine) (a : At (Bytes n) B) (to : At (Bytes n) B) → a.machine ≡ behind_item m → Goes read (bytes_view feed) maker (behind_item m) a.source a.builder to → Goes read (bytes_view feed) maker a.machine a.source a.builder to
+  from_item : (m : Machine) (a : Progress (ByteCursor n) B) (to : Progress (ByteCursor n) B) → a.machine ≡ behind_item m → Goes read (bytes_view feed) maker (behind_item m) a.source a.builder to → Goes read (bytes_view feed) maker a.machine a.source a.builder to
   from_item m a to is h = subst (λ x. Goes read (bytes_view feed) maker x a.source a.builder to) (sym is) h
 
   -- a coordinate and the comma behind it
-  pub turn_goes : (m : Machine) (s t : Bytes n) (b d : B) (a : At (Bytes n) B) → Goes read (bytes_view feed) maker m s b a → a.machine ≡ behind_item m → m.state ≡ next.X → has_coordinates m.part ≡ true → is_single m.part ≡ false
+  pub turn_goes : (m : Machine) (s t : ByteCursor n) (b d : B) (a : Progress (ByteCursor n) B) → Goes read (bytes_view feed) maker m s b a → a.machine ≡ behind_item m → m.state ≡ next.X → has_coordinates m.part ≡ true → is_single m.part ≡ false
       → get_or a.source.text.now a.source.at 0 ≡ 44 → t.text ≡ a.source.text → t.at ≡ a.source.at + 1 → maker.makes a.builder (Event.Comma m.part ∷ []) d → Goes read (bytes_view feed) maker m s b (record { source = t; machine = m; builder = d })
   turn_goes m s t b d a way item at_x has more byte text to makes =
       goes_on_to read (bytes_view feed) maker m s b a (record { source = t; machine = m; builder = d }) way
       (from_item m a (record { source = t; machine = m; builder = d }) item (comma_goes m a.source t a.builder d at_x has more (ap class_of byte ∙ bytes.comma_mark) text to makes))
 
   -- a coordinate and the parenthesis behind it
-  pub last_goes : (m k : Machine) (s t : Bytes n) (b d : B) (a : At (Bytes n) B) → Goes read (bytes_view feed) maker m s b a → a.machine ≡ behind_item m
+  pub last_goes : (m k : Machine) (s t : ByteCursor n) (b d : B) (a : Progress (ByteCursor n) B) → Goes read (bytes_view feed) maker m s b a → a.machine ≡ behind_item m
       → get_or a.source.text.now a.source.at 0 ≡ 41 → t.text ≡ a.source.text → t.at ≡ a.source.at + 1 → state_of k ≡ outside m.part m.dim m.depth → IsSound k
       → maker.makes a.builder (Event.Close m.part ∷ []) d → Goes read (bytes_view feed) maker m s b (record { source = t; machine = k; builder = d })
   last_goes m k s t b d a way item byte text to there sound makes =
@@ -201,7 +201,7 @@ module _ {N B : Type 0} (read : List ℕ → Option N) (maker : Maker N B) {n : 
       (from_item m a (record { source = t; machine = k; builder = d }) item (close_goes m k a.source t a.builder d (ap class_of byte ∙ bytes.close_mark) text to there sound makes))
 
   -- behind a point of a multipoint: its parenthesis, and the comma and the parenthesis before the next point
-  pub member_goes : (m : Machine) (s t : Bytes n) (b c d e : B) (a : At (Bytes n) B) → Goes read (bytes_view feed) maker m s b a → a.machine ≡ behind_item m → m.state ≡ next.X → m.part ≡ part.Member → get_or a.source.text.now a.source.at 0 ≡ 41
+  pub member_goes : (m : Machine) (s t : ByteCursor n) (b c d e : B) (a : Progress (ByteCursor n) B) → Goes read (bytes_view feed) maker m s b a → a.machine ≡ behind_item m → m.state ≡ next.X → m.part ≡ part.Member → get_or a.source.text.now a.source.at 0 ≡ 41
       → get_or a.source.text.now (a.source.at + 1) 0 ≡ 44 → get_or a.source.text.now (a.source.at + 1 + 1) 0 ≡ 40 → t.text ≡ a.source.text → t.at ≡ a.source.at + 1 + 1 + 1
       → maker.makes a.builder (Event.Close m.part ∷ []) c → maker.makes c (Event.Comma part.MultiPoint ∷ []) d → maker.makes d (Event.Open part.Member ∷ []) e → Goes read (bytes_view feed) maker m s b (record { source = t; machine = m; builder = e })
   member_goes m s t b c d e a way item at_x member close comma opens text to closed parted opened =
@@ -218,7 +218,7 @@ module _ {N B : Type 0} (read : List ℕ → Option N) (maker : Maker N B) {n : 
       (skipped read (bytes_view feed) maker (before_member m) (before_number m) before_open t d e (act.Open part.Member) seen.Open (sees_mark before_open Open open_there) (λ e. cc) (bytes.skips_mark feed before_open t Open open_there text to) refl opened tt))
 
   -- fewer lexemes are left
-  pub goes_less : (m : Machine) (s : Bytes n) (b : B) (to : At (Bytes n) B) → Goes read (bytes_view feed) maker m s b to → length (remaining_spanned feed to.source.text.now to.source.at) < length (remaining_spanned feed s.text.now s.at)
+  pub goes_less : (m : Machine) (s : ByteCursor n) (b : B) (to : Progress (ByteCursor n) B) → Goes read (bytes_view feed) maker m s b to → length (remaining_spanned feed to.source.text.now to.source.at) < length (remaining_spanned feed s.text.now s.at)
   goes_less m s b to h =
       let count = ap length h.split ∙ length-append h.given (h.last ∷ remaining_spanned feed to.source.text.now to.source.at) in
       omega (arith, count)

@@ -15,13 +15,13 @@ use Rattle.wkt_machine.specs.View.{IsBetween, IsDark, IsUnmarked, seen_of, seen_
 use Rattle.wkt_sources.specs.Views.{Sees, IsLooked, bytes_view}
 use Rattle.wkt_machine.specs.Goes.{Stays, Skips, MakesOneNumber, IsUnread}
 use Rattle.wkt_machine.specs.Makers.{Maker, MakesNumber}
-use Rattle.wkt_sources.specs.declared.bytes.Bytes.{Bytes}
-use Rattle.wkt_machine.specs.declared.machine.Seen.{Seen}
+use Rattle.wkt_sources.specs.declared.bytes.ByteCursor.{ByteCursor}
+use Rattle.wkt_machine.specs.declared.machine.LexemeKind.{LexemeKind}
 use Rattle.wkt_machine.specs.declared.part.Axis.{Axis}
-use Rattle.wkt_machine.specs.declared.machine.Seen.TheVariants as seen
+use Rattle.wkt_machine.specs.declared.machine.LexemeKind.TheVariants as seen
 
 -- a place behind so many bytes
-abbrev pub past : {n : ℕ} → Bytes n → ℕ → Bytes n
+abbrev pub past : {n : ℕ} → ByteCursor n → ℕ → ByteCursor n
 past s k = record { text = s.text; at = s.at + k; end = s.at + k }
 
 -- the bytes of marks
@@ -88,10 +88,10 @@ sight_first (p ∷ ps) l rest e = let same : p.lexeme ≡ l = cc in ap seen_of s
 
 module _ (feed : Bool) (text : List ℕ) (at : ℕ) where
   -- a lexeme that is seen
-  pub sees_one : (l : Lexeme) (end : ℕ) (k : Seen) → TakesOne feed text at l end → k ≡ seen_of l → Sees feed text at k end
+  pub sees_one : (l : Lexeme) (end : ℕ) (k : LexemeKind) → TakesOne feed text at l end → k ≡ seen_of l → Sees feed text at k end
   sees_one l end k t is = record { sees = is ∙ sym (ap sight t.next); takes = λ some word. (l, t) }
 
-  pub sees_mark : (b : ℕ) (l : Lexeme) (k : Seen) → b ≡ get_or text at 0 → class_of b ≡ Mark l → k ≡ seen_of l → Sees feed text at k (at + 1)
+  pub sees_mark : (b : ℕ) (l : Lexeme) (k : LexemeKind) → b ≡ get_or text at 0 → class_of b ≡ Mark l → k ≡ seen_of l → Sees feed text at k (at + 1)
   sees_mark b l k is mark e = sees_one l (at + 1) k (takes-mark feed text at l (ap (class_in feed) (sym is) ∙ classes.mark-in feed b l mark)) e
 
   number_first : (more : List ℕ) → starts_number (get_or text at 0) ≡ true → seen_of (lexeme_of (get_or text at 0 ∷ more)) ≡ seen.Number
@@ -132,7 +132,7 @@ module _ (feed : Bool) (text : List ℕ) (at : ℕ) where
       subst (λ l. TakesOne feed text at l end) number (takes-run feed text at end e later)
 
   -- a run that is no number
-  pub sees_word : (end : ℕ) (k : Seen) → IsRunEnd text at end → end ≢ at → starts_number (get_or text at 0) ≡ false → k ≡ seen_word (kind_word (slice_range text at end)) (slice_range text at end) → Sees feed text at k end
+  pub sees_word : (end : ℕ) (k : LexemeKind) → IsRunEnd text at end → end ≢ at → starts_number (get_or text at 0) ≡ false → k ≡ seen_word (kind_word (slice_range text at end)) (slice_range text at end) → Sees feed text at k end
   sees_word end k e some starts is = sees_one (Word (slice_range text at end)) end k (takes_word end e some starts) is
 
   nul_there : (c : Class) → class_in feed (get_or text at 0) ≡ c → IsDark feed text at → IsUnmarked feed text at → class_of (get_or text at 0) ≢ Run → remaining_spanned feed text at ≡ []
@@ -167,7 +167,7 @@ module _ (feed : Bool) where
       let number : sight (remaining_spanned feed text at) ≡ seen.Number → ⊥ = λ e. let clash : seen.Other ≡ seen.Number = sym other ∙ e in cc in
       record { takes = λ some word. absurd (some other); inside = λ e. absurd (number e); dark = λ e. absurd (number e) }
 
-  pub looked_at : (text : List ℕ) (at end : ℕ) (k : Seen) → at ≤ length text → IsDark feed text at → Sees feed text at k end → IsLooked feed text at end
+  pub looked_at : (text : List ℕ) (at end : ℕ) (k : LexemeKind) → at ≤ length text → IsDark feed text at → Sees feed text at k end → IsLooked feed text at end
   looked_at text at end k inside dark sees = record {
     takes = λ some word. sees.takes (λ e. some (sym sees.sees ∙ e)) (λ e. word (sym sees.sees ∙ e));
     inside = λ e. inside;
@@ -191,7 +191,7 @@ between_more feed text from at to a b =
 -- What bytes do as a source.
 module _ {N : Type 0} {n : ℕ} (feed : Bool) where
   -- no lexeme stands before
-  pub stays_on : (s t : Bytes n) → s.text ≡ t.text → IsBetween feed s.text.now s.at t.at → (Legible feed s.text.now s.at → Legible feed t.text.now t.at) → Stays {N = N} (bytes_view feed) s t
+  pub stays_on : (s t : ByteCursor n) → s.text ≡ t.text → IsBetween feed s.text.now s.at t.at → (Legible feed s.text.now s.at → Legible feed t.text.now t.at) → Stays {N = N} (bytes_view feed) s t
   stays_on s t text between legible = record {
     remaining = ap (λ x. remaining_spanned feed x.now t.at) (sym text) ∙ sym between.same;
     behind = λ end k. subst (λ x. IsBetween feed x.now end t.at) text (between_more feed s.text.now end s.at t.at k between);
@@ -199,7 +199,7 @@ module _ {N : Type 0} {n : ℕ} (feed : Bool) where
   }
 
   -- a lexeme that stands there is taken
-  pub skips_lexeme : (s t : Bytes n) (l : Lexeme) → TakesOne feed s.text.now s.at l t.at → t.text ≡ s.text → Skips {N = N} (bytes_view feed) s t
+  pub skips_lexeme : (s t : ByteCursor n) (l : Lexeme) → TakesOne feed s.text.now s.at l t.at → t.text ≡ s.text → Skips {N = N} (bytes_view feed) s t
   skips_lexeme s t l takes text = record {
     lexeme = record { lexeme = l; end = t.at };
     remaining = takes.next ∙ ap (λ x. record { lexeme = l; end = t.at } ∷ remaining_spanned feed x.now t.at) (sym text);
@@ -208,18 +208,18 @@ module _ {N : Type 0} {n : ℕ} (feed : Bool) where
   }
 
   -- the lexeme that was looked at is taken
-  pub skips_to : (s t : Bytes n) → IsLooked feed s.text.now s.at s.end → sight (remaining_spanned feed s.text.now s.at) ≢ seen.Other → sight (remaining_spanned feed s.text.now s.at) ≢ seen.Number
+  pub skips_to : (s t : ByteCursor n) → IsLooked feed s.text.now s.at s.end → sight (remaining_spanned feed s.text.now s.at) ≢ seen.Other → sight (remaining_spanned feed s.text.now s.at) ≢ seen.Number
       → t.text ≡ s.text → t.at ≡ s.end → Skips {N = N} (bytes_view feed) s t
   skips_to s t looked some word text at =
       let (l, takes) = looked.takes some word in
       skips_lexeme s t l (subst (TakesOne feed s.text.now s.at l) (sym at) takes) text
 
-  pub skips_mark : (s t : Bytes n) (l : Lexeme) → class_of (get_or s.text.now s.at 0) ≡ Mark l → t.text ≡ s.text → t.at ≡ s.at + 1 → Skips {N = N} (bytes_view feed) s t
+  pub skips_mark : (s t : ByteCursor n) (l : Lexeme) → class_of (get_or s.text.now s.at 0) ≡ Mark l → t.text ≡ s.text → t.at ≡ s.at + 1 → Skips {N = N} (bytes_view feed) s t
   skips_mark s t l mark text at =
       skips_lexeme s t l (subst (TakesOne feed s.text.now s.at l) (sym at) (takes-mark feed s.text.now s.at l (classes.mark-in feed (get_or s.text.now s.at 0) l mark))) text
 
   -- A number is taken, and made. White space may stand before it.
-  pub numbers_after : {B : Type 0} (read : List ℕ → Option N) (maker : Maker N B) (s t : Bytes n) (b c : B) (axis : Axis) (at : ℕ) → remaining_spanned feed s.text.now s.at ≡ remaining_spanned feed s.text.now at → (Legible feed s.text.now s.at → Legible feed s.text.now at)
+  pub numbers_after : {B : Type 0} (read : List ℕ → Option N) (maker : Maker N B) (s t : ByteCursor n) (b c : B) (axis : Axis) (at : ℕ) → remaining_spanned feed s.text.now s.at ≡ remaining_spanned feed s.text.now at → (Legible feed s.text.now s.at → Legible feed s.text.now at)
       → MakesNumber read maker b s.text.now at axis c t.at → t.text ≡ s.text → MakesOneNumber read (bytes_view feed) maker s b axis t c
   numbers_after read maker s t b c axis at same further h text =
       let takes = takes-number read feed s.text.now at t.at h.number h.there in
@@ -235,5 +235,5 @@ module _ {N : Type 0} {n : ℕ} (feed : Bool) where
       }
 
 -- At the beginning of a whole text all its lexemes are left.
-pub whole_left : {n : ℕ} (text : List ℕ) (s : Bytes n) → s.text.now ≡ text → s.at ≡ 0 → remaining_spanned false s.text.now s.at ≡ spanned text
+pub whole_left : {n : ℕ} (text : List ℕ) (s : ByteCursor n) → s.text.now ≡ text → s.at ≡ 0 → remaining_spanned false s.text.now s.at ≡ spanned text
 whole_left text s is at = ap (λ t. remaining_spanned false t s.at) is ∙ ap (remaining_spanned false text) at ∙ remaining-all text

@@ -17,7 +17,7 @@ use Rattle.wkt_machine.specs.Goes.{GoesFrom, RefusesFrom, IsStuck}
 use Rattle.wkt_machine.specs.Machines.{state_of}
 use Rattle.wkt_machine.specs.Makers.{Maker}
 use Rattle.wkt_machine.specs.View.{View}
-use Rattle.wkt_machine.specs.declared.source.At.{At}
+use Rattle.wkt_machine.specs.declared.source.Progress.{Progress}
 use Rattle.wkt_machine.proofs.Complete.{value_run}
 use Rattle.wkt_machine.proofs.WholeRuns.{exact, goes_on, front_run, stuck, no_front}
 use Rattle.wkt_sources.specs.Taken.{MachineRefuses, TakesValue}
@@ -50,7 +50,7 @@ module _ {N : Type 0} (read : List ℕ → Option N) where
           let (q, r, first, later, cut) = front_run read (before ++ (fault ∷ [])) m start (at 0 place.Geometry, events v ++ []) whole in
           let clash : ◌≡◌ {A = Option (Move N)} None (Some q) = sym (stuck read before fault s es e o stops) ∙ first in cc
 
-  module _ {S B : Type 0} (view : View N S) (maker : Maker N B) (text : List ℕ) (s : S) (b : B) (to : At S B) (begins : view.remaining s ≡ spanned text) where
+  module _ {S B : Type 0} (view : View N S) (maker : Maker N B) (text : List ℕ) (s : S) (b : B) (to : Progress S B) (begins : view.remaining s ≡ spanned text) where
     -- a front, and what was made of it
     pub front_made : (at : ℕ) → ((end : ℕ) → view.place to.source end → at ≡ end) → GoesFrom read view maker s b to → is_over (state_of to.machine) ≡ true → (v : Value N) × Front read text v at × maker.makes b (events v) to.builder
     front_made at ends (m, from, h) o =
@@ -88,7 +88,7 @@ module _ {N : Type 0} (read : List ℕ → Option N) where
 
 -- What the machine took off a source.
 
-module _ {N S B : Type 0} (read : List ℕ → Option N) (view : View N S) (maker : Maker N B) (s : S) (b : B) (to : At S B) where
+module _ {N S B : Type 0} (read : List ℕ → Option N) (view : View N S) (maker : Maker N B) (s : S) (b : B) (to : Progress S B) where
   -- the value that stands there, whose events were made
   pub taken : GoesFrom read view maker s b to → is_over (state_of to.machine) ≡ true → (v : Value N) × TakesValue read view s v to.source × maker.makes b (events v) to.builder
   taken (m, from, h) o =
@@ -137,7 +137,7 @@ module _ {N S : Type 0} (read : List ℕ → Option N) (view : View N S) (text :
   -- no front where the machine stops
   pub no_front_refused : (j : view.Known) → view.keeps s j → (m : Machine) (t : S) → MachineRefuses read view s m t → HasNoFront read text
   no_front_refused j keeps m t h =
-      let to : At S (Unit {0}) = record { source = t; machine = m; builder = tt } in
+      let to : Progress S (Unit {0}) = record { source = t; machine = m; builder = tt } in
       no_front_there read view made_none text s tt to begins j keeps (
         begin,
         refl,

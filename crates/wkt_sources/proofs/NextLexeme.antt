@@ -26,9 +26,9 @@ use Rattle.wkt_events.proofs.RemainingLexemes.{takes-after, takes-remaining, tak
 use Rattle.wkt_events.proofs.RemainingLexemes as classes
 use Rattle.wkt_machine.specs.View.{IsDark, IsUnmarked}
 use Rattle.wkt_sources.specs.LexemesAhead.{ShowsLexeme, GivesNext}
-use Rattle.wkt_sources.specs.declared.message.Given.{Given}
+use Rattle.wkt_sources.specs.declared.message.NextLexeme.{NextLexeme}
 use Rattle.wkt_sources.proofs.ByteViews.{none_left, none_unread, number_run, takes_word, takes_digits}
-use Rattle.wkt_sources.specs.declared.message.Given.TheVariants as given
+use Rattle.wkt_sources.specs.declared.message.NextLexeme.TheVariants as given
 
 -- A number that isn't read, where a number may stand.
 
@@ -106,12 +106,12 @@ module _ {N : Type 0} (read : List ℕ → Option N) where
 -- What is seen of the lexeme that comes next, and the messages that go by it.
 
 module _ {N : Type 0} (read : List ℕ → Option N) (text : List ℕ) where
-  pub gives_mark : (from at b : ℕ) (l : Lexeme) (g : Given) → from ≤ at → remaining_spanned false text from ≡ remaining_spanned false text at → b ≡ get_or text at 0 → class_of b ≡ Mark l → ShowsLexeme read g l → GivesNext read text from (Some (g, at + 1))
+  pub gives_mark : (from at b : ℕ) (l : Lexeme) (g : NextLexeme) → from ≤ at → remaining_spanned false text from ≡ remaining_spanned false text at → b ≡ get_or text at 0 → class_of b ≡ Mark l → ShowsLexeme read g l → GivesNext read text from (Some (g, at + 1))
   gives_mark from at b l g order same is mark shows =
       (l, takes-after false text from at l (at + 1) order same (takes-mark false text at l (ap (class_in false) (sym is) ∙ classes.mark-in false b l mark)), shows)
 
   -- white space stands before it
-  pub gives_after : (from at : ℕ) → from ≤ at → remaining_spanned false text from ≡ remaining_spanned false text at → (o : Option (Given × ℕ)) → GivesNext read text at o → GivesNext read text from o
+  pub gives_after : (from at : ℕ) → from ≤ at → remaining_spanned false text from ≡ remaining_spanned false text at → (o : Option (NextLexeme × ℕ)) → GivesNext read text at o → GivesNext read text from o
   gives_after from at order same None h = same ∙ h
   gives_after from at order same (Some g) (l, takes, shows) = (l, takes-after false text from at l g.1 order same takes, shows)
 

@@ -20,7 +20,7 @@ use Rattle.wkt_read.proofs.Splits.{split_one}
 use Rattle.wkt_read.proofs.Refusals.{one-text, message_none}
 use Rattle.wkt_machine.specs.Machine.{start, is_over, Move, and_then, after, move, run, State}
 use Rattle.wkt_machine.specs.Events.{Event}
-use Rattle.wkt_machine.specs.Refusing.{expected_at, own, refused}
+use Rattle.wkt_machine.specs.Refusing.{expected_at, open_parens, refused}
 use Rattle.wkt_machine.proofs.ContextOfPlace.{turn}
 use Rattle.wkt_machine.proofs.WholeRuns.{one_place, one_left, exact, goes_on, refuses, run_append}
 use Rattle.wkt_read.proofs.OneExpected.{one_expected}
@@ -37,7 +37,7 @@ use Rattle.wkt_sources.specs.Views.{bytes_view}
 use Rattle.wkt_machine.specs.Goes.{IsStuck, StopsAt}
 use Rattle.wkt_machine.specs.Machines.{state_of}
 use Rattle.wkt_sources.specs.Taken.{MachineRefuses}
-use Rattle.wkt_sources.specs.declared.bytes.Bytes.{Bytes}
+use Rattle.wkt_sources.specs.declared.bytes.ByteCursor.{ByteCursor}
 use Rattle.wkt_machine.specs.declared.machine.Machine.{Machine}
 use Rattle.wkt_sources.proofs.ByteViews.{whole_left}
 use Rattle.wkt_machine.proofs.WaysJoin.{lexemes_append}
@@ -61,7 +61,7 @@ module _ {N : Type 0} (read : List ℕ → Option N) where
       before = before;
       there = there;
       expected = expected_at s.place s.depth;
-      parens = own s.place + s.depth;
+      parens = open_parens s.place + s.depth;
       split = split;
       stops = stops there stuck;
       could_stand = expected_after read before s es ran o;
@@ -224,9 +224,9 @@ module _ {N : Type 0} (read : List ℕ → Option N) (text : List ℕ) where
         let (more, is) = taken_begin text front.rest front.lexemes front.taken in
         message_none read ls (refused read (state_of m) (remaining false text at)).0 after h front.lexemes more v (split_one text ls (front.lexemes ++ more) split is) front.reads
 
-  module _ {n : ℕ} (s : Bytes n) (same : s.text.now ≡ text) (begins : s.at ≡ 0) (utf8 : IsUtf8 text) where
+  module _ {n : ℕ} (s : ByteCursor n) (same : s.text.now ≡ text) (begins : s.at ≡ 0) (utf8 : IsUtf8 text) where
     -- where a source that begins with the text is refused
-    pub stops_there : (t : Bytes n) (m : Machine) → MachineRefuses read (bytes_view false) s m t → StopsAt read text m t.at
+    pub stops_there : (t : ByteCursor n) (m : Machine) → MachineRefuses read (bytes_view false) s m t → StopsAt read text m t.at
     stops_there t m h =
         let legible : Legible false s.text.now s.at = (subst IsUtf8 (sym same) utf8, omega (arith, begins)) in
         let (kept, there) = h.keeps text (same, legible) in

@@ -4,20 +4,20 @@ use Rattle.std.specs.Prelude.{ℕ, List, Option, Some, None, ◌≡◌, ◌≢�
 use Rattle.std.specs.Borrow.{MutBor}
 use Rattle.wkt_num.specs.Bytes.{Lexeme}
 use Rattle.wkt_read.specs.Spanned.{Standing}
-use Rattle.wkt_machine.specs.declared.machine.Seen.{Seen}
-use Rattle.wkt_machine.specs.declared.machine.Seen.TheVariants as seen
+use Rattle.wkt_machine.specs.declared.machine.LexemeKind.{LexemeKind}
+use Rattle.wkt_machine.specs.declared.machine.LexemeKind.TheVariants as seen
 use Rattle.wkt_events.specs.Remaining.{Legible, remaining_spanned, TakesOne}
-use Rattle.wkt_sources.specs.declared.bytes.Bytes.{Bytes}
+use Rattle.wkt_sources.specs.declared.bytes.ByteCursor.{ByteCursor}
 use Rattle.wkt_machine.specs.declared.part.Part.{Part}
 use Rattle.wkt_machine.specs.declared.part.Part.TheVariants as part
-use Rattle.wkt_sources.specs.declared.tokens.OneByOne.{OneByOne}
+use Rattle.wkt_sources.specs.declared.tokens.TokenSource.{TokenSource}
 use Rattle.wkt_machine.specs.View.{View, IsBetween, IsDark, between_none, seen_of, sight}
 use Rattle.wkt_read.specs.Stream as ahead
 
 -- What is known of bytes as a source.
 
 -- The lexeme that comes next is seen so, and it ends there, unless it is a number.
-pub record Sees (feed : Bool) (text : List ℕ) (at : ℕ) (k : Seen) (end : ℕ) : Type 0 where
+pub record Sees (feed : Bool) (text : List ℕ) (at : ℕ) (k : LexemeKind) (end : ℕ) : Type 0 where
   pub sees : k ≡ sight (remaining_spanned feed text at)
   pub takes : k ≢ seen.Other → k ≢ seen.Number → (l : Lexeme) × TakesOne feed text at l end
 
@@ -28,7 +28,7 @@ pub record IsLooked (feed : Bool) (text : List ℕ) (at end : ℕ) : Type 0 wher
   pub dark : sight (remaining_spanned feed text at) ≡ seen.Number → IsDark feed text at
 
 -- It stays the same text. A number that is left is a text where the text's line is.
-abbrev pub bytes_view : {N : Type 0} {n : ℕ} → Bool → View N (Bytes n)
+abbrev pub bytes_view : {N : Type 0} {n : ℕ} → Bool → View N (ByteCursor n)
 bytes_view feed = record {
   remaining = λ s. remaining_spanned feed s.text.now s.at;
   place = λ s end. s.at ≡ end;
@@ -54,16 +54,16 @@ has_coordinates p = false
 -- What is known of tokens as a source.
 
 -- a lexeme of the tokenizer, as the machine sees it, or the end of the text
-abbrev pub seen_found : Option Lexeme → Seen
+abbrev pub seen_found : Option Lexeme → LexemeKind
 seen_found None = seen.Other
 seen_found (Some l) = seen_of l
 
 -- the tokens that are lent
-abbrev pub tokens_of : {T : Type 0} → OneByOne T → MutBor Standing
+abbrev pub tokens_of : {T : Type 0} → TokenSource T → MutBor Standing
 tokens_of s = s.tokens
 
 -- No byte is passed that isn't a part of a lexeme that was taken, but for one.
-abbrev pub tokens_view : {T : Type 0} → (List ℕ → Option T) → View T (OneByOne T)
+abbrev pub tokens_view : {T : Type 0} → (List ℕ → Option T) → View T (TokenSource T)
 tokens_view read = record {
   remaining = λ s. ahead.remaining s.tokens.now;
   place = λ s end. (ahead.end_of s.tokens.now ≡ end) × ahead.IsNear s.tokens.now;

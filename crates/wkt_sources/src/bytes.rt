@@ -7,84 +7,84 @@ ghost use Rattle.wkt_sources.specs.Views.{Sees};
 use crate::coordinates::{coordinates, has_coordinates};
 use crate::header::header;
 use wkt_events::{begins_number, byte_at, run_end, skip_white};
-use wkt_machine::{Axis, Builder, Machine, Seen, Source, Walk, Walked};
+use wkt_machine::{Axis, Builder, FastSource, LexemeKind, Machine, Source, StepResult};
 use wkt_num::WktNum;
 use wkt_read::words::{dimension_in, is_empty_in, kind_in};
 
 /// A place in the bytes of a text. The text ends at its first NUL or with its last byte; where `FEED_ENDS`, at LF too,
 /// which else is white space.
 #[derive(Clone, Copy)]
-pub struct Bytes<'a, const FEED_ENDS: bool> {
+pub struct ByteCursor<'a, const FEED_ENDS: bool> {
     pub text: &'a [u8],
     pub at: usize,
     // Where the lexeme ends that was looked at, unless it is a number.
     end: usize,
 }
 
-impl<'a, const FEED_ENDS: bool> Bytes<'a, FEED_ENDS> {
+impl<'a, const FEED_ENDS: bool> ByteCursor<'a, FEED_ENDS> {
     #[inline(always)]
     pub fn new(text: &'a [u8], at: usize) -> Self
         ensures text { result.text ≡ text.entry }
         ensures at { result.at ≡ at }
     {
-        Bytes { text, at, end: at }
+        ByteCursor { text, at, end: at }
     }
 }
 
 /// The lexeme that stands there, and where it ends, unless it is a number.
 #[inline(always)]
-fn lexeme_at<const FEED_ENDS: bool>(text: &[u8], at: usize) -> (Seen, usize)
+fn lexeme_at<const FEED_ENDS: bool>(text: &[u8], at: usize) -> (LexemeKind, usize)
     requires inside { at ≤ length text.now }
     requires dark { IsDark FEED_ENDS text.now at }
     ensures { Sees FEED_ENDS text.now at result.0 result.1 }
 {
     let byte = byte_at(text, at);
     if byte == b'(' {
-        return (Seen::Open, at + 1);
+        return (LexemeKind::Open, at + 1);
     }
     if byte == b')' {
-        return (Seen::Close, at + 1);
+        return (LexemeKind::Close, at + 1);
     }
     if byte == b',' {
-        return (Seen::Comma, at + 1);
+        return (LexemeKind::Comma, at + 1);
     }
     run_at::<FEED_ENDS>(text, at)
 }
 
 /// The lexeme that stands there where no mark does, and where it ends, unless it is a number.
 #[inline(always)]
-fn run_at<const FEED_ENDS: bool>(text: &[u8], at: usize) -> (Seen, usize)
+fn run_at<const FEED_ENDS: bool>(text: &[u8], at: usize) -> (LexemeKind, usize)
     requires inside { at ≤ length text.now }
     requires dark { IsDark FEED_ENDS text.now at }
     requires unmarked { IsUnmarked FEED_ENDS text.now at }
     ensures { Sees FEED_ENDS text.now at result.0 result.1 }
 {
     if begins_number(byte_at(text, at)) {
-        return (Seen::Number, at);
+        return (LexemeKind::Number, at);
     }
     let end = run_end(text, at);
     if end == at {
-        return (Seen::Other, at);
+        return (LexemeKind::Other, at);
     }
     (seen_word(&text[at..end]), end)
 }
 
 /// A word.
 #[inline(never)]
-pub(crate) fn seen_word(word: &[u8]) -> Seen
+pub(crate) fn seen_word(word: &[u8]) -> LexemeKind
     ensures { result ≡ seen_word (kind_word word.now) word.now }
 {
     match kind_in(word) {
-        Some((kind, dim)) => Seen::Kind(kind, dim),
+        Some((kind, dim)) => LexemeKind::Kind(kind, dim),
         None => match dimension_in(word) {
-            Some(dim) => Seen::Dimension(dim),
-            None if is_empty_in(word) => Seen::Empty,
-            None => Seen::Other,
+            Some(dim) => LexemeKind::Dimension(dim),
+            None if is_empty_in(word) => LexemeKind::Empty,
+            None => LexemeKind::Other,
         },
     }
 }
 
-impl<'a, T: WktNum, const FEED_ENDS: bool> Source<T> for Bytes<'a, FEED_ENDS> {
+impl<'a, T: WktNum, const FEED_ENDS: bool> Source<T> for ByteCursor<'a, FEED_ENDS> {
     ghost use Rattle.wkt_sources.specs.Views.{bytes_view};
 
     ghost view = { bytes_view FEED_ENDS };
@@ -92,26 +92,26 @@ impl<'a, T: WktNum, const FEED_ENDS: bool> Source<T> for Bytes<'a, FEED_ENDS> {
     ghost by_type = { λ never. absurd never };
 
     #[inline(always)]
-    fn look(self) -> (Seen, Self) {
+    fn look(self) -> (LexemeKind, Self) {
         let text = self.text;
         if self.at >= text.len() {
-            return (Seen::Other, self);
+            return (LexemeKind::Other, self);
         }
         let at = skip_white::<FEED_ENDS>(text, self.at);
         let (seen, end) = lexeme_at::<FEED_ENDS>(text, at);
-        (seen, Bytes { text, at, end })
+        (seen, ByteCursor { text, at, end })
     }
 
     #[inline(always)]
     fn skip(self) -> Self {
-        Bytes::new(self.text, self.end)
+        ByteCursor::new(self.text, self.end)
     }
 
     #[inline(always)]
     fn number<B: Builder<T>>(self, builder: B, axis: Axis) -> Result<(Self, B), (Self, B)> {
         let (made, end) = builder.number_in(self.text, self.at, axis);
         match end {
-            Some(end) => Ok((Bytes::new(self.text, end), made)),
+            Some(end) => Ok((ByteCursor::new(self.text, end), made)),
             None => Err((self, made)),
         }
     }
@@ -120,15 +120,15 @@ impl<'a, T: WktNum, const FEED_ENDS: bool> Source<T> for Bytes<'a, FEED_ENDS> {
     fn bare<B: Builder<T>>(self, builder: B) -> Result<(Self, B), (Self, B)> {
         let (made, end) = builder.bare_in(self.text, self.at);
         match end {
-            Some(end) => Ok((Bytes::new(self.text, end), made)),
+            Some(end) => Ok((ByteCursor::new(self.text, end), made)),
             None => Err((self, made)),
         }
     }
 }
 
-impl<'a, T: WktNum, const FEED_ENDS: bool> Walk<T> for Bytes<'a, FEED_ENDS> {
+impl<'a, T: WktNum, const FEED_ENDS: bool> FastSource<T> for ByteCursor<'a, FEED_ENDS> {
     #[inline(always)]
-    fn header<B: Builder<T>>(self, machine: Machine, builder: B) -> Walked<Self, B> {
+    fn header<B: Builder<T>>(self, machine: Machine, builder: B) -> StepResult<Self, B> {
         if self.at > self.text.len() {
             return machine.step(self, builder);
         }
@@ -136,7 +136,7 @@ impl<'a, T: WktNum, const FEED_ENDS: bool> Walk<T> for Bytes<'a, FEED_ENDS> {
     }
 
     #[inline(always)]
-    fn first<B: Builder<T>>(self, machine: Machine, builder: B) -> Walked<Self, B> {
+    fn first<B: Builder<T>>(self, machine: Machine, builder: B) -> StepResult<Self, B> {
         if self.at > self.text.len() {
             return machine.step(self, builder);
         }
@@ -145,7 +145,7 @@ impl<'a, T: WktNum, const FEED_ENDS: bool> Walk<T> for Bytes<'a, FEED_ENDS> {
 
     #[inline(always)]
     #[tactic(auto, using(wkt_machine::proofs::StepsJoin::rest_room))]
-    fn coordinates<B: Builder<T>>(self, machine: Machine, builder: B) -> Walked<Self, B> {
+    fn coordinates<B: Builder<T>>(self, machine: Machine, builder: B) -> StepResult<Self, B> {
         // A point without parentheses ends with its coordinate.
         if self.at > self.text.len() || !has_coordinates(machine.part) {
             return machine.step(self, builder);

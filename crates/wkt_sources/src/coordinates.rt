@@ -11,12 +11,12 @@ ghost use Rattle.wkt_machine.specs.declared.part.Axis.TheVariants as axis;
 ghost use Rattle.wkt_machine.specs.declared.part.Part.TheVariants as part_of;
 ghost use Rattle.wkt_access.specs.declared.dimensions.Dimension.TheVariants as dim_of;
 
-use crate::bytes::Bytes;
+use crate::bytes::ByteCursor;
 use wkt_access::Dimension;
 use wkt_events::{byte_at, skip_white};
 use wkt_machine::machine::is_single;
 use wkt_machine::step::{on, refused};
-use wkt_machine::{At, Axis, Builder, Machine, Part, State, Walked};
+use wkt_machine::{Axis, Builder, Machine, Part, Progress, State, StepResult};
 use wkt_num::WktNum;
 
 /// Whether coordinates stand in the parentheses of a part.
@@ -34,9 +34,9 @@ pub(crate) fn has_coordinates(part: Part) -> bool
 #[inline(always)]
 pub(crate) fn coordinates<'a, T: WktNum, B: Builder<T>, const FEED_ENDS: bool>(
     machine: Machine,
-    source: Bytes<'a, FEED_ENDS>,
+    source: ByteCursor<'a, FEED_ENDS>,
     builder: B,
-) -> Walked<Bytes<'a, FEED_ENDS>, B>
+) -> StepResult<ByteCursor<'a, FEED_ENDS>, B>
     requires state { machine.state ≡ next.X }
     requires part { has_coordinates machine.part ≡ true }
     requires inside { source.at ≤ length source.text.now }
@@ -53,9 +53,9 @@ pub(crate) fn coordinates<'a, T: WktNum, B: Builder<T>, const FEED_ENDS: bool>(
 #[inline(always)]
 fn coordinates_of<'a, T: WktNum, B: Builder<T>, const FEED_ENDS: bool, const IS_FLAT: bool>(
     machine: Machine,
-    source: Bytes<'a, FEED_ENDS>,
+    source: ByteCursor<'a, FEED_ENDS>,
     builder: B,
-) -> Walked<Bytes<'a, FEED_ENDS>, B>
+) -> StepResult<ByteCursor<'a, FEED_ENDS>, B>
     requires state { machine.state ≡ next.X }
     requires part { has_coordinates machine.part ≡ true }
     requires flat { OnTrue IS_FLAT (machine.dim ≡ dim_of.XY) }
@@ -71,7 +71,7 @@ fn coordinates_of<'a, T: WktNum, B: Builder<T>, const FEED_ENDS: bool, const IS_
             machine, source, builder,
         );
         if !is_whole {
-            return refused(behind, machine.to(state), made);
+            return refused(behind, machine.with_state(state), made);
         }
         let text = behind.text;
         let byte = byte_at(text, behind.at);
@@ -79,15 +79,15 @@ fn coordinates_of<'a, T: WktNum, B: Builder<T>, const FEED_ENDS: bool, const IS_
             let end = behind.at + 1;
             let closed = made.close(machine.part);
             if !is_next_member(machine.part, text, end) {
-                return on(Bytes::new(text, end), machine.outside(), closed);
+                return on(ByteCursor::new(text, end), machine.outside(), closed);
             }
-            source = Bytes::new(text, end + 2);
+            source = ByteCursor::new(text, end + 2);
             builder = closed.comma(Part::MultiPoint).open(Part::Member);
         } else {
             if byte != b',' || single {
-                return on(behind, machine.to(State::Item), made);
+                return on(behind, machine.with_state(State::Item), made);
             }
-            source = Bytes::new(text, behind.at + 1);
+            source = ByteCursor::new(text, behind.at + 1);
             builder = made.comma(machine.part);
         }
     }
@@ -108,9 +108,9 @@ fn is_next_member(part: Part, text: &[u8], at: usize) -> bool
 #[inline(always)]
 fn deep_coordinates<'a, T: WktNum, B: Builder<T>, const FEED_ENDS: bool>(
     machine: Machine,
-    source: Bytes<'a, FEED_ENDS>,
+    source: ByteCursor<'a, FEED_ENDS>,
     builder: B,
-) -> Walked<Bytes<'a, FEED_ENDS>, B>
+) -> StepResult<ByteCursor<'a, FEED_ENDS>, B>
     requires state { machine.state ≡ next.X }
     requires part { has_coordinates machine.part ≡ true }
     requires more { machine.dim ≢ dim_of.XY }
@@ -124,9 +124,9 @@ fn deep_coordinates<'a, T: WktNum, B: Builder<T>, const FEED_ENDS: bool>(
 #[inline(never)]
 fn deep_coordinates_outlined<'a, T: WktNum, B: Builder<T>, const FEED_ENDS: bool>(
     machine: Machine,
-    source: Bytes<'a, FEED_ENDS>,
+    source: ByteCursor<'a, FEED_ENDS>,
     builder: B,
-) -> Walked<Bytes<'a, FEED_ENDS>, B>
+) -> StepResult<ByteCursor<'a, FEED_ENDS>, B>
     requires state { machine.state ≡ next.X }
     requires part { has_coordinates machine.part ≡ true }
     requires more { machine.dim ≢ dim_of.XY }
@@ -143,9 +143,9 @@ fn deep_coordinates_outlined<'a, T: WktNum, B: Builder<T>, const FEED_ENDS: bool
 #[inline(always)]
 fn coordinate<'a, T: WktNum, B: Builder<T>, const FEED_ENDS: bool, const IS_FLAT: bool>(
     machine: Machine,
-    source: Bytes<'a, FEED_ENDS>,
+    source: ByteCursor<'a, FEED_ENDS>,
     builder: B,
-) -> (bool, State, Bytes<'a, FEED_ENDS>, B)
+) -> (bool, State, ByteCursor<'a, FEED_ENDS>, B)
     requires state { machine.state ≡ next.X }
     requires part { has_coordinates machine.part ≡ true }
     requires flat { OnTrue IS_FLAT (machine.dim ≡ dim_of.XY) }
@@ -175,9 +175,9 @@ fn coordinate<'a, T: WktNum, B: Builder<T>, const FEED_ENDS: bool, const IS_FLAT
 #[inline]
 fn z_and_m<'a, T: WktNum, B: Builder<T>, const FEED_ENDS: bool>(
     machine: Machine,
-    source: Bytes<'a, FEED_ENDS>,
+    source: ByteCursor<'a, FEED_ENDS>,
     builder: B,
-) -> (bool, State, Bytes<'a, FEED_ENDS>, B)
+) -> (bool, State, ByteCursor<'a, FEED_ENDS>, B)
     requires part { has_coordinates machine.part ≡ true }
     requires more { machine.dim ≢ dim_of.XY }
     requires inside { source.at ≤ length source.text.now }
@@ -229,9 +229,9 @@ fn z_and_m<'a, T: WktNum, B: Builder<T>, const FEED_ENDS: bool>(
 fn number<'a, T: WktNum, B: Builder<T>, const FEED_ENDS: bool>(
     axis: Axis,
     machine: Machine,
-    source: Bytes<'a, FEED_ENDS>,
+    source: ByteCursor<'a, FEED_ENDS>,
     builder: B,
-) -> (bool, Bytes<'a, FEED_ENDS>, B)
+) -> (bool, ByteCursor<'a, FEED_ENDS>, B)
     requires sound { HasNext (state_for axis) machine.dim }
     requires part { has_coordinates machine.part ≡ true }
     requires inside { source.at ≤ length source.text.now }
@@ -247,7 +247,7 @@ fn number<'a, T: WktNum, B: Builder<T>, const FEED_ENDS: bool>(
     let at = skip_white::<FEED_ENDS>(text, source.at);
     let (made, end) = builder.number_in(text, at, axis);
     match end {
-        Some(end) => (true, Bytes::new(text, end), made),
-        None => (false, Bytes::new(text, at), made),
+        Some(end) => (true, ByteCursor::new(text, end), made),
+        None => (false, ByteCursor::new(text, at), made),
     }
 }

@@ -4,9 +4,9 @@ ghost use Rattle.std.specs.Str.{IsCharBoundary};
 ghost use Rattle.wkt_read.specs.Front.{HasNoFront};
 ghost use Rattle.wkt_read.specs.Explained.{EndsFront};
 
-use crate::bytes::Bytes;
-use crate::tokens::OneByOne;
-use wkt_machine::Nothing;
+use crate::bytes::ByteCursor;
+use crate::tokens::TokenSource;
+use wkt_machine::NullBuilder;
 use wkt_machine::drive::drive;
 use wkt_num::{OfType, WktNum};
 use wkt_read::{PeekableTokens, Tokens};
@@ -19,11 +19,11 @@ pub fn front_end<T: WktNum>(text: &str) -> Option<usize>
     ensures within { IfSome result (λ end. end ≤ length text.now) }
     ensures boundary { IfSome result (λ end. IsCharBoundary text.now end) }
 {
-    let source = Bytes::<'_, false>::new(text.as_bytes(), 0);
-    let nothing = Nothing {
+    let source = ByteCursor::<'_, false>::new(text.as_bytes(), 0);
+    let nothing = NullBuilder {
         numbers: OfType::<T>::new(),
     };
-    match drive::<T, Bytes<'_, false>, Nothing<OfType<T>>>(source, nothing) {
+    match drive::<T, ByteCursor<'_, false>, NullBuilder<OfType<T>>>(source, nothing) {
         Ok(over) => Some(over.source.at),
         Err(_) => None,
     }
@@ -37,11 +37,11 @@ pub fn front_end_by_tokens<T: WktNum>(text: &str) -> Option<usize>
     ensures boundary { IfSome result (λ end. IsCharBoundary text.now end) }
 {
     let mut tokens = PeekableTokens::<T>::new(Tokens::<T>::from_str(text));
-    let source = OneByOne::<'_, '_, T>::new(&mut tokens);
-    let nothing = Nothing {
+    let source = TokenSource::<'_, '_, T>::new(&mut tokens);
+    let nothing = NullBuilder {
         numbers: OfType::<T>::new(),
     };
-    match drive::<T, OneByOne<'_, '_, T>, Nothing<OfType<T>>>(source, nothing) {
+    match drive::<T, TokenSource<'_, '_, T>, NullBuilder<OfType<T>>>(source, nothing) {
         Ok(over) => Some(over.source.into_tokens().end()),
         Err(_) => None,
     }

@@ -11,16 +11,16 @@ ghost use Rattle.wkt_machine.specs.Goes.{Goes};
 ghost use Rattle.wkt_sources.specs.LexemesAhead.{IsKindName, StandsHead, StandsHeader, EndsKind, EndsDimension};
 ghost use Rattle.wkt_machine.specs.Room.{RoomAt};
 ghost use Rattle.wkt_machine.specs.Steps.{MayStep, Steps};
-ghost use Rattle.wkt_sources.specs.declared.header.Then.TheVariants as then;
+ghost use Rattle.wkt_sources.specs.declared.header.AfterHeader.TheVariants as then;
 ghost use Rattle.wkt_machine.specs.declared.machine.State.TheVariants as next;
 
-use crate::bytes::Bytes;
+use crate::bytes::ByteCursor;
 use crate::coordinates::{coordinates, has_coordinates};
 use wkt_access::Dimension;
 use wkt_events::{byte_at, is_of_run, skip_white};
 use wkt_machine::machine::part_of;
 use wkt_machine::step::on;
-use wkt_machine::{At, Builder, Machine, Part, State, Walked};
+use wkt_machine::{Builder, Machine, Part, Progress, State, StepResult};
 use wkt_num::WktNum;
 use wkt_read::words::{dimension_front, is_empty_in, kind_front};
 
@@ -39,7 +39,7 @@ const COLLECTI: u64 = 0x4954_4345_4c4c_4f43;
 
 /// What stands behind the words of a header.
 #[derive(Clone, Copy)]
-pub(crate) enum Then {
+pub(crate) enum AfterHeader {
     /// Behind the word of a kind alone: neither a dimension nor one of the two.
     Dimension,
     /// Behind a dimension: neither of the two.
@@ -55,7 +55,7 @@ pub(crate) enum Then {
 pub(crate) struct Found {
     part: Part,
     dim: Dimension,
-    pub(crate) then: Then,
+    pub(crate) then: AfterHeader,
     pub(crate) end: usize,
 }
 
@@ -65,9 +65,9 @@ pub(crate) struct Found {
 #[inline(always)]
 pub(crate) fn header<'a, T: WktNum, B: Builder<T>, const FEED_ENDS: bool, const INNER: bool>(
     machine: Machine,
-    source: Bytes<'a, FEED_ENDS>,
+    source: ByteCursor<'a, FEED_ENDS>,
     builder: B,
-) -> Walked<Bytes<'a, FEED_ENDS>, B>
+) -> StepResult<ByteCursor<'a, FEED_ENDS>, B>
     requires state { machine.state ≡ next.Kind }
     requires inside { source.at ≤ length source.text.now }
     requires may { MayStep (bytes_view FEED_ENDS) B.maker machine source builder }
@@ -81,11 +81,11 @@ pub(crate) fn header<'a, T: WktNum, B: Builder<T>, const FEED_ENDS: bool, const 
     let plain_head = if is_point(rest) {
         match plain::<5, FEED_ENDS>(Part::Point, b"POINT", text, at) {
             Some(head) => {
-                let At {
+                let Progress {
                     source: behind,
                     machine: begun,
                     builder: made,
-                } = behind::<T, B, FEED_ENDS>(head, at, machine, source, builder);
+                } = enter::<T, B, FEED_ENDS>(head, at, machine, source, builder);
                 return match begun.state {
                     State::X if has_coordinates(begun.part) => {
                         coordinates::<T, B, FEED_ENDS>(begun, behind, made)
@@ -111,10 +111,10 @@ pub(crate) fn header<'a, T: WktNum, B: Builder<T>, const FEED_ENDS: bool, const 
         None => any_form::<FEED_ENDS>(text, at),
     };
     match head {
-        Some(head) => Ok(behind::<T, B, FEED_ENDS>(head, at, machine, source, builder)),
+        Some(head) => Ok(enter::<T, B, FEED_ENDS>(head, at, machine, source, builder)),
         // Made anew, so that of the machine its depth alone is kept until here.
         None => machine
-            .begun(State::Kind, Part::Collection, Dimension::XY)
+            .with_part(State::Kind, Part::Collection, Dimension::XY)
             .step(source, builder),
     }
 }
@@ -143,14 +143,17 @@ pub(crate) fn plain<const N: usize, const FEED_ENDS: bool>(
     }
     let behind = at + N;
     let (then, end) = if text[behind] == b'(' {
-        (Then::Inside, behind + 1)
+        (AfterHeader::Inside, behind + 1)
     } else if text[behind] != b' ' {
         return None;
     } else if text[behind + 1] == b'(' {
-        (Then::Inside, behind + 2)
+        (AfterHeader::Inside, behind + 2)
     } else {
         // For POINT EMPTY of capi/bench/calls.sh.
-        (Then::Outside, empty_at::<FEED_ENDS>(text, behind + 1)?)
+        (
+            AfterHeader::Outside,
+            empty_at::<FEED_ENDS>(text, behind + 1)?,
+        )
     };
     Some(Found {
         part,
@@ -276,13 +279,13 @@ fn eight_bytes(bytes: &[u8]) -> u64
 
 /// Behind a header that stands there.
 #[inline(always)]
-pub(crate) fn behind<'a, T: WktNum, B: Builder<T>, const FEED_ENDS: bool>(
+pub(crate) fn enter<'a, T: WktNum, B: Builder<T>, const FEED_ENDS: bool>(
     head: Found,
     at: usize,
     machine: Machine,
-    source: Bytes<'a, FEED_ENDS>,
+    source: ByteCursor<'a, FEED_ENDS>,
     builder: B,
-) -> At<Bytes<'a, FEED_ENDS>, B>
+) -> Progress<ByteCursor<'a, FEED_ENDS>, B>
     requires state { machine.state ≡ next.Kind }
     requires may { MayStep (bytes_view FEED_ENDS) B.maker machine source builder }
     requires between { IsBetween FEED_ENDS source.text.now source.at at }
@@ -300,25 +303,25 @@ pub(crate) fn behind<'a, T: WktNum, B: Builder<T>, const FEED_ENDS: bool>(
         then,
         end,
     } = head;
-    let source = Bytes::new(source.text, end);
-    let begun = machine.begun(State::Opening, part, dim);
+    let source = ByteCursor::new(source.text, end);
+    let begun = machine.with_part(State::Opening, part, dim);
     match then {
-        Then::Dimension => At {
+        AfterHeader::Dimension => Progress {
             source,
-            machine: machine.begun(State::Dimension, part, dim),
+            machine: machine.with_part(State::Dimension, part, dim),
             builder,
         },
-        Then::Opening => At {
+        AfterHeader::Opening => Progress {
             source,
             machine: begun,
             builder: builder.begin(part, dim),
         },
-        Then::Inside => At {
+        AfterHeader::Inside => Progress {
             source,
             machine: begun.inside(),
             builder: builder.begin(part, dim).open(part),
         },
-        Then::Outside => At {
+        AfterHeader::Outside => Progress {
             source,
             machine: begun.outside(),
             builder: builder.begin(part, dim).empty(part),
@@ -364,38 +367,38 @@ fn any_form<const FEED_ENDS: bool>(text: &[u8], at: usize) -> Option<Found>
 /// that ends.
 #[inline(always)]
 #[tactic(auto, using(crate::proofs::ByteSteps::behind_white))]
-fn behind_kind<const FEED_ENDS: bool>(text: &[u8], from: usize) -> (Dimension, Then, usize)
+fn behind_kind<const FEED_ENDS: bool>(text: &[u8], from: usize) -> (Dimension, AfterHeader, usize)
     requires { from ≤ length text.now }
     ensures { EndsKind FEED_ENDS text.now from result.0 result.1 result.2 }
 {
     let at = skip_white::<FEED_ENDS>(text, from);
     if byte_at(text, at) == b'(' {
-        return (Dimension::XY, Then::Inside, at + 1);
+        return (Dimension::XY, AfterHeader::Inside, at + 1);
     }
     if let Some((dim, behind)) = dimension_at::<FEED_ENDS>(text, at) {
         let (then, end) = behind_dimension::<FEED_ENDS>(text, behind);
         return (dim, then, end);
     }
     match empty_at::<FEED_ENDS>(text, at) {
-        Some(end) => (Dimension::XY, Then::Outside, end),
-        None => (Dimension::XY, Then::Dimension, from),
+        Some(end) => (Dimension::XY, AfterHeader::Outside, end),
+        None => (Dimension::XY, AfterHeader::Dimension, from),
     }
 }
 
 /// What stands behind a dimension, which ends at `from`, and where that ends.
 #[inline(always)]
 #[tactic(auto, using(crate::proofs::ByteSteps::behind_white))]
-fn behind_dimension<const FEED_ENDS: bool>(text: &[u8], from: usize) -> (Then, usize)
+fn behind_dimension<const FEED_ENDS: bool>(text: &[u8], from: usize) -> (AfterHeader, usize)
     requires { from ≤ length text.now }
     ensures { EndsDimension FEED_ENDS text.now from result.0 result.1 }
 {
     let at = skip_white::<FEED_ENDS>(text, from);
     if byte_at(text, at) == b'(' {
-        return (Then::Inside, at + 1);
+        return (AfterHeader::Inside, at + 1);
     }
     match empty_at::<FEED_ENDS>(text, at) {
-        Some(end) => (Then::Outside, end),
-        None => (Then::Opening, from),
+        Some(end) => (AfterHeader::Outside, end),
+        None => (AfterHeader::Opening, from),
     }
 }
 

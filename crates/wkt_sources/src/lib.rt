@@ -11,8 +11,8 @@ mod message;
 mod points;
 pub mod tokens;
 
-pub use bytes::Bytes;
+pub use bytes::ByteCursor;
 pub use front::{front_end, front_end_by_tokens};
 pub use message::message_at;
 pub use points::{FastPoint, fast_point};
-pub use tokens::OneByOne;
+pub use tokens::TokenSource;

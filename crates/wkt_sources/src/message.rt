@@ -18,7 +18,7 @@ use wkt_read::{Expected, Message};
 
 /// A lexeme, as far as its message asks for it.
 #[derive(Clone, Copy)]
-pub enum Given<'a> {
+pub enum NextLexeme<'a> {
     Open,
     Close,
     Comma,
@@ -41,7 +41,11 @@ fn between<'a>(text: &'a [u8], from: usize, to: usize) -> &'a [u8]
 
 /// The lexeme that stands there, and where it ends, if it is no mark.
 #[inline(always)]
-fn run_given<'a, N: Numbers>(numbers: N, text: &'a [u8], at: usize) -> Option<(Given<'a>, usize)>
+fn run_given<'a, N: Numbers>(
+    numbers: N,
+    text: &'a [u8],
+    at: usize,
+) -> Option<(NextLexeme<'a>, usize)>
     requires inside { at ≤ length text.now }
     requires utf8 { IsUtf8 text.now }
     requires dark { IsDark false text.now at }
@@ -50,20 +54,24 @@ fn run_given<'a, N: Numbers>(numbers: N, text: &'a [u8], at: usize) -> Option<(G
 {
     if begins_number(byte_at(text, at)) {
         return match read_by(numbers, text, at) {
-            Some((_, end)) => Some((Given::Number, end)),
-            None => Some((Given::Unread, run_end(text, at))),
+            Some((_, end)) => Some((NextLexeme::Number, end)),
+            None => Some((NextLexeme::Unread, run_end(text, at))),
         };
     }
     let end = run_end(text, at);
     if end == at {
         return None;
     }
-    Some((Given::Word(between(text, at, end)), end))
+    Some((NextLexeme::Word(between(text, at, end)), end))
 }
 
 /// The lexeme that comes next, and where it ends; `None` at the text's end.
 #[inline(always)]
-fn next_given<'a, N: Numbers>(numbers: N, text: &'a [u8], from: usize) -> Option<(Given<'a>, usize)>
+fn next_given<'a, N: Numbers>(
+    numbers: N,
+    text: &'a [u8],
+    from: usize,
+) -> Option<(NextLexeme<'a>, usize)>
     requires inside { from ≤ length text.now }
     requires utf8 { IsUtf8 text.now }
     ensures { GivesNext (N.read numbers) text.now from result }
@@ -75,55 +83,60 @@ fn next_given<'a, N: Numbers>(numbers: N, text: &'a [u8], from: usize) -> Option
     let at = skip_white::<false>(text, from);
     let byte = byte_at(text, at);
     if byte == b')' {
-        return Some((Given::Close, at + 1));
+        return Some((NextLexeme::Close, at + 1));
     }
     if byte == b'(' {
-        return Some((Given::Open, at + 1));
+        return Some((NextLexeme::Open, at + 1));
     }
     if byte == b',' {
-        return Some((Given::Comma, at + 1));
+        return Some((NextLexeme::Comma, at + 1));
     }
     run_given(numbers, text, at)
 }
 
 /// The message of the place alone.
-fn at_place<N: Numbers>(numbers: N, expected: Expected, given: Given<'_>) -> Message
+fn at_place<N: Numbers>(numbers: N, expected: Expected, given: NextLexeme<'_>) -> Message
     ensures { (l : Lexeme) (r : List Lexeme) → ShowsLexeme (N.read numbers) given.entry l → result ≡ at_place (N.read numbers) expected (l ∷ r) }
 {
     match given {
-        Given::Word(word) => at_word(expected, word),
-        Given::Unread => at_bad(expected),
+        NextLexeme::Word(word) => at_word(expected, word),
+        NextLexeme::Unread => at_bad(expected),
         _ => at_other(expected),
     }
 }
 
 /// Whether the lexeme isn't taken where it is refused.
 #[inline(always)]
-fn stays<N: Numbers>(numbers: N, expected: Expected, given: Given<'_>) -> bool
+fn stays<N: Numbers>(numbers: N, expected: Expected, given: NextLexeme<'_>) -> bool
     ensures { (l : Lexeme) → ShowsLexeme (N.read numbers) given.entry l → result ≡ stays (N.read numbers) expected l }
 {
     match expected {
         Expected::More | Expected::Closing => true,
-        Expected::Dimension => matches!(given, Given::Word(_) | Given::Unread),
+        Expected::Dimension => matches!(given, NextLexeme::Word(_) | NextLexeme::Unread),
         _ => false,
     }
 }
 
 /// The message behind the lexeme that stands where a parenthesis has to close.
 #[inline(always)]
-fn closing<N: Numbers>(numbers: N, message: Message, given: Given<'_>) -> Message
+fn closing<N: Numbers>(numbers: N, message: Message, given: NextLexeme<'_>) -> Message
     ensures { (l : Lexeme) (r : List Lexeme) → ShowsLexeme (N.read numbers) given.entry l → closing (N.read numbers) message (l ∷ r) ≡ (result, r) }
 {
     match given {
-        Given::Close => message,
-        Given::Unread => Message::BadNumber,
+        NextLexeme::Close => message,
+        NextLexeme::Unread => Message::BadNumber,
         _ => Message::Close,
     }
 }
 
 /// The message of the place alone, and where the lexemes are left behind it.
 #[inline(always)]
-fn blame<N: Numbers>(numbers: N, machine: Machine, text: &[u8], at: usize) -> (Message, usize)
+fn message_here<N: Numbers>(
+    numbers: N,
+    machine: Machine,
+    text: &[u8],
+    at: usize,
+) -> (Message, usize)
     requires inside { at ≤ length text.now }
     requires utf8 { IsUtf8 text.now }
     requires stuck { IsStuck (N.read numbers) machine (remaining_spanned false text.now at) }
@@ -189,7 +202,7 @@ pub fn message_at<N: Numbers>(numbers: N, machine: Machine, text: &str, at: usiz
     ensures { result ≡ (refused (N.read numbers) (state_of machine) (remaining false text.now at)).0 }
 {
     let bytes = text.as_bytes();
-    let (blamed, behind) = blame(numbers, machine, bytes, at);
-    let (message, from) = close(numbers, blamed, machine.own(), bytes, behind);
+    let (blamed, behind) = message_here(numbers, machine, bytes, at);
+    let (message, from) = close(numbers, blamed, machine.open_parens(), bytes, behind);
     close(numbers, message, machine.depth, bytes, from).0
 }

@@ -6,7 +6,7 @@ ghost use Rattle.wkt_num.specs.Whole.{IsSigned};
 ghost use Rattle.wkt_events.specs.Remaining.{TakesOne};
 ghost use Rattle.wkt_sources.specs.Taken.{IsPointFront};
 
-use crate::header::{Then, is_point, plain};
+use crate::header::{AfterHeader, is_point, plain};
 use wkt_events::{byte_at, skip_white};
 use wkt_machine::Part;
 use wkt_num::fast_units;
@@ -30,7 +30,7 @@ pub fn fast_point(places: u32, text: &[u8]) -> Option<FastPoint>
         return None;
     }
     let head = plain::<5, false>(Part::Point, b"POINT", text, 0)?;
-    let Then::Inside = head.then else {
+    let AfterHeader::Inside = head.then else {
         return None;
     };
     let (x, between) = fast_number(places, text, head.end)?;

@@ -5,23 +5,25 @@ ghost use Rattle.wkt_sources.specs.Views.{seen_found, tokens_of};
 
 use crate::bytes::seen_word;
 use wkt_machine::step::on;
-use wkt_machine::{At, Axis, Builder, Machine, Part, Seen, Source, State, Walk, Walked};
+use wkt_machine::{
+    Axis, Builder, FastSource, LexemeKind, Machine, Part, Progress, Source, State, StepResult,
+};
 use wkt_num::WktNum;
 use wkt_read::PeekableTokens;
 use wkt_read::words::Lexeme;
 
 /// The tokens of a text, one after another, which are lent.
 #[derive(Drop)]
-pub struct OneByOne<'t, 'a, T> {
+pub struct TokenSource<'t, 'a, T> {
     pub(crate) tokens: &'t mut PeekableTokens<'a, T>,
 }
 
-impl<'t, 'a, T: WktNum> OneByOne<'t, 'a, T> {
+impl<'t, 'a, T: WktNum> TokenSource<'t, 'a, T> {
     #[inline(always)]
     pub fn new(tokens: &'t mut PeekableTokens<'a, T>) -> Self
         ensures { tokens_of result ≡ tokens.entry }
     {
-        OneByOne { tokens }
+        TokenSource { tokens }
     }
 
     /// The tokens, of which some are left.
@@ -35,20 +37,20 @@ impl<'t, 'a, T: WktNum> OneByOne<'t, 'a, T> {
 
 /// A lexeme, or the end of the text.
 #[inline(always)]
-fn seen(lexeme: Lexeme<'_>) -> Seen
+fn seen(lexeme: Lexeme<'_>) -> LexemeKind
     ensures { result ≡ seen_found (found lexeme.entry) }
 {
     match lexeme {
-        Lexeme::End => Seen::Other,
-        Lexeme::Comma => Seen::Comma,
-        Lexeme::Close => Seen::Close,
-        Lexeme::Open => Seen::Open,
+        Lexeme::End => LexemeKind::Other,
+        Lexeme::Comma => LexemeKind::Comma,
+        Lexeme::Close => LexemeKind::Close,
+        Lexeme::Open => LexemeKind::Open,
         Lexeme::Word(word) => seen_word(word.as_bytes()),
-        Lexeme::Number(_) => Seen::Number,
+        Lexeme::Number(_) => LexemeKind::Number,
     }
 }
 
-impl<'t, 'a, T: WktNum> Source<T> for OneByOne<'t, 'a, T> {
+impl<'t, 'a, T: WktNum> Source<T> for TokenSource<'t, 'a, T> {
     ghost use Rattle.wkt_sources.specs.Views.{tokens_view};
 
     ghost view = { tokens_view T.read };
@@ -56,7 +58,7 @@ impl<'t, 'a, T: WktNum> Source<T> for OneByOne<'t, 'a, T> {
     ghost by_type = { λ by. refl };
 
     #[inline(always)]
-    fn look(self) -> (Seen, Self) {
+    fn look(self) -> (LexemeKind, Self) {
         let seen = seen(self.tokens.look());
         (seen, self)
     }
@@ -92,11 +94,11 @@ impl<'t, 'a, T: WktNum> Source<T> for OneByOne<'t, 'a, T> {
 /// A kind word and what stands behind it, and two numbers, are taken by the steps for these lexemes, which are built into
 /// the loop: `from_str` takes 36 instructions a byte of mixed lines, and 15 more where each goes by a call.
 #[tactic(auto, using(wkt_machine::proofs::StepsJoin::looked_at))]
-impl<'t, 'a, T: WktNum> Walk<T> for OneByOne<'t, 'a, T> {
+impl<'t, 'a, T: WktNum> FastSource<T> for TokenSource<'t, 'a, T> {
     #[inline(always)]
-    fn header<B: Builder<T>>(self, machine: Machine, builder: B) -> Walked<Self, B> {
+    fn header<B: Builder<T>>(self, machine: Machine, builder: B) -> StepResult<Self, B> {
         let (seen, source) = self.look();
-        let At {
+        let Progress {
             source: behind,
             machine: next,
             builder: made,
@@ -111,14 +113,14 @@ impl<'t, 'a, T: WktNum> Walk<T> for OneByOne<'t, 'a, T> {
     }
 
     #[inline(always)]
-    fn first<B: Builder<T>>(self, machine: Machine, builder: B) -> Walked<Self, B> {
+    fn first<B: Builder<T>>(self, machine: Machine, builder: B) -> StepResult<Self, B> {
         self.header(machine, builder)
     }
 
     #[inline(always)]
-    fn coordinates<B: Builder<T>>(self, machine: Machine, builder: B) -> Walked<Self, B> {
+    fn coordinates<B: Builder<T>>(self, machine: Machine, builder: B) -> StepResult<Self, B> {
         let (seen, source) = self.look();
-        let At {
+        let Progress {
             source: behind,
             machine: next,
             builder: made,

@@ -13,7 +13,7 @@ use Rattle.wkt_machine.specs.Events.{Event, events, numbers}
 use Rattle.wkt_machine.specs.Goes.{GoesFrom}
 use Rattle.wkt_machine.specs.Machines.{state_of}
 use Rattle.wkt_machine.specs.View.{View}
-use Rattle.wkt_machine.specs.declared.source.At.{At}
+use Rattle.wkt_machine.specs.declared.source.Progress.{Progress}
 use Rattle.wkt_access.specs.declared.dimensions.Dimension.{Dimension}
 use Rattle.wkt_types.specs.Tree.{tree, wkt_step, collection_step, Tree as Kept}
 use Rattle.wkt_types.specs.declared.geometry.Wkt.{Wkt}
@@ -31,7 +31,7 @@ use Rattle.wkt_types.specs.Held.{numbers_of, HeldPoint}
 use Rattle.wkt_types.specs.Values.{HasDimIfAny, IsWktOf}
 use Rattle.wkt_types.specs.declared.coord.Coord.{Coord}
 use Rattle.wkt_read.specs.declared.error.ReadError.{ReadError}
-use Rattle.wkt_values.specs.declared.tree.Grower.{Grower}
+use Rattle.wkt_values.specs.declared.tree.WktBuilder.{WktBuilder}
 use Rattle.wkt_machine.specs.declared.part.Part.TheVariants as part
 use Rattle.wkt_types.specs.declared.geometry.Wkt.TheVariants as variants
 use Rattle.wkt_types.specs.declared.geometry.Wkt.TheFolds as folds
@@ -139,7 +139,7 @@ pair_made t x y is p coord dim =
 
 -- A tree that holds nothing yet grows over the source, and a value ends.
 module _ {N S : Type 0} (is_value : N → Type 0) (read : List ℕ → Option N) (values : (bs : List ℕ) → IfSome (read bs) is_value) (view : View N S)
-    (text : List ℕ) (s : S) (begins : view.remaining s ≡ spanned text) (b : Grower N) (to : At S (Grower N))
+    (text : List ℕ) (s : S) (begins : view.remaining s ≡ spanned text) (b : WktBuilder N) (to : Progress S (WktBuilder N))
     (on : GoesFrom read view (tree_maker read) s b to) (over : is_over (state_of to.machine) ≡ true) (empty : Holds (tree_of b).now (rest [] None))
     (u : Tree N) (same : u ≡ (tree_of to.builder).now) (upto : ℕ) (ends : (end : ℕ) → view.place to.source end → upto ≡ end) where
   grew_driven : (v : Value N) × TakesValue read view s v to.source × Grew (tree_of b).now (events v) u

@@ -30,7 +30,7 @@ use Rattle.wkt_sources.specs.Views.{tokens_view}
 use Rattle.wkt_sources.specs.Taken.{TakesValue, MachineRefuses}
 use Rattle.wkt_values.specs.Values.{IsRead, OnMemory, OnRefused, WantsMemory}
 use Rattle.wkt_machine.specs.declared.machine.Machine.{Machine}
-use Rattle.wkt_sources.specs.declared.tokens.OneByOne.{OneByOne}
+use Rattle.wkt_sources.specs.declared.tokens.TokenSource.{TokenSource}
 use Rattle.wkt_values.specs.declared.value.Unread.{Unread}
 use Rattle.wkt_values.specs.declared.value.Unread.TheVariants.{Refused, Memory as Unmade}
 use Rattle.wkt_machine.proofs.WholeRuns.{message_early}
@@ -100,7 +100,7 @@ first_taken (Some l) ls rs h = (rs, h)
 rest-append : (s : Standing) (given more : List Spanned) → remaining s ≡ given ++ more → rest s ≡ lexemes_of given ++ lexemes_of more
 rest-append s given more e = rest-is s (given ++ more) e ∙ lexemes_append given more
 
-module _ {T : Type 0} (read : List ℕ → Option T) (a b : OneByOne T) where
+module _ {T : Type 0} (read : List ℕ → Option T) (a b : TokenSource T) where
   takes_begins : (v : Value T) → TakesValue read (tokens_view read) a v b → Begins read (rest a.tokens.now) v (rest b.tokens.now)
   takes_begins v h =
       let given : List Spanned = h.given ++ (h.last ∷ []) in
@@ -170,7 +170,7 @@ off_refused : {X : Type 0} (P : Machine → Type 0) (m : Machine) (u : Unread) (
 off_refused {X} P m u r e is h = subst (λ u. OnRefused {X = X} (Err u) P) is (subst (λ r. OnRefused r P) e h)
 
 -- The same where the code has it: the source over the tokens at `s` is read, and its tokens are at `t`.
-module _ {T : Type 0} (read : List ℕ → Option T) (a b : OneByOne T) (s t : Standing) (before : a.tokens.now ≡ s) (behind : t ≡ b.tokens.now) (r : Result (Wkt T) Unread) where
+module _ {T : Type 0} (read : List ℕ → Option T) (a b : TokenSource T) (s t : Standing) (before : a.tokens.now ≡ s) (behind : t ≡ b.tokens.now) (r : Result (Wkt T) Unread) where
   there : (P : Standing → Standing → Type 0) → P a.tokens.now b.tokens.now → P s t
   there P h = subst (λ s. P s t) before (subst (P a.tokens.now) (sym behind) h)
 

@@ -16,7 +16,7 @@ use Rattle.wkt_values.specs.declared.tree.OpenCollection.{OpenCollection}
 use Rattle.wkt_values.specs.declared.tree.Tree.{Tree}
 use Rattle.wkt_values.specs.declared.tree.Ended.TheVariants as ended
 use Rattle.wkt_machine.specs.Makers.{Maker}
-use Rattle.wkt_values.specs.declared.tree.Grower.{Grower}
+use Rattle.wkt_values.specs.declared.tree.WktBuilder.{WktBuilder}
 
 -- What a tree holds of what has grown.
 
@@ -132,7 +132,7 @@ pub record Joins {T : Type 0} (t : Tree T) (w : Wkt T) (u : Tree T) : Type 0 whe
 -- What is made where a tree grows that is lent.
 
 -- the tree that is lent
-abbrev pub tree_of : {T : Type 0} → Grower T → MutBor (Tree T)
+abbrev pub tree_of : {T : Type 0} → WktBuilder T → MutBor (Tree T)
 tree_of g = g.tree
 
 pub grow_append : {N : Type 0} (es fs : List (Event N)) (s : Growing N) → grow_all (es ++ fs) s ≡ grow_all fs (grow_all es s)
@@ -180,7 +180,7 @@ module _ {T : Type 0} where
       first w one two (inl h) = second w (b.holds (grow_all es w) h two)
       first w one two (inr (l, e)) = inr (b.stays l, lists_append es fs ∙ or_left (lists_any es) (lists_any fs) e)
 
-abbrev pub tree_maker : {T : Type 0} → (List ℕ → Option T) → Maker T (Grower T)
+abbrev pub tree_maker : {T : Type 0} → (List ℕ → Option T) → Maker T (WktBuilder T)
 tree_maker read = record {
   makes = λ g es h. Grew (tree_of g).now es (tree_of h).now;
   reads = λ g. read;

@@ -16,7 +16,7 @@ use std::alloc::Global;
 use std::mem;
 use wkt_num::WktNum;
 use wkt_read::{PeekableTokens, ReadError, Tokens};
-use wkt_sources::OneByOne;
+use wkt_sources::TokenSource;
 use wkt_types::Wkt;
 
 /// The geometry at the front of the tokens, which come back.
@@ -37,8 +37,8 @@ fn read_off<'t, 'a, T: WktNum>(
 {
     // The machine counts open collections, of which there are no more than tokens.
     let _ = tokens.most_left();
-    let source = OneByOne::new(tokens);
-    let (answer, behind) = read::<T, OneByOne<'_, '_, T>>(alloc, source);
+    let source = TokenSource::new(tokens);
+    let (answer, behind) = read::<T, TokenSource<'_, '_, T>>(alloc, source);
     let remaining = behind.into_tokens();
     match answer {
         Ok(geometry) => (Ok(geometry), remaining),

@@ -97,7 +97,7 @@ fn is_number(lexeme: Lexeme<'_>) -> bool
 
 /// The message of the place alone. The token that is refused is taken, unless it stands where a parenthesis has to close.
 #[inline(always)]
-fn blame<T: WktNum>(machine: Machine, tokens: &mut PeekableTokens<'_, T>) -> Message
+fn message_here<T: WktNum>(machine: Machine, tokens: &mut PeekableTokens<'_, T>) -> Message
     requires stuck { IsStuck T.read machine (remaining tokens.now) }
     ensures message { (result, rest tokens.new) ≡ blamed T.read (expected_at (state_of machine).place machine.depth) (rest tokens.old) }
     ensures advances { Advances tokens.old tokens.new }
@@ -155,7 +155,7 @@ pub(crate) fn refused<T: WktNum>(machine: Machine, tokens: &mut PeekableTokens<'
     ensures message { (result, rest tokens.new) ≡ refused T.read (state_of machine) (rest tokens.old) }
     ensures advances { Advances tokens.old tokens.new }
 {
-    let message = blame(machine, tokens);
-    let message = close(message, machine.own(), tokens);
+    let message = message_here(machine, tokens);
+    let message = close(message, machine.open_parens(), tokens);
     close(message, machine.depth, tokens)
 }

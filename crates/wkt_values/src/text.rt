@@ -9,12 +9,12 @@ ghost use Rattle.wkt_read.specs.Items.{bad_number};
 ghost use Rattle.wkt_read.specs.Refusal.{IsTextRefused, IfText};
 ghost use Rattle.wkt_values.specs.Values.{AnswersReader};
 
-use crate::tree::{Grower, Tree};
+use crate::tree::{Tree, WktBuilder};
 use std::alloc::{AllocError, Global};
 use wkt_machine::drive::drive;
 use wkt_num::{OfType, WktNum};
 use wkt_read::{Message, ReadError};
-use wkt_sources::{Bytes, message_at};
+use wkt_sources::{ByteCursor, message_at};
 use wkt_types::{Coord, Point, Wkt};
 
 /// The geometry at the front of the text, and where its last lexeme ends, in bytes: what `Wkt::read_front` returns. It
@@ -57,9 +57,9 @@ fn front_of<T: WktNum>(alloc: Global, text: &str) -> Result<(Wkt<T>, usize), Rea
     ensures refusal { IfText result (λ said. IsTextRefused T.read text.now said) }
     ensures free { (v end : _) → Front T.read text.now v end → NeedsNoMemory v → IsOk result }
 {
-    let source = Bytes::<'_, false>::new(text.as_bytes(), 0);
+    let source = ByteCursor::<'_, false>::new(text.as_bytes(), 0);
     let mut tree = Tree::new(alloc);
-    match drive::<T, Bytes<'_, false>, Grower<'_, T>>(source, Grower::new(&mut tree)) {
+    match drive::<T, ByteCursor<'_, false>, WktBuilder<'_, T>>(source, WktBuilder::new(&mut tree)) {
         Ok(over) => {
             let end = over.source.at;
             let grown = over.builder.into_tree();

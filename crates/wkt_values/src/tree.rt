@@ -348,17 +348,17 @@ impl<T: WktNum> Tree<T> {
 
 /// Makes a tree, which is lent to it.
 #[derive(Drop)]
-pub struct Grower<'a, T> {
+pub struct WktBuilder<'a, T> {
     tree: &'a mut Tree<T>,
 }
 
-impl<'a, T: WktNum> Grower<'a, T> {
+impl<'a, T: WktNum> WktBuilder<'a, T> {
     ghost use Rattle.wkt_values.specs.Trees.{tree_of};
 
     pub fn new(tree: &'a mut Tree<T>) -> Self
         ensures { tree_of result ≡ tree.entry }
     {
-        Grower { tree }
+        WktBuilder { tree }
     }
 
     /// The tree.
@@ -369,7 +369,7 @@ impl<'a, T: WktNum> Grower<'a, T> {
     }
 }
 
-impl<T: WktNum> Builder<T> for Grower<'_, T> {
+impl<T: WktNum> Builder<T> for WktBuilder<'_, T> {
     ghost use Rattle.wkt_values.specs.Trees.{tree_maker};
 
     ghost maker = { tree_maker T.read };

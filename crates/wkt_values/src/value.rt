@@ -5,10 +5,10 @@ ghost use Rattle.wkt_values.specs.Trees.{tree_of};
 ghost use Rattle.wkt_values.specs.Values.{AnswersTree, IsRead, OnRefused, OnMemory, WantsMemory};
 ghost use Rattle.wkt_sources.specs.Taken.{MachineRefuses};
 
-use crate::tree::{Grower, Tree};
+use crate::tree::{Tree, WktBuilder};
 use std::alloc::{AllocError, Global};
 use wkt_machine::drive::drive;
-use wkt_machine::{At, Machine, Walk};
+use wkt_machine::{FastSource, Machine, Progress};
 use wkt_num::WktNum;
 use wkt_types::Wkt;
 
@@ -23,10 +23,10 @@ pub enum Unread {
 
 /// What has grown.
 #[inline(always)]
-fn answer<T: WktNum>(grower: Grower<'_, T>) -> Result<Wkt<T>, Unread>
-    ensures { AnswersTree (tree_of grower.entry).now result }
+fn answer<T: WktNum>(builder: WktBuilder<'_, T>) -> Result<Wkt<T>, Unread>
+    ensures { AnswersTree (tree_of builder.entry).now result }
 {
-    let tree = grower.into_tree();
+    let tree = builder.into_tree();
     if tree.is_lost() {
         return Err(Unread::Memory(AllocError));
     }
@@ -38,16 +38,16 @@ fn answer<T: WktNum>(grower: Grower<'_, T>) -> Result<Wkt<T>, Unread>
 /// # Errors
 /// `Refused` where no geometry comes next; `Memory` where memory ran out, which a point and what is EMPTY don't need.
 #[inline(always)]
-pub fn read<T: WktNum, S: Walk<T>>(alloc: Global, source: S) -> (Result<Wkt<T>, Unread>, S)
+pub fn read<T: WktNum, S: FastSource<T>>(alloc: Global, source: S) -> (Result<Wkt<T>, Unread>, S)
     requires room { length (S.view.remaining source) ≤ usize.MAX }
     ensures found { IfOk result.0 (λ w. IsRead T.read S.view source (tree w) result.1) }
     ensures refused { OnRefused result.0 (λ m. MachineRefuses T.read S.view source m result.1) }
     ensures memory { OnMemory result.0 (WantsMemory T.read S.view source result.1) }
 {
     let mut tree = Tree::new(alloc);
-    match drive::<T, S, Grower<'_, T>>(source, Grower::new(&mut tree)) {
+    match drive::<T, S, WktBuilder<'_, T>>(source, WktBuilder::new(&mut tree)) {
         Ok(over) => {
-            let At {
+            let Progress {
                 source,
                 builder,
                 ..
@@ -55,7 +55,7 @@ pub fn read<T: WktNum, S: Walk<T>>(alloc: Global, source: S) -> (Result<Wkt<T>, 
             (answer(builder), source)
         }
         Err(at) => {
-            let At {
+            let Progress {
                 source,
                 machine,
                 ..

@@ -5,7 +5,7 @@ use crate::value::{Unread, read};
 use std::alloc::{AllocError, Global};
 use std::process::Abort;
 use wkt_read::{PeekableTokens, ReadError, Tokens};
-use wkt_sources::OneByOne;
+use wkt_sources::TokenSource;
 use wkt_types::{
     Coord, Dimension, GeometryCollection, LineString, MultiLineString, MultiPoint, MultiPolygon,
     Point, Polygon, Wkt,
@@ -16,7 +16,7 @@ type Made = Result<Wkt<i32>, AllocError>;
 /// What the text is read as by its tokens; nothing where it is refused.
 fn value(alloc: Global, text: &str) -> Result<Option<Wkt<i32>>, AllocError> {
     let mut tokens = PeekableTokens::<i32>::new(Tokens::from_str(text));
-    match read::<i32, OneByOne<'_, '_, i32>>(alloc, OneByOne::new(&mut tokens)).0 {
+    match read::<i32, TokenSource<'_, '_, i32>>(alloc, TokenSource::new(&mut tokens)).0 {
         Ok(value) => Ok(Some(value)),
         Err(Unread::Refused(_)) => Ok(None),
         Err(Unread::Memory(error)) => Err(error),

@@ -18,9 +18,9 @@ loop-i-init c = record {
 
 pub loop-i-preserved : goal.loop-i-preserved
 loop-i-preserved c =
-    let whole = asks_whole c.args.asked in
-    let read = read_at (places_in c.args.asked) in
-    let num = print_at (places_in c.args.asked) in
+    let whole = asks_whole c.args.options in
+    let read = read_at (places_in c.args.options) in
+    let num = print_at (places_in c.args.options) in
     let given = c.args.given in
     let a = c.in_ok-add_answer.ensures.adds in
     record {
@@ -33,7 +33,7 @@ loop-i-preserved c =
 pub returns-clause-answers : goal.returns-clause-answers
 returns-clause-answers c =
     let all : c.loop-i.i ≡ row_count c.args.given.offsets.now = omega arith in
-    subst (λ n. HoldsAnswers (asks_whole c.args.asked) (read_at (places_in c.args.asked)) (print_at (places_in c.args.asked)) c.args.given.texts.now c.args.given.offsets.now c.args.given.valid.now n c.loop-i.rows) all c.loop-i.invariant.holds
+    subst (λ n. HoldsAnswers (asks_whole c.args.options) (read_at (places_in c.args.options)) (print_at (places_in c.args.options)) c.args.given.texts.now c.args.given.offsets.now c.args.given.valid.now n c.loop-i.rows) all c.loop-i.invariant.holds
 
 pub returns-clause-bound : goal.returns-clause-bound
 returns-clause-bound c =

@@ -6,6 +6,6 @@ use Rattle.wkt_c.proofs.column.answers.Given as goal
 
 abbrev pub invariant-loop-i : goal.invariant-loop-i
 invariant-loop-i l = record {
-  holds : HoldsAnswers (asks_whole l.asked) (read_at (places_in l.asked)) (print_at (places_in l.asked)) l.given.texts.now l.given.offsets.now l.given.valid.now l.i l.rows;
+  holds : HoldsAnswers (asks_whole l.options) (read_at (places_in l.options)) (print_at (places_in l.options)) l.given.texts.now l.given.offsets.now l.given.valid.now l.i l.rows;
   bound : length (items_of l.rows.texts.items) ≤ 2 * slice_index l.given.offsets.now l.i + l.i;
 }

@@ -12,11 +12,11 @@ use Rattle.wkt_calls.specs.declared.dialects.AsRead.{AsRead}
 use Rattle.wkt_c.proofs.exports_dialects.wkt_explain_in.Goals as goal
 
 abbrev IsRefusedIn : ℕ → List ℕ → Refusal → ℕ → ℕ → Type 0
-IsRefusedIn asked text why message expected = (r : AsRead) × IsAsRead asked text r × (at : ℕ) × (upto : ℕ)
-    × IsExplained (read_plainly asked) r.text.now message at upto expected × (behind : ℕ) × IsPlaced r at behind why.start why.end
+IsRefusedIn options text why message expected = (r : AsRead) × IsAsRead options text r × (at : ℕ) × (upto : ℕ)
+    × IsExplained (read_plainly options) r.text.now message at upto expected × (behind : ℕ) × IsPlaced r at behind why.start why.end
 
-module _ (asked : ℕ) (text : List ℕ) (why : Refusal) (p : IsProblemIn asked text (Refused why)) (message expected : ℕ) (said : message ≡ message_number why.message) (wanted : expected ≡ expected_number why.expected) where
-  refused-as : (q : Problem) → IsProblem (read_plainly asked) (asks_whole (asked % 512)) p.read.text.now q → IsPlacedProblem p.read q (Refused why) → IsRefusedIn asked text why message expected
+module _ (options : ℕ) (text : List ℕ) (why : Refusal) (p : IsProblemIn options text (Refused why)) (message expected : ℕ) (said : message ≡ message_number why.message) (wanted : expected ≡ expected_number why.expected) where
+  refused-as : (q : Problem) → IsProblem (read_plainly options) (asks_whole (options % 512)) p.read.text.now q → IsPlacedProblem p.read q (Refused why) → IsRefusedIn options text why message expected
   refused-as (Refused w) is places = (
     p.read,
     p.as_read,
@@ -36,7 +36,7 @@ module _ (asked : ℕ) (text : List ℕ) (why : Refusal) (p : IsProblemIn asked 
   )
   refused-as (Rest at) is places = absurd places
 
-  refused-in : IsRefusedIn asked text why message expected
+  refused-in : IsRefusedIn options text why message expected
   refused-in = refused-as p.of_other p.is p.places
 
 pub returns-in-Ok-Refused-clause-answers : goal.returns-in-Ok-Refused-clause-answers

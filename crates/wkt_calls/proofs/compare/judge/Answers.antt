@@ -23,7 +23,7 @@ written-fits places bytes v end f =
 
 pub returns : goal.returns
 returns c =
-    let places = places_in c.args.asked in
+    let places = places_in c.args.options in
     let (utf8, a) = c.requires.first in
     let (other_utf8, b) = c.requires.second in
     let first = canon (shape_of a.value) in

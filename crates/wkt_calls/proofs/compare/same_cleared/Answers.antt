@@ -5,11 +5,11 @@ use Rattle.wkt_calls.proofs.Padded.{zeros-at, cleared-long}
 use Rattle.wkt_calls.proofs.Pieces.{refused-first}
 use Rattle.wkt_calls.proofs.compare.same_cleared.Goals as goal
 
-pub write_short-requires-clause-near : goal.write_short-requires-clause-near
-write_short-requires-clause-near g c = cleared-long g.row.NEAR _ c.requires.near
+pub write_short-requires-clause-padded : goal.write_short-requires-clause-padded
+write_short-requires-clause-padded g c = cleared-long g.row.PADDED _ c.requires.padded
 
 pub write_short-requires-clause-zeros : goal.write_short-requires-clause-zeros
-write_short-requires-clause-zeros g c = zeros-at g.row.NEAR
+write_short-requires-clause-zeros g c = zeros-at g.row.PADDED
 
 pub write_short-requires-clause-room : goal.write_short-requires-clause-room
 write_short-requires-clause-room g c = cleared-long g.row.ROOM _ c.requires.room
@@ -18,4 +18,4 @@ pub refused_first-requires : goal.refused_first-requires
 refused_first-requires g c = omega (arith, c.write_short.ensures.whole, cleared-long g.row.ROOM _ c.requires.other_room)
 
 pub returns-in-Err : goal.returns-in-Err
-returns-in-Err g c = refused-first (read_at (places_in c.args.asked)) c.args.one.now c.args.other.now c.in-Err.status c.refused_first.result c.in-Err.ensures.canonical c.refused_first.ensures
+returns-in-Err g c = refused-first (read_at (places_in c.args.options)) c.args.one.now c.args.other.now c.in-Err.status c.refused_first.result c.in-Err.ensures.canonical c.refused_first.ensures

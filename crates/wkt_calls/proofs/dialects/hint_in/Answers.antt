@@ -10,10 +10,10 @@ use Rattle.wkt_calls.specs.Dialects.{IsAsRead, IsHintIn}
 use Rattle.wkt_calls.specs.declared.dialects.AsRead.{AsRead}
 use Rattle.wkt_calls.proofs.dialects.hint_in.Goals as goal
 
-hinted : (asked plain : ℕ) (text : List ℕ) (r : AsRead) (w : Refusal) (hint : Option Hint) (places number : ℕ) → plain ≡ asked % 512 → IsAsRead asked text r → IsUtf8 r.text.now
+hinted : (options plain : ℕ) (text : List ℕ) (r : AsRead) (w : Refusal) (hint : Option Hint) (places number : ℕ) → plain ≡ options % 512 → IsAsRead options text r → IsUtf8 r.text.now
     → IsRefusalOf (read_at (places_in plain)) r.text.now w → places ≡ places_in plain → hint ≡ hint_at r.text.now w.start w.end w.expected places → number ≡ hint_number hint
-    → IsHintIn asked text (Some number)
-hinted asked plain text r w hint places number is read utf8 refusal few hint-is number-is = record {
+    → IsHintIn options text (Some number)
+hinted options plain text r w hint places number is read utf8 refusal few hint-is number-is = record {
   read = r;
   as_read = read;
   utf8 = utf8;
@@ -33,5 +33,5 @@ hinted asked plain text r w hint places number is read utf8 refusal few hint-is 
 pub returns-in-Ok-Refused : goal.returns-in-Ok-Refused
 returns-in-Ok-Refused g c =
     let k = rw c.in-Ok-Refused.field-0-is at c.in-Ok-Refused.ensures in
-    hinted c.args.asked c.without_dialects-plain.result c.args.text.now c.in-Ok.read c.in-Ok-Refused.why c.hint.result c.places_of.result c.number_of_hint.result
+    hinted c.args.options c.without_dialects-plain.result c.args.text.now c.in-Ok.read c.in-Ok-Refused.why c.hint.result c.places_of.result c.number_of_hint.result
     c.without_dialects-plain.ensures c.in-Ok.ensures k.0 k.1 c.places_of.ensures c.hint.ensures c.number_of_hint.ensures

@@ -2,8 +2,8 @@
 use Rattle.wkt_calls.proofs.Padded.{zeros-at, cleared-long}
 use Rattle.wkt_calls.proofs.explain.problem_cleared.Goals as goal
 
-pub before_zeros-requires-clause-near : goal.before_zeros-requires-clause-near
-before_zeros-requires-clause-near g c = cleared-long g.row.NEAR _ c.requires.near
+pub before_zeros-requires-clause-padded : goal.before_zeros-requires-clause-padded
+before_zeros-requires-clause-padded g c = cleared-long g.row.PADDED _ c.requires.padded
 
 pub before_zeros-requires-clause-zeros : goal.before_zeros-requires-clause-zeros
-before_zeros-requires-clause-zeros g c = zeros-at g.row.NEAR
+before_zeros-requires-clause-zeros g c = zeros-at g.row.PADDED

@@ -2,14 +2,14 @@
 use Rattle.std.proofs.Common.{refl, rules, sym, subst, IsUtf8}
 use Rattle.wkt_machine.specs.Goes.{StopsAt}
 use Rattle.wkt_sources.proofs.TableMessages.{stops_message, stops_no_front}
-use Rattle.wkt_canonical.specs.Through.{pen_over}
-use Rattle.wkt_canonical.proofs.PenOutput.{wrote-here}
+use Rattle.wkt_canonical.specs.Through.{text_builder_over}
+use Rattle.wkt_canonical.proofs.TextBuilderOutput.{wrote-here}
 use Rattle.wkt_canonical.proofs.canonical.canonical_in_room.Goals as goal
 
 pub returns-in-Ends-clause-writes : goal.returns-in-Ends-clause-writes
 returns-in-Ends-clause-writes g c =
     let (polygon, writes) = c.in-Ends.ensures.writes in
-    wrote-here (g.N.Numbers.read c.args.numbers) (g.N.Numbers.num c.args.numbers) c.args.text.now c.as_bytes.result.now c.args.buffer.now _ _ (pen_over c.args.numbers polygon c.write_next.new.space) c.in-Ends.end c.as_bytes.ensures.value c.utf8.text refl refl writes c.in-Ends.ensures.room (search rules)
+    wrote-here (g.N.Numbers.read c.args.numbers) (g.N.Numbers.num c.args.numbers) c.args.text.now c.as_bytes.result.now c.args.buffer.now _ _ (text_builder_over c.args.numbers polygon c.write_next.new.space) c.in-Ends.end c.as_bytes.ensures.value c.utf8.text refl refl writes c.in-Ends.ensures.room (search rules)
 
 pub returns-in-Nothing-clause-writes : goal.returns-in-Nothing-clause-writes
 returns-in-Nothing-clause-writes g c =

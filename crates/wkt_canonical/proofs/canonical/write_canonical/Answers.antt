@@ -1,5 +1,5 @@
 -- A text that no line feed ends is its own line.
-use Rattle.wkt_canonical.proofs.PenOutput.{whole-text}
+use Rattle.wkt_canonical.proofs.TextBuilderOutput.{whole-text}
 use Rattle.wkt_canonical.proofs.canonical.write_canonical.Goals as goal
 
 pub returns-clause-writes : goal.returns-clause-writes

@@ -1,6 +1,6 @@
 -- What was written stands behind the first bytes.
 use Rattle.std.proofs.Common.{arith}
-use Rattle.wkt_canonical.proofs.PenOutput.{wrote-behind}
+use Rattle.wkt_canonical.proofs.TextBuilderOutput.{wrote-behind}
 use Rattle.wkt_canonical.proofs.canonical.write_front.Goals as goal
 
 pub returns-in-Ok-Some-clause-writes : goal.returns-in-Ok-Some-clause-writes

@@ -6,44 +6,44 @@ use Rattle.wkt_lines.proofs.in_room.answer_line_by.Goals as goal
 pub ends_there-requires-clause-inside : goal.ends_there-requires-clause-inside
 ends_there-requires-clause-inside g c =
     let w = rw c.in-Ok-Some.field-0-is at c.in-Ok-Some.ensures.writes in
-    from-within (g.N.Numbers.read c.args.numbers) (g.N.Numbers.num c.args.numbers) c.args.rest.now c.args.len c.args.out.now c.write_front.new.out c.in-Ok-Some.end c.in-Ok-Some.n c.tests_from-from.result w c.tests_from-from.ensures
+    from-within (g.N.Numbers.read c.args.numbers) (g.N.Numbers.num c.args.numbers) c.args.rest.now c.args.len c.args.out.now c.write_front.new.out c.in-Ok-Some.end c.in-Ok-Some.n c.utf8_from-from.result w c.utf8_from-from.ensures
 
 pub ends_there-requires-clause-line : goal.ends_there-requires-clause-line
 ends_there-requires-clause-line g c =
     let w = rw c.in-Ok-Some.field-0-is at c.in-Ok-Some.ensures.writes in
-    from-in-line (g.N.Numbers.read c.args.numbers) (g.N.Numbers.num c.args.numbers) c.args.rest.now c.args.len c.args.out.now c.write_front.new.out c.in-Ok-Some.end c.in-Ok-Some.n c.tests_from-from.result w c.tests_from-from.ensures
+    from-in-line (g.N.Numbers.read c.args.numbers) (g.N.Numbers.num c.args.numbers) c.args.rest.now c.args.len c.args.out.now c.write_front.new.out c.in-Ok-Some.end c.in-Ok-Some.n c.utf8_from-from.result w c.utf8_from-from.ensures
 
 pub returns-then-ends_there-clause-answers : goal.returns-then-ends_there-clause-answers
 returns-then-ends_there-clause-answers g c =
     let w = rw c.in-Ok-Some.field-0-is at c.in-Ok-Some.ensures.writes in
     let room = rw c.in-Ok-Some.field-0-is at c.in-Ok-Some.ensures.room in
     let whole = c.in-Ok-Some.ensures.whole in
-    text-line (g.N.Numbers.read c.args.numbers) (g.N.Numbers.num c.args.numbers) c.args.rest.now c.args.len c.args.out.now c.write_front.new.out c.in-Ok-Some.end c.in-Ok-Some.n c.tests_from-from.result w c.tests_from-from.ensures
-    c.tests_from-from.result (omega (arith, room, whole)) c.if-ends_there.ensures
+    text-line (g.N.Numbers.read c.args.numbers) (g.N.Numbers.num c.args.numbers) c.args.rest.now c.args.len c.args.out.now c.write_front.new.out c.in-Ok-Some.end c.in-Ok-Some.n c.utf8_from-from.result w c.utf8_from-from.ensures
+    c.utf8_from-from.result (omega (arith, room, whole)) c.if-ends_there.ensures
 
 pub text_end-requires-clause-inside : goal.text_end-requires-clause-inside
 text_end-requires-clause-inside g c =
     let w = rw c.in-Ok-Some.field-0-is at c.in-Ok-Some.ensures.writes in
-    from-within (g.N.Numbers.read c.args.numbers) (g.N.Numbers.num c.args.numbers) c.args.rest.now c.args.len c.args.out.now c.write_front.new.out c.in-Ok-Some.end c.in-Ok-Some.n c.tests_from-from.result w c.tests_from-from.ensures
+    from-within (g.N.Numbers.read c.args.numbers) (g.N.Numbers.num c.args.numbers) c.args.rest.now c.args.len c.args.out.now c.write_front.new.out c.in-Ok-Some.end c.in-Ok-Some.n c.utf8_from-from.result w c.utf8_from-from.ensures
 
 pub text_end-requires-clause-line : goal.text_end-requires-clause-line
 text_end-requires-clause-line g c =
     let w = rw c.in-Ok-Some.field-0-is at c.in-Ok-Some.ensures.writes in
-    from-in-line (g.N.Numbers.read c.args.numbers) (g.N.Numbers.num c.args.numbers) c.args.rest.now c.args.len c.args.out.now c.write_front.new.out c.in-Ok-Some.end c.in-Ok-Some.n c.tests_from-from.result w c.tests_from-from.ensures
+    from-in-line (g.N.Numbers.read c.args.numbers) (g.N.Numbers.num c.args.numbers) c.args.rest.now c.args.len c.args.out.now c.write_front.new.out c.in-Ok-Some.end c.in-Ok-Some.n c.utf8_from-from.result w c.utf8_from-from.ensures
 
 pub returns-in-Some-clause-answers : goal.returns-in-Some-clause-answers
 returns-in-Some-clause-answers g c =
     let w = rw c.in-Ok-Some.field-0-is at c.in-Ok-Some.ensures.writes in
     let room = rw c.in-Ok-Some.field-0-is at c.in-Ok-Some.ensures.room in
     let whole = c.in-Ok-Some.ensures.whole in
-    text-line (g.N.Numbers.read c.args.numbers) (g.N.Numbers.num c.args.numbers) c.args.rest.now c.args.len c.args.out.now c.write_front.new.out c.in-Ok-Some.end c.in-Ok-Some.n c.tests_from-from.result w c.tests_from-from.ensures
+    text-line (g.N.Numbers.read c.args.numbers) (g.N.Numbers.num c.args.numbers) c.args.rest.now c.args.len c.args.out.now c.write_front.new.out c.in-Ok-Some.end c.in-Ok-Some.n c.utf8_from-from.result w c.utf8_from-from.ensures
     c.in-Some.line (omega (arith, room, whole)) c.in-Some.ensures
 
 pub returns-in-None-clause-answers : goal.returns-in-None-clause-answers
 returns-in-None-clause-answers g c =
     let w = rw c.in-Ok-Some.field-0-is at c.in-Ok-Some.ensures.writes in
     refused-line (g.N.Numbers.read c.args.numbers) (g.N.Numbers.num c.args.numbers) c.args.rest.now c.args.len c.args.out.now c.write_front.new.out c.refuse.new.out c.refuse.result.taken c.refuse.result.len
-    (no-text (g.N.Numbers.read c.args.numbers) (g.N.Numbers.num c.args.numbers) c.args.rest.now c.args.len c.args.out.now c.write_front.new.out c.in-Ok-Some.end c.in-Ok-Some.n c.tests_from-from.result w c.tests_from-from.ensures c.in-None.ensures)
+    (no-text (g.N.Numbers.read c.args.numbers) (g.N.Numbers.num c.args.numbers) c.args.rest.now c.args.len c.args.out.now c.write_front.new.out c.in-Ok-Some.end c.in-Ok-Some.n c.utf8_from-from.result w c.utf8_from-from.ensures c.in-None.ensures)
     c.in-Ok-Some.ensures.kept c.refuse.ensures.written c.refuse.ensures.left
 
 pub returns-in-Ok-None-clause-answers : goal.returns-in-Ok-None-clause-answers

@@ -51,13 +51,13 @@ turns-preserved g c =
     let h = c.in-Ok.ensures.ok in
     let n = c.whole-whole.result in
     let held = c.front-in-Ok.result.now in
-    let rest = unanswered c.forget.new.self in
+    let rest = unanswered c.consume.new.self in
     let d = filled (g.A.Answers.answers c.args.answers.now) g.W.ByteSink.sink _ _ _ _ _ c.turns.invariant.base _ h.0 held h.3 (c.front-in-Ok.ensures ∙ (h.1 ∙ ap (λ (xs : List ℕ). xs ++ h.0) c.make_room.ensures.front)) in
     let w = subst (λ (xs : List ℕ). IsWholeLines (take n xs)) (sym c.front-in-Ok.ensures) c.whole-whole.ensures.whole in
-    let parts : held ≡ take n held ++ rest = sym (take-append-drop n held) ∙ ap (λ (xs : List ℕ). take n held ++ xs) (ap (λ (xs : List ℕ). drop n xs) c.front-in-Ok.ensures ∙ sym c.forget.ensures) in
+    let parts : held ≡ take n held ++ rest = sym (take-append-drop n held) ∙ ap (λ (xs : List ℕ). take n held ++ xs) (ap (λ (xs : List ℕ). drop n xs) c.front-in-Ok.ensures ∙ sym c.consume.ensures) in
     record {
       base = answered (g.A.Answers.answers c.args.answers.now) g.W.ByteSink.sink _ _ _ _ _ d _ (take n held) rest parts w c.in-Ok-answer_block.ensures.answers.ok c.in-Ok-answer_block.ensures.answers.count c.answer_block-in-Ok.ensures.keeps;
-      none = subst (λ (xs : List ℕ). HasNoFeed xs) (sym c.forget.ensures) c.whole-whole.ensures.rest;
+      none = subst (λ (xs : List ℕ). HasNoFeed xs) (sym c.consume.ensures) c.whole-whole.ensures.rest;
       count = c.in-Ok.ensures.count ∙ c.turns.invariant.count;
       empty = c.in-Ok-answer_block.ensures.empty;
     }

@@ -7,12 +7,12 @@ use Rattle.wkt_lines.proofs.whole.answer_whole.Goals as goal
 pub ends_there-requires-clause-inside : goal.ends_there-requires-clause-inside
 ends_there-requires-clause-inside g c =
     let w = rw c.in-Ok-Some.field-0-is at c.in-Ok-Some.ensures.writes in
-    from-within (g.N.Numbers.read c.args.numbers) (g.N.Numbers.num c.args.numbers) c.args.rest.now c.args.len c.args.room.now c.write_front.new.out c.in-Ok-Some.end c.in-Ok-Some.n c.tests_from-from.result w c.tests_from-from.ensures
+    from-within (g.N.Numbers.read c.args.numbers) (g.N.Numbers.num c.args.numbers) c.args.rest.now c.args.len c.args.room.now c.write_front.new.out c.in-Ok-Some.end c.in-Ok-Some.n c.utf8_from-from.result w c.utf8_from-from.ensures
 
 pub whole_end-requires-clause-inside : goal.whole_end-requires-clause-inside
 whole_end-requires-clause-inside g c =
     let w = rw c.in-Ok-Some.field-0-is at c.in-Ok-Some.ensures.writes in
-    from-within (g.N.Numbers.read c.args.numbers) (g.N.Numbers.num c.args.numbers) c.args.rest.now c.args.len c.args.room.now c.write_front.new.out c.in-Ok-Some.end c.in-Ok-Some.n c.tests_from-from.result w c.tests_from-from.ensures
+    from-within (g.N.Numbers.read c.args.numbers) (g.N.Numbers.num c.args.numbers) c.args.rest.now c.args.len c.args.room.now c.write_front.new.out c.in-Ok-Some.end c.in-Ok-Some.n c.utf8_from-from.result w c.utf8_from-from.ensures
 
 pub returns-else-line-rest-clause-answers : goal.returns-else-line-rest-clause-answers
 returns-else-line-rest-clause-answers g c =
@@ -24,9 +24,9 @@ returns-else-line-rest-clause-answers g c =
     let fits : c.in-Ok-Some.n < length c.write_front.new.out = omega (arith, room, whole) in
     elim c.if-ends_there.branch [
       | then-ends_there b ↦
-          whole-line read num c.args.rest.now c.args.len c.args.room.now c.write_front.new.out c.in-Ok-Some.end c.in-Ok-Some.n c.tests_from-from.result w c.tests_from-from.ensures c.args.front c.tests_from-from.result fits b.if-ends_there.ensures
-          (nothing-behind read num c.args.rest.now c.args.len c.args.room.now c.write_front.new.out c.in-Ok-Some.end c.in-Ok-Some.n c.tests_from-from.result w c.tests_from-from.ensures c.args.front b.if-ends_there.ensures)
+          whole-line read num c.args.rest.now c.args.len c.args.room.now c.write_front.new.out c.in-Ok-Some.end c.in-Ok-Some.n c.utf8_from-from.result w c.utf8_from-from.ensures c.args.front c.utf8_from-from.result fits b.if-ends_there.ensures
+          (nothing-behind read num c.args.rest.now c.args.len c.args.room.now c.write_front.new.out c.in-Ok-Some.end c.in-Ok-Some.n c.utf8_from-from.result w c.utf8_from-from.ensures c.args.front b.if-ends_there.ensures)
       | else-ends_there+in_ok-line-in-Ok-Some b ↦
           let e = b.in_ok-line-in-Ok-Some.ensures in
-          whole-line read num c.args.rest.now c.args.len c.args.room.now c.write_front.new.out c.in-Ok-Some.end c.in-Ok-Some.n c.tests_from-from.result w c.tests_from-from.ensures c.args.front b.in_ok-line-in-Ok-Some.line fits e.0 e.1
+          whole-line read num c.args.rest.now c.args.len c.args.room.now c.write_front.new.out c.in-Ok-Some.end c.in-Ok-Some.n c.utf8_from-from.result w c.utf8_from-from.ensures c.args.front b.in_ok-line-in-Ok-Some.line fits e.0 e.1
     ]

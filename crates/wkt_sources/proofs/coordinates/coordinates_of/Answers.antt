@@ -26,7 +26,7 @@ coordinates-init g c = record {
 pub returns-then-not-is_whole : goal.returns-then-not-is_whole
 returns-then-not-is_whole g c =
     lead_steps _ _ _ _ c.coordinates.invariant.leads
-    (refused_to (reached c.args.machine c.coordinate-is_whole.result.1 c.coordinate-is_whole.result.2 c.coordinate-is_whole.result.3) (c.refused.ensures ∙ ap (λ m. Err (record { source = c.coordinate-is_whole.result.2; machine = m; builder = c.coordinate-is_whole.result.3 })) c.to.ensures) (OnFalse_at c.if-not-is_whole.true c.coordinate-is_whole.ensures.refused))
+    (refused_to (reached c.args.machine c.coordinate-is_whole.result.1 c.coordinate-is_whole.result.2 c.coordinate-is_whole.result.3) (c.refused.ensures ∙ ap (λ m. Err (record { source = c.coordinate-is_whole.result.2; machine = m; builder = c.coordinate-is_whole.result.3 })) c.with_state.ensures) (OnFalse_at c.if-not-is_whole.true c.coordinate-is_whole.ensures.refused))
 
 pub returns-then-not-is_next_member : goal.returns-then-not-is_next_member
 returns-then-not-is_next_member g c =
@@ -40,7 +40,7 @@ returns-then-not-is_next_member g c =
 pub returns-then-byte-ne44 : goal.returns-then-byte-ne44
 returns-then-byte-ne44 g c =
     lead_steps _ _ _ _ c.coordinates.invariant.leads
-    (on_to (reached c.args.machine next.Item c.coordinate-is_whole.result.2 c.coordinate-is_whole.result.3) (c.on-then-byte-ne44.ensures ∙ ap (λ m. Ok (record { source = c.coordinate-is_whole.result.2; machine = m; builder = c.coordinate-is_whole.result.3 })) c.to-then-byte-ne44.ensures) (OnTrue_at c.if-not-is_whole.false c.coordinate-is_whole.ensures.on) (OnTrue_at c.if-not-is_whole.false c.coordinate-is_whole.ensures.room))
+    (on_to (reached c.args.machine next.Item c.coordinate-is_whole.result.2 c.coordinate-is_whole.result.3) (c.on-then-byte-ne44.ensures ∙ ap (λ m. Ok (record { source = c.coordinate-is_whole.result.2; machine = m; builder = c.coordinate-is_whole.result.3 })) c.with_state-then-byte-ne44.ensures) (OnTrue_at c.if-not-is_whole.false c.coordinate-is_whole.ensures.on) (OnTrue_at c.if-not-is_whole.false c.coordinate-is_whole.ensures.room))
 
 pub coordinates-smaller : goal.coordinates-smaller
 coordinates-smaller g c =

@@ -4,7 +4,7 @@ use Rattle.wkt_read.specs.Stream as ahead
 use Rattle.wkt_read.specs.Front.{Front}
 use Rattle.wkt_read.proofs.HeaderPlaces.{front-some, front-within, front-boundary}
 use Rattle.wkt_read.proofs.OnePlacing.{spanned-only}
-use Rattle.wkt_machine.specs.Makers.{nothing_maker}
+use Rattle.wkt_machine.specs.Makers.{null_builder_maker}
 use Rattle.wkt_sources.specs.Views.{tokens_view}
 use Rattle.wkt_sources.proofs.FrontValues.{front_made, no_front_there}
 use Rattle.wkt_machine.proofs.RoomForRest.{free_room}
@@ -13,7 +13,7 @@ use Rattle.wkt_sources.proofs.front.front_end_by_tokens.Goals as goal
 pub returns-in-Ok-clause-front : goal.returns-in-Ok-clause-front
 returns-in-Ok-clause-front g c =
     let (v, front, made) =
-    front_made g.T.WktNum.read (tokens_view g.T.WktNum.read) (nothing_maker (λ n. g.T.WktNum.read)) c.args.text.now c.new-source.result _ c.in-Ok.over
+    front_made g.T.WktNum.read (tokens_view g.T.WktNum.read) (null_builder_maker (λ n. g.T.WktNum.read)) c.args.text.now c.new-source.result _ c.in-Ok.over
     (ap (λ t. ahead.remaining t.now) c.new-source.ensures ∙ c.new-tokens.ensures.left ∙ spanned-only _ _ c.from_str.ensures.split c.from_str.ensures.ends) (ahead.end_of c.in-Ok.over.source.tokens.now) (λ end h. h.0) c.in-Ok.ensures.on c.in-Ok.ensures.over in
     (v, subst (Front g.T.WktNum.read c.args.text.now v) (sym (c.end.ensures ∙ ap (λ t. ahead.end_of t.now) c.into_tokens.ensures)) front)
 
@@ -28,8 +28,8 @@ returns-in-Ok-clause-boundary g c = let f = returns-in-Ok-clause-front g c in fr
 
 pub returns-in-Err-clause-front : goal.returns-in-Err-clause-front
 returns-in-Err-clause-front g c =
-    no_front_there g.T.WktNum.read (tokens_view g.T.WktNum.read) (nothing_maker (λ n. g.T.WktNum.read)) c.args.text.now c.new-source.result _ c.in-Err.field-0
+    no_front_there g.T.WktNum.read (tokens_view g.T.WktNum.read) (null_builder_maker (λ n. g.T.WktNum.read)) c.args.text.now c.new-source.result _ c.in-Err.field-0
     (ap (λ t. ahead.remaining t.now) c.new-source.ensures ∙ c.new-tokens.ensures.left ∙ spanned-only _ _ c.from_str.ensures.split c.from_str.ensures.ends) 0 (omega arith) c.in-Err.ensures.refused
 
 pub drive-requires-clause-room : goal.drive-requires-clause-room
-drive-requires-clause-room g c = free_room (tokens_view g.T.WktNum.read) (nothing_maker (λ n. g.T.WktNum.read)) c.new-source.result _ (λ n. tt) (λ c x. refl) (λ by c. refl)
+drive-requires-clause-room g c = free_room (tokens_view g.T.WktNum.read) (null_builder_maker (λ n. g.T.WktNum.read)) c.new-source.result _ (λ n. tt) (λ c x. refl) (λ by c. refl)

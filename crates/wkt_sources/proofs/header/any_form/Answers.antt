@@ -8,12 +8,12 @@ use Rattle.wkt_read.specs.Stream.{BeginsWith}
 use Rattle.wkt_machine.specs.Machine.{part_of}
 use Rattle.wkt_sources.specs.LexemesAhead.{EndsWords, StandsHeader}
 use Rattle.wkt_machine.specs.declared.part.Part.{Part}
-use Rattle.wkt_sources.specs.declared.header.Then.{Then}
+use Rattle.wkt_sources.specs.declared.header.AfterHeader.{AfterHeader}
 use Rattle.wkt_sources.proofs.ByteSteps.{word_takes}
 use Rattle.wkt_sources.proofs.header.any_form.Goals as goal
 
 -- A word that ends so, and what stands behind it.
-header_stands : (feed : Bool) (text : List ℕ) (at n : ℕ) (kind : GeometryType) (joined : Option Dimension) (p : Part) (d : Dimension) (t : Then) (end b : ℕ) → at ≤ length text → BeginsWith (take (length text - at) (drop at text)) kind joined n
+header_stands : (feed : Bool) (text : List ℕ) (at n : ℕ) (kind : GeometryType) (joined : Option Dimension) (p : Part) (d : Dimension) (t : AfterHeader) (end b : ℕ) → at ≤ length text → BeginsWith (take (length text - at) (drop at text)) kind joined n
     → b ≡ get_or text (at + n) 0 → class_of b ≢ Run → p ≡ part_of kind → EndsWords feed text (at + n) joined d t end → StandsHeader feed text at p d t end
 header_stands feed text at n kind joined p d t end b within begins byte stops is ends =
     let word : BeginsWith (drop at text) kind joined n = subst (λ l. BeginsWith l kind joined n) (take_rest text at) begins in

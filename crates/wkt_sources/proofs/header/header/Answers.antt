@@ -7,7 +7,7 @@ use Rattle.wkt_machine.proofs.StepsJoin.{then_steps}
 use Rattle.wkt_sources.proofs.header.header.Goals as goal
 
 pub returns-in-X : goal.returns-in-X
-returns-in-X g c = then_steps c.behind-made.result _ c.behind-made.ensures.on c.coordinates.ensures
+returns-in-X g c = then_steps c.enter-made.result _ c.enter-made.ensures.on c.coordinates.ensures
 
 pub plain-requires : goal.plain-requires
 plain-requires g c = (

@@ -6,7 +6,7 @@ use Rattle.wkt_read.specs.Grammar.{is_empty_word}
 use Rattle.wkt_events.specs.Remaining.{TakesOne}
 use Rattle.wkt_events.proofs.RemainingLexemes.{space, spanned-white}
 use Rattle.wkt_sources.specs.LexemesAhead.{EndsWords, IsKindName, StandsHead, StandsHeader}
-use Rattle.wkt_sources.specs.declared.header.Then.TheVariants as then
+use Rattle.wkt_sources.specs.declared.header.AfterHeader.TheVariants as then
 use Rattle.wkt_machine.specs.declared.part.Part.{Part}
 use Rattle.wkt_sources.proofs.ByteSteps.{empty_after, ends-spaced-word, ends_open, ends_spaced, head_stands, word_takes}
 use Rattle.wkt_sources.proofs.header.plain.Goals as goal

@@ -3,7 +3,7 @@ use Rattle.std.proofs.Common.{sym, refl, ap, false, ◌∙◌}
 use Rattle.wkt_num.specs.Bytes.{Open, Close, Comma, class_of}
 use Rattle.wkt_events.specs.Remaining.{class_in}
 use Rattle.wkt_events.proofs.RemainingLexemes.{spanned-nul}
-use Rattle.wkt_sources.specs.declared.message.Given.TheVariants as given
+use Rattle.wkt_sources.specs.declared.message.NextLexeme.TheVariants as given
 use Rattle.wkt_sources.proofs.ByteViews.{open_mark, close_mark, comma_mark, unmarked}
 use Rattle.wkt_sources.proofs.NextLexeme.{gives_mark, gives_after}
 use Rattle.wkt_sources.proofs.message.next_given.Goals as goal

@@ -8,5 +8,5 @@ pub returns-then-not-ends_as_asked : goal.returns-then-not-ends_as_asked
 returns-then-not-ends_as_asked c =
     let more = c.ends_as_asked.ensures.no c.if-not-ends_as_asked.true in
     match-map c.add_none.result
-    (λ x adds. longer-arrays (places_in c.args.asked) (asks_whole c.args.asked) _ _ _ _ c.args.point.end _ _ _ _ _ refl c.requires more.0 more.1 adds) (λ e h. h)
+    (λ x adds. longer-arrays (places_in c.args.options) (asks_whole c.args.options) _ _ _ _ c.args.point.end _ _ _ _ _ refl c.requires more.0 more.1 adds) (λ e h. h)
     c.add_none.ensures

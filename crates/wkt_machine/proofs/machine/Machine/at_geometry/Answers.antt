@@ -1,7 +1,7 @@
 -- What ends a geometry is taken, or what stands there stays.
 use Rattle.std.proofs.Common.{refl, sym, ap, subst, arith}
 use Rattle.wkt_machine.specs.Machines.{state_of, IsSound}
-use Rattle.wkt_machine.specs.declared.machine.Seen.TheVariants as sees
+use Rattle.wkt_machine.specs.declared.machine.LexemeKind.TheVariants as sees
 use Rattle.wkt_machine.specs.declared.machine.State.TheVariants as next
 use Rattle.wkt_machine.proofs.Stepping.{inner_close, inner_comma, geometry_none}
 use Rattle.wkt_machine.proofs.StepsJoin.{fits_taken, took, stuck}
@@ -9,11 +9,11 @@ use Rattle.wkt_machine.proofs.machine.Machine.at_geometry.Goals as goal
 
 pub returns-then-is_close : goal.returns-then-is_close
 returns-then-is_close g c =
-    took sees.Close c.requires.may c.if-is_close.ensures.on next.Geometry c.requires.state _ 1 refl c.on.ensures c.skip.ensures (inner_close c.args.self.depth c.requires.inner) c.shallower.ensures.state c.shallower.ensures.sound refl c.close.ensures.makes c.close.ensures.leaves (omega arith)
+    took sees.Close c.requires.may c.if-is_close.ensures.on next.Geometry c.requires.state _ 1 refl c.on.ensures c.skip.ensures (inner_close c.args.self.depth c.requires.inner) c.leave_collection.ensures.state c.leave_collection.ensures.sound refl c.close.ensures.makes c.close.ensures.leaves (omega arith)
 
 pub returns-then-is_comma : goal.returns-then-is_comma
 returns-then-is_comma g c =
-    took sees.Comma c.requires.may c.if-is_comma.ensures.on next.Geometry c.requires.state _ 1 refl c.on-then-is_comma.ensures c.skip-then-is_comma.ensures (inner_comma c.args.self.depth c.requires.inner) (ap state_of c.to.ensures) (subst IsSound (sym c.to.ensures) tt) refl c.comma.ensures.makes c.comma.ensures.leaves (omega arith)
+    took sees.Comma c.requires.may c.if-is_comma.ensures.on next.Geometry c.requires.state _ 1 refl c.on-then-is_comma.ensures c.skip-then-is_comma.ensures (inner_comma c.args.self.depth c.requires.inner) (ap state_of c.with_state.ensures) (subst IsSound (sym c.with_state.ensures) tt) refl c.comma.ensures.makes c.comma.ensures.leaves (omega arith)
 
 pub returns-else-is_comma : goal.returns-else-is_comma
 returns-else-is_comma g c =

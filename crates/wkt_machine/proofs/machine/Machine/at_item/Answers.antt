@@ -1,6 +1,6 @@
 -- What ends an item is taken, or what stands there stays.
 use Rattle.std.proofs.Common.{refl, sym, ◌∙◌, arith}
-use Rattle.wkt_machine.specs.declared.machine.Seen.TheVariants as sees
+use Rattle.wkt_machine.specs.declared.machine.LexemeKind.TheVariants as sees
 use Rattle.wkt_machine.specs.declared.machine.State.TheVariants as next
 use Rattle.wkt_machine.proofs.RoomForRest.{inside_owes, outside_owes}
 use Rattle.wkt_machine.proofs.Stepping.{item_none, several, single_none}

@@ -5,7 +5,7 @@ use Rattle.wkt_machine.specs.Machine.{at}
 use Rattle.wkt_machine.specs.Machine as place
 use Rattle.wkt_machine.specs.Machines.{state_of, IsSound}
 use Rattle.wkt_machine.specs.Room.{header_cost}
-use Rattle.wkt_machine.specs.declared.machine.Seen.TheVariants as sees
+use Rattle.wkt_machine.specs.declared.machine.LexemeKind.TheVariants as sees
 use Rattle.wkt_machine.specs.declared.machine.State.TheVariants as next
 use Rattle.wkt_machine.proofs.RoomForRest.{leaves_none}
 use Rattle.wkt_machine.proofs.Stepping.{kind_none}
@@ -15,13 +15,13 @@ use Rattle.wkt_machine.proofs.machine.Machine.at_kind.Goals as goal
 pub returns-in-None : goal.returns-in-None
 returns-in-None g c =
     took (sees.Kind c.in-Kind.kind None) c.requires.may (c.in-Kind.is ∙ ap (sees.Kind c.in-Kind.kind) c.in-None.is) next.Kind c.requires.state _ 0 refl c.on.ensures c.skip.ensures refl
-    (ap state_of c.begun.ensures ∙ ap (λ p. at c.args.self.depth (place.Alone p)) c.part_of-part.ensures) (subst IsSound (sym c.begun.ensures) tt) refl (g.B.Builder.maker.none c.args.builder) (leaves_none g.S.Source.view g.B.Builder.maker c.args.builder) (omega arith)
+    (ap state_of c.with_part.ensures ∙ ap (λ p. at c.args.self.depth (place.Alone p)) c.part_of-part.ensures) (subst IsSound (sym c.with_part.ensures) tt) refl (g.B.Builder.maker.none c.args.builder) (leaves_none g.S.Source.view g.B.Builder.maker c.args.builder) (omega arith)
 
 pub returns-in-Some : goal.returns-in-Some
 returns-in-Some g c =
     let same = ap header_cost c.part_of-part.ensures in
     took (sees.Kind c.in-Kind.kind (Some c.in-Some.dim)) c.requires.may (c.in-Kind.is ∙ ap (sees.Kind c.in-Kind.kind) c.in-Some.is) next.Kind c.requires.state _ (header_cost c.part_of-part.result) refl c.on-in-Some.ensures c.skip-in-Some.ensures refl
-    (ap state_of c.begun-in-Some.ensures ∙ ap (λ p. at c.args.self.depth (place.Opening p c.in-Some.dim)) c.part_of-part.ensures) (subst IsSound (sym c.begun-in-Some.ensures) tt) refl
+    (ap state_of c.with_part-in-Some.ensures ∙ ap (λ p. at c.args.self.depth (place.Opening p c.in-Some.dim)) c.part_of-part.ensures) (subst IsSound (sym c.with_part-in-Some.ensures) tt) refl
     (subst (λ p. g.B.Builder.maker.makes c.args.builder (Event.Header p c.in-Some.dim ∷ []) c.begin.result) c.part_of-part.ensures c.begin.ensures.makes) c.begin.ensures.leaves (omega (arith, same))
 
 pub returns-in_default : goal.returns-in_default

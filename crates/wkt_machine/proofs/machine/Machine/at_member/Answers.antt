@@ -11,8 +11,8 @@ use Rattle.wkt_machine.proofs.machine.Machine.at_member.Goals as goal
 pub returns-in-Ok : goal.returns-in-Ok
 returns-in-Ok g c =
     let takes = c.in-Ok.ensures.takes in
-    on_at c.on.ensures (bare_number (g.B.Builder.maker.reads c.args.builder) g.S.Source.view g.B.Builder.maker c.args.self c.begun.result c.args.source c.in-Ok.behind c.args.builder takes.opened c.in-Ok.made c.requires.state c.in-Member.is c.begun.ensures takes.opens takes.number)
-    (ap (λ m. owed (state_of m)) c.begun.ensures) c.in-Ok.ensures.room
+    on_at c.on.ensures (bare_number (g.B.Builder.maker.reads c.args.builder) g.S.Source.view g.B.Builder.maker c.args.self c.with_part.result c.args.source c.in-Ok.behind c.args.builder takes.opened c.in-Ok.made c.requires.state c.in-Member.is c.with_part.ensures takes.opens takes.number)
+    (ap (λ m. owed (state_of m)) c.with_part.ensures) c.in-Ok.ensures.room
 
 pub returns-in-Err : goal.returns-in-Err
 returns-in-Err g c =

@@ -21,9 +21,9 @@ pub returns-in_default-state : goal.returns-in_default-state
 returns-in_default-state g c =
     let m = c.args.self in
     let rest = rest_room c.requires.may.may in
-    on_at c.on.ensures (inner_number (g.B.Builder.maker.reads c.args.builder) g.S.Source.view g.B.Builder.maker m c.args.source c.in-Ok.behind c.args.builder c.in-Ok.made c.args.axis c.requires.axis c.requires.may.may.sound c.in-Ok.ensures.takes c.to.result (λ e. c.in_default-state.not-Item (c.after-state.ensures ∙ e))
-    (c.to.ensures ∙ ap (λ s. record { state = s; part = m.part; dim = m.dim; depth = m.depth }) c.after-state.ensures))
-    (ap (λ m. owed (state_of m)) c.to.ensures ∙ ap (λ s. owed (at m.depth (place_of s m.part m.dim))) c.after-state.ensures ∙ after_owes c.args.axis m.dim m.part m.depth)
+    on_at c.on.ensures (inner_number (g.B.Builder.maker.reads c.args.builder) g.S.Source.view g.B.Builder.maker m c.args.source c.in-Ok.behind c.args.builder c.in-Ok.made c.args.axis c.requires.axis c.requires.may.may.sound c.in-Ok.ensures.takes c.with_state.result (λ e. c.in_default-state.not-Item (c.after-state.ensures ∙ e))
+    (c.with_state.ensures ∙ ap (λ s. record { state = s; part = m.part; dim = m.dim; depth = m.depth }) c.after-state.ensures))
+    (ap (λ m. owed (state_of m)) c.with_state.ensures ∙ ap (λ s. owed (at m.depth (place_of s m.part m.dim))) c.after-state.ensures ∙ after_owes c.args.axis m.dim m.part m.depth)
     (less_room g.S.Source.view g.B.Builder.maker 0 1 c.in-Ok.behind c.in-Ok.made (omega arith) (number_after g.S.Source.view g.B.Builder.maker c.args.source c.in-Ok.behind c.args.builder c.in-Ok.made (sym c.in-Number.is ∙ c.requires.may.seen) rest c.in-Ok.ensures.leaves))
 
 pub returns-in-Err : goal.returns-in-Err

@@ -14,4 +14,4 @@ returns-in-Bare-clause-room g c =
 
 pub returns-in_default-clause-room : goal.returns-in_default-clause-room
 returns-in_default-clause-room g c =
-    room_at g.S.Source.view g.B.Builder.maker c.args.source c.args.builder c.to.result c.on-in_default.result c.on-in_default.ensures (ap (λ m. owed (state_of m)) c.to.ensures) (less_room g.S.Source.view g.B.Builder.maker 0 1 c.args.source c.args.builder (omega arith) c.requires.room)
+    room_at g.S.Source.view g.B.Builder.maker c.args.source c.args.builder c.with_state.result c.on-in_default.result c.on-in_default.ensures (ap (λ m. owed (state_of m)) c.with_state.ensures) (less_room g.S.Source.view g.B.Builder.maker 0 1 c.args.source c.args.builder (omega arith) c.requires.room)

@@ -1,9 +1,0 @@
--- The number that stands there, in a parenthesis.
-use Rattle.wkt_flat_read.proofs.grower.FlatGrowerBuilder.bare_in.Goals as goal
-
-pub returns-in-Some-clause-some : goal.returns-in-Some-clause-some
-returns-in-Some-clause-some g c = record {
-  opened = c.open.result;
-  opens = c.open.ensures.makes;
-  number = record { number = _; there = c.in-Some.ensures.some; makes = c.number.ensures.makes };
-}
