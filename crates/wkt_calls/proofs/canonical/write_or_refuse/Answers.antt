@@ -1,6 +1,6 @@
 -- The front of the text and of what is walked are the same, and so is the message.
 use Rattle.wkt_calls.specs.Answer.{read_at}
-use Rattle.wkt_explain.proofs.BehindNul.{front-padded_text, none-padded_text, said-padded_text}
+use Rattle.wkt_explain.proofs.BehindNul.{front-walked, none-walked, said-walked}
 use Rattle.wkt_calls.proofs.Padded.{refused-with}
 use Rattle.wkt_calls.proofs.canonical.write_or_refuse.Goals as goal
 
@@ -10,7 +10,7 @@ returns-in-Ok-clause-canonical c =
       c.requires.utf8,
       record {
         value = h.value;
-        front = front-padded_text (read_at c.args.places) c.args.text.now c.args.padded_text.now c.requires.padded_text h.value c.in-Ok.end h.front;
+        front = front-walked (read_at c.args.places) c.args.text.now c.args.padded_text.now c.requires.padded_text h.value c.in-Ok.end h.front;
         is = h.is;
       },
     )
@@ -19,6 +19,6 @@ pub returns-in-Err-clause-canonical : goal.returns-in-Err-clause-canonical
 returns-in-Err-clause-canonical c =
     let (none, says) = c.in-Err.ensures.writes in
     refused-with (read_at c.args.places) c.args.text.now c.in-Err.message c.number.result c.requires.utf8
-    (none-padded_text (read_at c.args.places) c.args.text.now c.args.padded_text.now c.requires.padded_text none)
-    (said-padded_text (read_at c.args.places) c.args.text.now c.args.padded_text.now c.requires.padded_text c.in-Err.message says)
+    (none-walked (read_at c.args.places) c.args.text.now c.args.padded_text.now c.requires.padded_text none)
+    (said-walked (read_at c.args.places) c.args.text.now c.args.padded_text.now c.requires.padded_text c.in-Err.message says)
     c.number.ensures.number c.number.ensures.least c.number.ensures.most
