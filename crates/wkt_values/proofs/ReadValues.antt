@@ -97,17 +97,17 @@ module _ {N S : Type 0} (read : List ℕ → Option N) (view : View N S) (text :
   pub found_in : (t : S) (at : ℕ) → ((end : ℕ) → view.place t end → at ≡ end) → (w : Wkt N) (a : Result (Wkt N) Unread) → a ≡ Ok w → IfOk a (λ w. IsRead read view s (tree w) t) → IsFrontTo read text (tree w) at
   found_in t at ends w a e h =
       let (v, takes, is) : IsRead read view s (tree w) t = subst (λ a. IfOk a (λ w. IsRead read view s (tree w) t)) e h in
-      (v, front_taken v t at ends takes, is)
+      (v, front_taken read view text s begins v t at ends takes, is)
 
   pub memory_in : (t : S) (x : AllocError) (u : Unread) (a : Result (Wkt N) Unread) → a ≡ Err u → u ≡ Memory x → OnMemory a (WantsMemory read view s t) → (P : Type 0) → (v : Value N) (end : ℕ) → Front read text v end → NeedsNoMemory v → P
   memory_in t x u a e is h P v end front free =
       let (w, takes, wants) : WantsMemory read view s t = subst (λ u. OnMemory {X = Wkt N} (Err u) (WantsMemory read view s t)) is (subst (λ a. OnMemory a (WantsMemory read view s t)) e h) in
-      let same = front_one read text v w end _ front (front_whole w t takes) in
+      let same = front_one read text v w end _ front (front_whole read view text s begins w t takes) in
       absurd (wants (subst NeedsNoMemory same.0 free))
 
   pub refused_in : (t : S) (m : Machine) (u : Unread) (a : Result (Wkt N) Unread) → a ≡ Err u → u ≡ Refused m → OnRefused a (λ m. MachineRefuses read view s m t) → (j : view.Known) → view.keeps s j → HasNoFront read text
   refused_in t m u a e is h j keeps =
-      no_front_refused j keeps m t (subst (λ u. OnRefused {X = Wkt N} (Err u) (λ m. MachineRefuses read view s m t)) is (subst (λ a. OnRefused a (λ m. MachineRefuses read view s m t)) e h))
+      no_front_refused read view text s begins j keeps m t (subst (λ u. OnRefused {X = Wkt N} (Err u) (λ m. MachineRefuses read view s m t)) is (subst (λ a. OnRefused a (λ m. MachineRefuses read view s m t)) e h))
 
 -- What is answered where the machine was driven over the text that a source begins with.
 
