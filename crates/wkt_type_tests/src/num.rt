@@ -350,141 +350,77 @@ fn whole_numbers_that_are_read_elsewhere(rt: HostRuntime) {
     equal(&rt, shown::<u32>(&rt, alloc, "+1,"), None);
 }
 
-// Texts, and what Rust's `FromStr` reads them as at `i32`, `i64`, `u32` and `u64`.
-const WHOLE: &[(&str, [&str; 4])] = &[
-    ("0", ["0", "0", "0", "0"]),
-    ("7", ["7", "7", "7", "7"]),
-    ("-0", ["0", "0", "refused", "refused"]),
-    ("007", ["7", "7", "7", "7"]),
-    ("-155", ["-155", "-155", "refused", "refused"]),
-    ("+5", ["5", "5", "5", "5"]),
-    ("", ["refused", "refused", "refused", "refused"]),
-    ("-", ["refused", "refused", "refused", "refused"]),
-    ("+", ["refused", "refused", "refused", "refused"]),
-    ("-+1", ["refused", "refused", "refused", "refused"]),
-    ("1-", ["refused", "refused", "refused", "refused"]),
-    ("1.0", ["refused", "refused", "refused", "refused"]),
-    ("1a", ["refused", "refused", "refused", "refused"]),
-    ("a1", ["refused", "refused", "refused", "refused"]),
-    (":", ["refused", "refused", "refused", "refused"]),
-    ("/5", ["refused", "refused", "refused", "refused"]),
-    ("99999999", ["99999999", "99999999", "99999999", "99999999"]),
-    (
-        "999999999",
-        ["999999999", "999999999", "999999999", "999999999"],
-    ),
-    (
-        "1000000000",
-        ["1000000000", "1000000000", "1000000000", "1000000000"],
-    ),
-    (
-        "-99999999",
-        ["-99999999", "-99999999", "refused", "refused"],
-    ),
-    (
-        "-999999999",
-        ["-999999999", "-999999999", "refused", "refused"],
-    ),
-    (
-        "2147483647",
-        ["2147483647", "2147483647", "2147483647", "2147483647"],
-    ),
-    (
-        "2147483648",
-        ["refused", "2147483648", "2147483648", "2147483648"],
-    ),
-    (
-        "-2147483648",
-        ["-2147483648", "-2147483648", "refused", "refused"],
-    ),
-    (
-        "-2147483649",
-        ["refused", "-2147483649", "refused", "refused"],
-    ),
-    ("00000000007", ["7", "7", "7", "7"]),
-    (
-        "4294967295",
-        ["refused", "4294967295", "4294967295", "4294967295"],
-    ),
-    (
-        "4294967296",
-        ["refused", "4294967296", "refused", "4294967296"],
-    ),
-    (
-        "99999999999999999",
-        [
-            "refused",
-            "99999999999999999",
-            "refused",
-            "99999999999999999",
-        ],
-    ),
-    (
-        "999999999999999999",
-        [
-            "refused",
-            "999999999999999999",
-            "refused",
-            "999999999999999999",
-        ],
-    ),
-    (
-        "-99999999999999999",
-        ["refused", "-99999999999999999", "refused", "refused"],
-    ),
-    (
-        "-999999999999999999",
-        ["refused", "-999999999999999999", "refused", "refused"],
-    ),
-    (
-        "1000000000000000000",
-        [
-            "refused",
-            "1000000000000000000",
-            "refused",
-            "1000000000000000000",
-        ],
-    ),
-    ("000000000000000000", ["0", "0", "0", "0"]),
-    ("0000000000000000001", ["1", "1", "1", "1"]),
-    (
-        "9223372036854775807",
-        [
-            "refused",
-            "9223372036854775807",
-            "refused",
-            "9223372036854775807",
-        ],
-    ),
-    (
-        "9223372036854775808",
-        ["refused", "refused", "refused", "9223372036854775808"],
-    ),
-    (
-        "-9223372036854775808",
-        ["refused", "-9223372036854775808", "refused", "refused"],
-    ),
-    (
-        "-9223372036854775809",
-        ["refused", "refused", "refused", "refused"],
-    ),
-    (
-        "18446744073709551615",
-        ["refused", "refused", "refused", "18446744073709551615"],
-    ),
-    (
-        "18446744073709551616",
-        ["refused", "refused", "refused", "refused"],
-    ),
+// Which of `i32`, `i64`, `u32` and `u64` read a text.
+const ALL: [bool; 4] = [true, true, true, true];
+
+const SIGNED: [bool; 4] = [true, true, false, false];
+
+const NOT_I32: [bool; 4] = [false, true, true, true];
+
+const WIDE: [bool; 4] = [false, true, false, true];
+
+const I64: [bool; 4] = [false, true, false, false];
+
+const U64: [bool; 4] = [false, false, false, true];
+
+const NONE: [bool; 4] = [false, false, false, false];
+
+// Texts, and what Rust's `FromStr` reads them as at those types; at the others they are refused.
+const WHOLE: &[(&str, &str, [bool; 4])] = &[
+    ("0", "0", ALL),
+    ("7", "7", ALL),
+    ("-0", "0", SIGNED),
+    ("007", "7", ALL),
+    ("-155", "-155", SIGNED),
+    ("+5", "5", ALL),
+    ("", "refused", NONE),
+    ("-", "refused", NONE),
+    ("+", "refused", NONE),
+    ("-+1", "refused", NONE),
+    ("1-", "refused", NONE),
+    ("1.0", "refused", NONE),
+    ("1a", "refused", NONE),
+    ("a1", "refused", NONE),
+    (":", "refused", NONE),
+    ("/5", "refused", NONE),
+    ("99999999", "99999999", ALL),
+    ("999999999", "999999999", ALL),
+    ("1000000000", "1000000000", ALL),
+    ("-99999999", "-99999999", SIGNED),
+    ("-999999999", "-999999999", SIGNED),
+    ("2147483647", "2147483647", ALL),
+    ("2147483648", "2147483648", NOT_I32),
+    ("-2147483648", "-2147483648", SIGNED),
+    ("-2147483649", "-2147483649", I64),
+    ("00000000007", "7", ALL),
+    ("4294967295", "4294967295", NOT_I32),
+    ("4294967296", "4294967296", WIDE),
+    ("99999999999999999", "99999999999999999", WIDE),
+    ("999999999999999999", "999999999999999999", WIDE),
+    ("-99999999999999999", "-99999999999999999", I64),
+    ("-999999999999999999", "-999999999999999999", I64),
+    ("1000000000000000000", "1000000000000000000", WIDE),
+    ("000000000000000000", "0", ALL),
+    ("0000000000000000001", "1", ALL),
+    ("9223372036854775807", "9223372036854775807", WIDE),
+    ("9223372036854775808", "9223372036854775808", U64),
+    ("-9223372036854775808", "-9223372036854775808", I64),
+    ("-9223372036854775809", "refused", NONE),
+    ("18446744073709551615", "18446744073709551615", U64),
+    ("18446744073709551616", "refused", NONE),
 ];
+
+fn or_refused(read: bool, value: &str) -> &str {
+    if read { value } else { "refused" }
+}
 
 #[test]
 fn whole_texts(rt: HostRuntime) {
     let alloc = rt.alloc();
-    for &(text, [i, l, u, w]) in WHOLE {
-        prints::<i32>(&rt, alloc, text, i);
-        prints::<i64>(&rt, alloc, text, l);
-        prints::<u32>(&rt, alloc, text, u);
-        prints::<u64>(&rt, alloc, text, w);
+    for &(text, value, [i, l, u, w]) in WHOLE {
+        prints::<i32>(&rt, alloc, text, or_refused(i, value));
+        prints::<i64>(&rt, alloc, text, or_refused(l, value));
+        prints::<u32>(&rt, alloc, text, or_refused(u, value));
+        prints::<u64>(&rt, alloc, text, or_refused(w, value));
     }
 }
