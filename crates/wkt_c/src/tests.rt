@@ -129,6 +129,17 @@ fn canonical_texts(rt: HostRuntime) {
     }
 }
 
+// Two texts, what is asked for beside 18 places, the status, whether they are the same, and where their geometries end. Where
+// one is refused, the last three stay as they were.
+const SAME: [(&[u8], &[u8], u32, (u32, u32, usize, usize)); 4] = [
+    (ONE, b"POINT Z(1e0 2 0.3e1)", ALL, (DONE, 1, 19, 20)),
+    (ONE, b"POINT(1 2)", ALL, (DONE, 0, 19, 10)),
+    (b"POINT(1 2)", b"POINT(1", ALL, (7, 0, 19, 10)),
+    (ONE, b"POINT(1 2 3)x", WHOLE + ALL, (NOT_WHOLE, 0, 19, 12)),
+];
+
+const ONE: &[u8] = b"SRID=1;POINT(1 2 3) ";
+
 #[test]
 fn same_texts(rt: HostRuntime) {
     let mut read_room = [0u8; 400];
@@ -138,72 +149,24 @@ fn same_texts(rt: HostRuntime) {
     let mut same = 9;
     let mut end = 9;
     let mut other_end = 9;
-    let one = b"SRID=1;POINT(1 2 3) ";
-    let other = b"POINT Z(1e0 2 0.3e1)";
-    let status = wkt_same_ends_in(
-        one,
-        other,
-        18 + ALL,
-        &mut read_room,
-        &mut other_read_room,
-        &mut room,
-        &mut other_room,
-        &mut same,
-        &mut end,
-        &mut other_end,
-    );
-    assert!(&rt;
-        (status, same, end, other_end) == (DONE, 1, 19, 20),
-        "{status} {same} {end} {other_end}"
-    );
-    let status = wkt_same_ends_in(
-        one,
-        b"POINT(1 2)",
-        18 + ALL,
-        &mut read_room,
-        &mut other_read_room,
-        &mut room,
-        &mut other_room,
-        &mut same,
-        &mut end,
-        &mut other_end,
-    );
-    assert!(&rt;
-        (status, same, end, other_end) == (DONE, 0, 19, 10),
-        "{status} {same} {end} {other_end}"
-    );
-    let status = wkt_same_ends_in(
-        b"POINT(1 2)",
-        b"POINT(1",
-        18 + ALL,
-        &mut read_room,
-        &mut other_read_room,
-        &mut room,
-        &mut other_room,
-        &mut same,
-        &mut end,
-        &mut other_end,
-    );
-    assert!(&rt;
-        (status, same, end, other_end) == (7, 0, 19, 10),
-        "{status} {same} {end} {other_end}"
-    );
-    let status = wkt_same_ends_in(
-        one,
-        b"POINT(1 2 3)x",
-        18 + ALL + WHOLE,
-        &mut read_room,
-        &mut other_read_room,
-        &mut room,
-        &mut other_room,
-        &mut same,
-        &mut end,
-        &mut other_end,
-    );
-    assert!(&rt;
-        (status, same, end, other_end) == (NOT_WHOLE, 0, 19, 12),
-        "{status} {same} {end} {other_end}"
-    );
+    for (one, other, asked, wanted) in SAME {
+        let status = wkt_same_ends_in(
+            one,
+            other,
+            asked.wrapping_add(18),
+            &mut read_room,
+            &mut other_read_room,
+            &mut room,
+            &mut other_room,
+            &mut same,
+            &mut end,
+            &mut other_end,
+        );
+        assert!(&rt;
+            (status, same, end, other_end) == wanted,
+            "{other:?}: {status} {same} {end} {other_end}"
+        );
+    }
 }
 
 // A text, what is asked for, the status, the message, from where to where it is refused, and what could stand there.
