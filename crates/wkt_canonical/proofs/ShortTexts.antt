@@ -10,8 +10,7 @@ use Rattle.std.proofs.Math.Nat.{mul-le-mul_right, pow-le-pow_right, pow-suc, mod
 use Rattle.std.proofs.lemmas.List.Edits.{length-between, get_or-between}
 use borrow.Author.Tests.{eqb-true, ltb-true, leb-true}
 use Rattle.wkt_num.specs.Whole.{is_numeral, keep_if, read_signed, read_unsigned}
-use Rattle.wkt_num.specs.WholeLaws.{both_true}
-use Rattle.wkt_num.proofs.ReadNumbers.{numeral_from}
+use Rattle.wkt_num.specs.WholeLaws.{both_true, numeral_from}
 use Rattle.wkt_num.specs.Decimal.{before_point, after_point, units_of, read_magnitude, read_decimal, with_sign, and_then, fraction_digits, fraction_text, magnitude_text, decimal_text}
 use Rattle.wkt_num.specs.DecimalLaws.{not_negative, fraction-none, ten_pos, keep_some, magnitude-small}
 use Rattle.wkt_read.specs.Lexemes.{without_plus}

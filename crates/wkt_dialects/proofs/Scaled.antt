@@ -14,10 +14,10 @@ use borrow.Author.Tests.{leb-true, leb-false, le-leb, lt-leb, ne_eqb}
 use Rattle.wkt_num.specs.Bytes.{AllRun, IsRun}
 use Rattle.wkt_num.specs.Number.{begins_number}
 use Rattle.wkt_num.specs.Whole.{is_numeral}
-use Rattle.wkt_num.specs.WholeLaws.{digits_are_run, digit_begins, minus_run, point_run}
+use Rattle.wkt_num.specs.WholeLaws.{numeral_from, digits_are_run, digit_begins, minus_run, point_run}
 use Rattle.wkt_num.specs.Decimal.{before_point, after_point, units_of, read_magnitude, read_decimal, with_sign, and_then, zeros, StandsFor}
 use Rattle.wkt_num.specs.DecimalLaws.{digits_append, read-near}
-use Rattle.wkt_num.proofs.ReadNumbers.{numeral_from, read-far}
+use Rattle.wkt_num.proofs.ReadNumbers.{read-far}
 use Rattle.wkt_num.proofs.NumberLaws.{stands_from}
 use Rattle.wkt_num.proofs.Scan.{after_small}
 use Rattle.wkt_num.proofs.DecimalParts.{digits-parts}

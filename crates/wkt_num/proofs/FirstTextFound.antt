@@ -1,7 +1,6 @@
 -- The text of a number that stands first in the bytes is found by its parts.
-use Rattle.std.proofs.Common.{◌≡◌, ℕ, zero, suc, ◌+◌, ◌-◌, ◌%◌, ◌^◌, ◌<◌, ◌≤◌, Bool, true, false, ◌==◌, List, [], ◌∷◌, ◌++◌, length, take, drop, get_or, slice_range, ℤ, pos, negsuc, Option, Some, None, inl, inr, refl, sym, ap, subst, ◌∙◌, arith, append_assoc, length-append}
-use Rattle.std.specs.Prelude.{unsigned_abs}
-use Rattle.std.specs.Fmt.{decimal, signed_decimal, sign_text}
+use Rattle.std.proofs.Common.{◌≡◌, ℕ, zero, suc, ◌+◌, ◌-◌, ◌%◌, ◌^◌, ◌<◌, ◌≤◌, Bool, true, false, ◌==◌, List, [], ◌∷◌, ◌++◌, length, take, drop, get_or, slice_range, Option, Some, None, inl, inr, refl, sym, ap, subst, ◌∙◌, arith, append_assoc, length-append}
+use Rattle.std.specs.Fmt.{decimal, sign_text}
 use Rattle.std.specs.Char.{is_ascii_digit}
 use Rattle.std.specs.Int.{IsInRange}
 use Rattle.std.specs.Str.Parse.{IsNumeral, AllDigits}
@@ -12,9 +11,10 @@ use Rattle.std.proofs.lemmas.Bool.{cases_lt, cases_eq}
 use Rattle.std.proofs.lemmas.Bool.Decides.{nat_tests}
 use Rattle.std.proofs.Math.ListN.{get_or-append}
 use Rattle.std.proofs.Math.Seq.{take-append_seam, drop-append_seam}
-use Rattle.std.proofs.Math.Nat.{pow-le-pow_right}
 use Rattle.wkt_num.specs.Bytes.{class_of, Run}
-use Rattle.wkt_num.specs.WholeLaws.{digit_run}
+use borrow.Author.Tests.{ne_eqb}
+use Rattle.wkt_num.specs.Whole.{WholeForm, IsWholeForm}
+use Rattle.wkt_num.specs.WholeLaws.{digit_run, first_digit}
 use Rattle.wkt_num.specs.Number.{StopsRun, StandsFirst}
 use Rattle.wkt_num.specs.DigitParts.{IsPrinted, IsWholeText}
 use Rattle.wkt_num.proofs.DecimalParts.{length-range}
@@ -225,20 +225,38 @@ whole-text most n negative bs small some wide other given =
           stops = subst (λ (k : ℕ). k < length bs → class_of (get_or bs k 0) ≡ Run → ⊥) e (stops n most negative [] bs small some wide s);
         }
 
-pub unsigned-text : (most k n : ℕ) (bs : List ℕ) → 0 < most → 10 ^ most ≤ 2 ^ k → k ≤ 128 → n < 10 ^ most → StandsFirst (decimal n) bs → IsWholeText most bs (length (decimal n))
-unsigned-text most k n bs some fits narrow small stands = whole-text most n false bs small some (omega (arith, small, fits, pow-le-pow_right {n = 2} (omega arith) {i = k} {j = 128} narrow)) (λ e. cc) stands
+module _ {T : Type 0} (most : ℕ) (form : WholeForm T) (laws : IsWholeForm most form) (x : T) (bs : List ℕ) (small : form.magnitude x < 10 ^ most) (stands : StandsFirst (form.num x) bs) where
+  abbrev negative : Bool
+  negative = (laws.parts x).0
 
--- it doesn't begin with a minus
-pub unsigned-first : (most k n : ℕ) (bs : List ℕ) → 10 ^ most ≤ 2 ^ k → k ≤ 128 → n < 10 ^ most → StandsFirst (decimal n) bs → get_or bs 0 0 ≡ 45 → ⊥
-unsigned-first most k n bs fits narrow small stands e =
-    let d : IsNumeral 10 (decimal n) = (decimal_is_IsNumeral_wide n (omega (arith, small, fits, pow-le-pow_right {n = 2} (omega arith) {i = k} {j = 128} narrow))).0 in
-    let head : get_or bs 0 0 ≡ get_or (decimal n) 0 0 = ap (λ l. get_or l 0 0) stands.whole ∙ get_or-append (decimal n) stands.rest 0 0 d.0 in
-    not-both (is_ascii_digit (get_or (decimal n) 0 0)) (digits-at (decimal n) 0 d.1 d.0) (ap is_ascii_digit (sym head ∙ e))
+  abbrev n : ℕ
+  n = form.magnitude x
 
-pub signed-text : (most k : ℕ) (x : ℤ) (bs : List ℕ) → 0 < most → 10 ^ most ≤ 2 ^ k → k ≤ 128 → unsigned_abs x < 10 ^ most → StandsFirst (signed_decimal x) bs → IsWholeText most bs (length (signed_decimal x))
-signed-text most k (pos n) bs some fits narrow small stands = unsigned-text most k n bs some fits narrow small stands
-signed-text most k (negsuc n) bs some fits narrow small stands =
-    whole-text most (suc n) true bs small some (omega (arith, small, fits, pow-le-pow_right {n = 2} (omega arith) {i = k} {j = 128} narrow)) (λ e. omega arith) stands
+  wide : n < 10 ^ 64
+  wide = omega (arith, small, laws.wide)
+
+  text : form.num x ≡ sign_text negative ++ decimal n
+  text = let p = laws.parts x in ap form.num (sym p.3) ∙ laws.prints negative n p.1 p.2
+
+  parted : StandsFirst (sign_text negative ++ decimal n) bs
+  parted = subst (λ l. StandsFirst l bs) text stands
+
+  pub number-text : IsWholeText most bs (length (form.num x))
+  number-text = subst (λ l. IsWholeText most bs (length l)) (sym text) (whole-text most n negative bs small laws.some wide (laws.parts x).2 parted)
+
+  -- whether it begins with a minus tells the sign, which a number has
+  pub number-sign : form.has (get_or bs 0 0 == 45) ≡ true
+  number-sign = ap form.has (go negative parted) ∙ (laws.parts x).1
+    where
+      numeral : IsNumeral 10 (decimal n)
+      numeral = (decimal_is_IsNumeral_wide n wide).0
+
+      go : (b : Bool) → StandsFirst (sign_text b ++ decimal n) bs → (get_or bs 0 0 == 45) ≡ b
+      go true s = ap (λ l. get_or l 0 0 == 45) s.whole
+      go false s =
+          let r = first_digit (decimal n) numeral in
+          let head : get_or bs 0 0 ≡ get_or (decimal n) 0 0 = ap (λ l. get_or l 0 0) s.whole ∙ get_or-append (decimal n) s.rest 0 0 numeral.0 in
+          ne_eqb (get_or bs 0 0) 45 (λ e. omega (arith, r, head, e))
 
 -- ---- the answer at the end
 

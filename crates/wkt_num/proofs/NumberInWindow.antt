@@ -1,7 +1,7 @@
 -- A number that a window shows whole, by its digits, around a point or without one.
-use Rattle.std.proofs.Common.{◌≡◌, ℕ, zero, suc, ◌+◌, ◌-◌, ◌*◌, ◌^◌, ◌<◌, ◌≤◌, Bool, true, false, cond, ◌==◌, List, [], ◌∷◌, ◌++◌, length, take, drop, get_or, slice_range, ℤ, pos, negsuc, Some, refl, sym, ap, subst, ◌∙◌, arith, append_assoc, length-append, FitsSigned, to_z, of_z, unsigned_abs, Option}
+use Rattle.std.proofs.Common.{◌≡◌, ℕ, zero, suc, ◌+◌, ◌-◌, ◌*◌, ◌^◌, ◌<◌, ◌≤◌, Bool, true, false, cond, ◌==◌, List, [], ◌∷◌, ◌++◌, length, take, drop, get_or, slice_range, ℤ, pos, negsuc, Some, None, Option, IfSome, refl, sym, ap, subst, ◌∙◌, arith, append_assoc, length-append, FitsSigned, to_z, of_z}
 use Rattle.std.specs.Fmt.{sign_text}
-use Rattle.std.specs.Int.{w64, IsInRange, w8, w16, w32, w128}
+use Rattle.std.specs.Int.{w64, IsInRange, w128}
 use Rattle.std.specs.Str.Parse.{IsNumeral, AllDigits, digits_value, digits_value_after, starts_with_minus, without_leading_plus}
 use Rattle.std.proofs.lemmas.Str.Parse.{without_leading_plus_none}
 use Rattle.std.proofs.lemmas.List.{append-nil, take_more}
@@ -11,15 +11,15 @@ use Rattle.std.proofs.lemmas.Int.Digits.{digits_value-lt}
 use Rattle.std.proofs.Math.Nat.{mul-le-mul_right, pow-le-pow_right}
 use Rattle.std.proofs.Math.Seq.{take-length}
 use borrow.Author.Tests.{ne_eqb, lt-ltb}
-use Rattle.wkt_num.specs.Whole.{keep_if, IsSigned, read_signed, read_unsigned}
+use Rattle.wkt_num.specs.Whole.{keep_if, IsSigned, signed, WholeForm, IsWholeForm}
 use Rattle.wkt_num.specs.Bytes.{class_of, Run, AllRun}
 use Rattle.wkt_num.specs.Number.{IsNumberText, BeginsNumber}
-use Rattle.wkt_num.specs.WholeLaws.{digits_are_run, point_run, minus_run, first_digit, read_signed_minus, read_signed_plain, read_unsigned_some}
+use Rattle.wkt_num.specs.WholeLaws.{digits_are_run, point_run, minus_run}
 use Rattle.wkt_num.specs.Decimal.{read_magnitude, read_decimal, with_sign, and_then}
 use Rattle.wkt_num.specs.DecimalLaws.{first_of, run_append, number_first, digits_append, value_append, read-near, after_split, ten_pos}
 use Rattle.wkt_num.proofs.DecimalParts.{take-range, length-range, stops-at, digits-parts, range-split}
 use Rattle.wkt_num.proofs.TextInsideText.{reads-fraction, reads-whole}
-use Rattle.wkt_num.specs.DigitParts.{BeginsUnits, signed, ShowsWhole, SpellsAll}
+use Rattle.wkt_num.specs.DigitParts.{BeginsUnits, ShowsWhole, SpellsAll}
 
 -- Digits around a point, or without one, are read as their units.
 
@@ -286,113 +286,62 @@ module _ (D : ℕ) (bs : List ℕ) (first point w t : ℕ) (few : D ≤ 18) (sig
 
 -- ---- a whole number
 
+-- a number that is made has its sign
+pub made-is : {T : Type 0} (b : Bool) (y x : T) → Some x ≡ keep_if b y → (b ≡ true) × (x ≡ y)
+made-is true y x e = (refl, cc)
+made-is false y x e = cc
+
+pub made-some : {T : Type 0} (P : T → Type 0) (o : Option T) → ((x : T) → Some x ≡ o → P x) → IfSome o P
+made-some P (Some x) h = h x refl
+made-some P None h = tt
+
+pub not-made : {A T : Type 0} (b : Bool) (y : T) → None ≡ keep_if b y → b ≡ true → A
+not-made true y e t = cc
+not-made false y e t = cc
+
+-- fewer digits fit too
+pub fewer-fit : (most d n : ℕ) → most ≤ d → n < 10 ^ most → n < 10 ^ d
+fewer-fit most d n few less = omega (arith, less, pow-le-pow_right {n = 10} (omega arith) {i = most} {j = d} few)
+
 -- the sign and the digits
-read-signed : (k v : ℕ) (negative : Bool) (shown : List ℕ) → IsNumeral 10 shown → digits_value 10 shown ≡ v → v < 2 ^ k → read_signed k (sign_text negative ++ shown) ≡ Some (signed negative v)
-read-signed k v true shown shown-numeral e less = read_signed_minus k v shown shown-numeral e (omega (arith, less))
-read-signed k v false shown shown-numeral e less = read_signed_plain k v shown shown-numeral e less
+module _ {T : Type 0} (d most : ℕ) (form : WholeForm T) (laws : IsWholeForm d form) (few : most ≤ d) (bs : List ℕ) (first number : ℕ) (x : T) (sign : take first bs ≡ sign_text (first == 1))
+    (made : Some x ≡ keep_if (form.has (first == 1)) (form.of (first == 1) number)) where
+  digits-read : (ds : List ℕ) → IsNumeral 10 ds → number ≡ digits_value 10 ds → number < 10 ^ most → form.read (sign_text (first == 1) ++ ds) ≡ Some x
+  digits-read ds n e less =
+      let m = made-is (form.has (first == 1)) (form.of (first == 1) number) x made in
+      laws.reads_digits (first == 1) ds m.0 n (subst (λ k. k < 10 ^ d) e (fewer-fit most d number few less)) ∙ ap (λ k. Some (form.of (first == 1) k)) (sym e) ∙ ap (λ z. Some z) (sym m.1)
 
-module _ (most : ℕ) (bs : List ℕ) (first number end k : ℕ) (window : 32 ≤ length bs) (sign : take first bs ≡ sign_text (first == 1)) (shows : ShowsWhole most bs first number end) (fits : 10 ^ most ≤ 2 ^ k) where
-  abbrev shown : List ℕ
-  shown = slice_range bs first end
-
-  inside : end ≤ length bs
-  inside = omega (arith, shows.within, window)
-
-  shown-numeral : IsNumeral 10 shown
-  shown-numeral = (omega (arith, length-range bs first end (omega (arith, shows.some)) inside, shows.some), shows.digits)
-
-  signed-text : take end bs ≡ sign_text (first == 1) ++ shown
-  signed-text = take-range bs first end (omega (arith, shows.some)) ∙ ap (λ l. l ++ shown) sign
-
-  run : IsNumberText (take end bs)
-  run = subst IsNumberText (sym signed-text) (subst (λ l. IsNumberText (sign_text (first == 1) ++ l)) (append-nil shown) (number-run (first == 1) shown [] shown-numeral tt))
-
-  begins-read : {T : Type 0} (read : List ℕ → Option T) (x : T) → read (take end bs) ≡ Some x → BeginsNumber read bs x end
-  begins-read read x e = record {
+  pub windowed-number : (end : ℕ) → 32 ≤ length bs → ShowsWhole most bs first number end → BeginsNumber form.read bs x end
+  windowed-number end window shows = record {
     within = inside;
-    run = run;
+    run = subst IsNumberText (sym text) (subst (λ l. IsNumberText (sign_text (first == 1) ++ l)) (append-nil shown) (number-run (first == 1) shown [] numeral tt));
     stops = stops-at bs end (λ _. shows.stops);
-    reads = e;
+    reads = ap form.read text ∙ digits-read shown numeral shows.value shows.small;
   }
+    where
+      shown : List ℕ
+      shown = slice_range bs first end
 
-  pub windowed-signed : (x : ℤ) → x ≡ signed (first == 1) number → BeginsNumber (read_signed k) bs x end
-  windowed-signed x e =
-      begins-read (read_signed k) x (ap (read_signed k) signed-text ∙ read-signed k number (first == 1) shown shown-numeral (sym shows.value) (omega (arith, shows.small, fits)) ∙ ap (λ (z : ℤ). Some z) (sym e))
+      inside : end ≤ length bs
+      inside = omega (arith, shows.within, window)
 
-  pub windowed-unsigned : first ≡ 0 → BeginsNumber (read_unsigned k) bs number end
-  windowed-unsigned none =
-      let plain : take end bs ≡ shown = signed-text ∙ ap (λ (n : ℕ). sign_text (n == 1) ++ shown) none in
-      let r = first_digit shown shown-numeral in
-      begins-read (read_unsigned k) number (ap (read_unsigned k) plain ∙ read_unsigned_some k number shown shown (without_leading_plus_none shown (λ e. omega (arith, r, e))) shown-numeral (sym shows.value) (omega (arith, shows.small, fits)))
+      numeral : IsNumeral 10 shown
+      numeral = (omega (arith, length-range bs first end (omega (arith, shows.some)) inside, shows.some), shows.digits)
 
--- a text that is all of it the number
-module _ (most : ℕ) (bs : List ℕ) (first number k : ℕ) (sign : take first bs ≡ sign_text (first == 1)) (spells : SpellsAll most bs first number) (fits : 10 ^ most ≤ 2 ^ k) where
-  abbrev spelled : List ℕ
-  spelled = slice_range bs first (length bs)
+      text : take end bs ≡ sign_text (first == 1) ++ shown
+      text = take-range bs first end (omega (arith, shows.some)) ∙ ap (λ l. l ++ shown) sign
 
-  spelled-numeral : IsNumeral 10 spelled
-  spelled-numeral = (omega (arith, length-range bs first (length bs) (omega (arith, spells.some)) (omega arith), spells.some), spells.digits)
+  -- a text that is all of it the number
+  pub spelled-number : SpellsAll most bs first number → form.read bs ≡ Some x
+  spelled-number spells = ap form.read text ∙ digits-read spelled numeral spells.value spells.small
+    where
+      spelled : List ℕ
+      spelled = slice_range bs first (length bs)
 
-  spelled-text : bs ≡ sign_text (first == 1) ++ spelled
-  spelled-text = sym (take-length bs) ∙ take-range bs first (length bs) (omega (arith, spells.some)) ∙ ap (λ l. l ++ spelled) sign
+      numeral : IsNumeral 10 spelled
+      numeral = (omega (arith, length-range bs first (length bs) (omega (arith, spells.some)) (omega arith), spells.some), spells.digits)
 
-  pub spells-signed : (x : ℤ) → x ≡ signed (first == 1) number → read_signed k bs ≡ Some x
-  spells-signed x e =
-      ap (read_signed k) spelled-text ∙ read-signed k number (first == 1) spelled spelled-numeral (sym spells.value) (omega (arith, spells.small, fits)) ∙ ap (λ (z : ℤ). Some z) (sym e)
-
-  pub spells-unsigned : first ≡ 0 → read_unsigned k bs ≡ Some number
-  spells-unsigned none =
-      let plain : bs ≡ spelled = spelled-text ∙ ap (λ (n : ℕ). sign_text (n == 1) ++ spelled) none in
-      let r = first_digit spelled spelled-numeral in
-      ap (read_unsigned k) plain ∙ read_unsigned_some k number spelled spelled (without_leading_plus_none spelled (λ e. omega (arith, r, e))) spelled-numeral (sym spells.value) (omega (arith, spells.small, fits))
-
--- a number of few digits
-pub few-digits : (number most : ℕ) → number < 10 ^ most → most ≤ 16 → number < 10 ^ 16
-few-digits number most less few = omega (arith, less, pow-le-pow_right {n = 10} (omega arith) {i = most} {j = 16} few)
-
-pub digits-below : (number most : ℕ) → number < 10 ^ most → most ≤ 18 → number < 2 ^ 63
-digits-below number most less few = omega (arith, less, pow-le-pow_right {n = 10} (omega arith) {i = most} {j = 18} few)
-
--- as it is held
-pub below-held : (negative : Bool) (number : ℕ) (x : ℤ) → number < 2 ^ 63 → x ≡ signed negative number → to_z w64 (of_z w64 x) ≡ signed negative number
-below-held negative number x less e = ap (λ z. to_z w64 (of_z w64 z)) e ∙ held-is (signed negative number) (signed-small negative number 63 less)
-
-pub digits-held : (negative : Bool) (number : ℕ) (x : ℤ) → number < 10 ^ 16 → x ≡ signed negative number → to_z w64 (of_z w64 x) ≡ signed negative number
-digits-held negative number x less e = ap (λ z. to_z w64 (of_z w64 z)) e ∙ held-is (signed negative number) (signed-small negative number 63 (omega (arith, less)))
-
-pub held-7 : (x : ℤ) → unsigned_abs x < 2 ^ 7 → to_z w8 (of_z w8 x) ≡ x
-held-7 x h = to_z-of_z w8 x (fits x h)
-  where
-    fits : (z : ℤ) → unsigned_abs z < 2 ^ 7 → FitsSigned w8 z
-    fits (pos n) h = record { sfits = omega (arith, h) }
-    fits (negsuc n) h = record { sfits = omega (arith, h) }
-
-pub held-15 : (x : ℤ) → unsigned_abs x < 2 ^ 15 → to_z w16 (of_z w16 x) ≡ x
-held-15 x h = to_z-of_z w16 x (fits x h)
-  where
-    fits : (z : ℤ) → unsigned_abs z < 2 ^ 15 → FitsSigned w16 z
-    fits (pos n) h = record { sfits = omega (arith, h) }
-    fits (negsuc n) h = record { sfits = omega (arith, h) }
-
-pub held-31 : (x : ℤ) → unsigned_abs x < 2 ^ 31 → to_z w32 (of_z w32 x) ≡ x
-held-31 x h = to_z-of_z w32 x (fits x h)
-  where
-    fits : (z : ℤ) → unsigned_abs z < 2 ^ 31 → FitsSigned w32 z
-    fits (pos n) h = record { sfits = omega (arith, h) }
-    fits (negsuc n) h = record { sfits = omega (arith, h) }
-
-pub held-63 : (x : ℤ) → unsigned_abs x < 2 ^ 63 → to_z w64 (of_z w64 x) ≡ x
-held-63 x h = to_z-of_z w64 x (fits x h)
-  where
-    fits : (z : ℤ) → unsigned_abs z < 2 ^ 63 → FitsSigned w64 z
-    fits (pos n) h = record { sfits = omega (arith, h) }
-    fits (negsuc n) h = record { sfits = omega (arith, h) }
-
-pub held-127 : (x : ℤ) → unsigned_abs x < 2 ^ 127 → to_z w128 (of_z w128 x) ≡ x
-held-127 x h = to_z-of_z w128 x (fits x h)
-  where
-    fits : (z : ℤ) → unsigned_abs z < 2 ^ 127 → FitsSigned w128 z
-    fits (pos n) h = record { sfits = omega (arith, h) }
-    fits (negsuc n) h = record { sfits = omega (arith, h) }
+      text : bs ≡ sign_text (first == 1) ++ spelled
+      text = sym (take-length bs) ∙ take-range bs first (length bs) (omega (arith, spells.some)) ∙ ap (λ l. l ++ spelled) sign
 
 pub ruleset digits_small = digits-small

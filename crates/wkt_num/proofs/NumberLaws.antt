@@ -11,8 +11,7 @@ use Rattle.std.proofs.lemmas.Fmt.{decimal_digit, decimal_is_IsNumeral_wide}
 use Rattle.std.proofs.lemmas.Nat.{pow-add, div-add-mod'}
 use borrow.Author.Tests.{eqb-true, ne_eqb, leb-true, le-leb, lt-ltb, eqb-false, leb-false}
 use Rattle.wkt_num.specs.Whole.{is_numeral, keep_if, IsSigned}
-use Rattle.wkt_num.specs.WholeLaws.{is_numeral_of, both_true}
-use Rattle.wkt_num.proofs.ReadNumbers.{numeral_from}
+use Rattle.wkt_num.specs.WholeLaws.{is_numeral_of, both_true, numeral_from}
 use Rattle.wkt_num.specs.Decimal.{before_point, after_point, units_of, read_magnitude, read_decimal, with_sign, and_then, Spells, StandsFor, fraction_digits, fraction_text, magnitude_text, decimal_text, EndsInDigit, IsPrinted, point_and}
 use Rattle.wkt_num.specs.DecimalLaws.{before_digits, after_digits, signed_value, value_append, fraction_value, units_is, ten_pos, keep_some, after_split, read-near, magnitude-small, fraction-bytes, fraction-none}
 use Rattle.wkt_num.proofs.Printed.{last-digit}

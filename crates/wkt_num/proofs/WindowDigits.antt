@@ -1,10 +1,11 @@
 -- The digits in a window of bytes, where a run of them stops, and a whole number that keeps its text.
-use Rattle.std.proofs.Common.{◌≡◌, ℕ, zero, suc, ◌<◌, Bool, true, false, ◌&&◌, ◌==◌, refl, subst, arith, sym, List, ◌∷◌, ◌++◌, get_or, replicate, ap, ◌∙◌, inl, inr, ◌+◌, ◌-◌, ◌*◌, ◌/◌, ◌%◌, ◌^◌, ◌≤◌, cond, min, nat_lt, bit_and, [], length, take, drop, map, slice_range, Fits, w8, ◌≢◌, pos, negsuc, Option, Some, slice_index_or}
+use Rattle.std.proofs.Common.{◌≡◌, ℕ, zero, suc, ◌<◌, Bool, true, false, ◌&&◌, ◌==◌, refl, subst, arith, sym, List, ◌∷◌, ◌++◌, get_or, replicate, ap, ◌∙◌, inl, inr, ◌+◌, ◌-◌, ◌*◌, ◌/◌, ◌%◌, ◌^◌, ◌≤◌, cond, min, nat_lt, bit_and, [], length, take, drop, map, slice_range, Fits, w8, slice_index_or}
 use Rattle.std.specs.Prelude.{not}
 use Rattle.std.specs.Bool.{MatchBool}
 use Rattle.std.proofs.lemmas.Bool.{cases_eq, le-ltb}
 use Rattle.std.specs.List.{prefix_len}
-use Rattle.std.specs.Fmt.{sign_text, decimal, signed_decimal}
+use Rattle.std.specs.Fmt.{sign_text, decimal}
+use Rattle.std.specs.Int.{IsInRange}
 use Rattle.std.specs.Char.{is_ascii_digit}
 use Rattle.std.specs.Str.Parse.{AllDigits, IsNumeral, digits_value}
 use Rattle.std.specs.Int.Bits.{and_self}
@@ -12,21 +13,21 @@ use Rattle.std.proofs.lemmas.Bool.Decides.{nat_tests}
 use Rattle.std.proofs.lemmas.List.{length-take-le, length-map, take-take, drop-take, get_or-take, map-id, append-nil}
 use Rattle.std.proofs.lemmas.Simd.{chunk-fits, trailing_mask_l, zip2_splat, map-map}
 use Rattle.std.proofs.lemmas.Int.Digits.{digits_value-lt}
-use Rattle.std.proofs.lemmas.Str.Parse.{without_leading_plus_none}
 use Rattle.std.proofs.Math.Nat.{pow-le-pow_right}
-use borrow.Author.Tests.{eqb-true, eqb-false, ltb-false}
+use borrow.Author.Tests.{eqb-true, eqb-false, ltb-false, ne_eqb, eq-eqb}
 use lib.Bits.{and_step}
 use lib.Count.{count_trailing_zeros}
 use lib.Lanes.{zip2, Each1, chunk, mask_l, top}
 use mir.Val.{bits, hbits}
-use Rattle.wkt_num.specs.WholeLaws.{both_true, first_digit, read_signed_minus, read_signed_plain, read_unsigned_some}
+use Rattle.wkt_num.specs.WholeLaws.{both_true, first_digit}
 use Rattle.wkt_num.specs.Bytes.{Class, Nul, White, Mark, Run, class_of}
 use Rattle.wkt_num.specs.declared.powers.TheConstants.{FIVES, TENS}
 use Rattle.wkt_num.specs.DigitParts.{is_other, bits_from, others_mask, IsFirstOther, IsWholeText}
 use Rattle.wkt_num.proofs.DigitLanes.{over-mask, byte-digit}
 use Rattle.wkt_num.specs.Number.{IsNumberText, KeepsText}
-use Rattle.wkt_num.specs.Whole.{read_signed, read_unsigned}
+use Rattle.wkt_num.specs.Whole.{WholeForm, IsWholeForm}
 use Rattle.wkt_num.proofs.TextInsideText.{decimal-is}
+use Rattle.wkt_num.proofs.FirstTextFound.{first-of}
 use Rattle.wkt_num.proofs.DecimalParts.{take-range, length-range, first-range, stops-at, text-run, value-first}
 
 -- Facts of each number below a bound, by computing them.
@@ -317,12 +318,15 @@ pub ruleset minus_less = minus-less
 
 -- A whole number as it is printed keeps its text.
 
-module _ (k most : ℕ) (bs : List ℕ) (end : ℕ) (fits : 10 ^ most ≤ 2 ^ k) (narrow : k ≤ 128) (h : IsWholeText most bs end) where
+module _ {T : Type 0} (most : ℕ) (form : WholeForm T) (laws : IsWholeForm most form) (bs : List ℕ) (end : ℕ) (h : IsWholeText most bs end) where
   abbrev ws : List ℕ
   ws = slice_range bs h.first end
 
   abbrev v : ℕ
   v = digits_value 10 ws
+
+  abbrev negative : Bool
+  negative = h.first == 1
 
   long : length ws ≡ end - h.first
   long = length-range bs h.first end (omega (arith, h.printed.some)) h.within
@@ -333,61 +337,39 @@ module _ (k most : ℕ) (bs : List ℕ) (end : ℕ) (fits : 10 ^ most ≤ 2 ^ k)
   head : get_or ws 0 0 ≡ get_or bs h.first 0
   head = first-range bs h.first end h.printed.some
 
-  small : v < 2 ^ k
-  small = omega (arith, digits_value-lt 10 ws h.digits, pow-le-pow_right {n = 10} (omega arith) {i = length ws} {j = most} (omega (arith, long, h.printed.few)), fits)
+  small : v < 10 ^ most
+  small = omega (arith, digits_value-lt 10 ws h.digits, pow-le-pow_right {n = 10} (omega arith) {i = length ws} {j = most} (omega (arith, long, h.printed.few)))
 
   wide : v < 10 ^ 64
-  wide = omega (arith, small, pow-le-pow_right {n = 2} (omega arith) {i = k} {j = 128} narrow)
+  wide = omega (arith, small, laws.wide)
 
   printed : decimal v ≡ ws
   printed = decimal-is ws numeral (λ e. let p = h.printed.plain (sym head ∙ e) in omega (arith, long, p.0)) wide
 
-  text : take end bs ≡ sign_text (h.first == 1) ++ ws
+  text : take end bs ≡ sign_text negative ++ ws
   text = take-range bs h.first end (omega (arith, h.printed.some)) ∙ ap (λ l. l ++ ws) h.sign
 
-  run : IsNumberText (take end bs)
-  run = subst IsNumberText (sym text) (subst (λ l. IsNumberText (sign_text (h.first == 1) ++ l)) (append-nil ws) (text-run (h.first == 1) ws [] numeral tt))
+  some : negative ≡ true → 0 < v
+  some e = value-first ws numeral (λ z. let p = h.printed.plain (sym head ∙ z) in omega (arith, eqb-true h.first 1 e, p.1))
 
-  kept-as : {T : Type 0} (read : List ℕ → Option T) (num : T → List ℕ) (x : T) → read (take end bs) ≡ Some x → num x ≡ take end bs → KeepsText read num bs end end
-  kept-as read num x reads whole = record { number = x; within = h.within; shorter = omega arith; run = run; stops = stops-at bs end h.stops; reads = reads; text = whole }
-
-  pub keeps-signed : KeepsText (read_signed k) signed_decimal bs end end
-  keeps-signed = go h.first h.minus refl
+  -- whether a minus stands first tells the sign
+  minus-shown : (get_or bs 0 0 == 45) ≡ negative
+  minus-shown = go h.first h.minus h.sign (sym head) (first_digit ws numeral)
     where
-      plain : h.first ≡ 0 → KeepsText (read_signed k) signed_decimal bs end end
-      plain e =
-          let all : take end bs ≡ ws = text ∙ ap (λ (n : ℕ). sign_text (n == 1) ++ ws) e in
-          kept-as (read_signed k) signed_decimal (pos v) (ap (read_signed k) all ∙ read_signed_plain k v ws numeral refl small) (printed ∙ sym all)
+      go : (f : ℕ) → f ≤ 1 → take f bs ≡ sign_text (f == 1) → get_or bs f 0 ≡ get_or ws 0 0 → IsInRange 48 57 (get_or ws 0 0) → (get_or bs 0 0 == 45) ≡ (f == 1)
+      go zero order s e r = ne_eqb (get_or bs 0 0) 45 (λ z. omega (arith, r, e, z))
+      go (suc zero) order s e r = eq-eqb (get_or bs 0 0) 45 (first-of bs s)
+      go (suc (suc f)) order s e r = absurd (omega (arith, order))
 
-      some : h.first ≡ 1 → 0 < v
-      some e = value-first ws numeral (λ z. let p = h.printed.plain (sym head ∙ z) in omega (arith, e, p.1))
-
-      negative : h.first ≡ 1 → (n : ℕ) → v ≡ n → 0 < n → KeepsText (read_signed k) signed_decimal bs end end
-      negative e zero same positive = absurd (omega (arith, positive))
-      negative e (suc n) same positive =
-          let all : take end bs ≡ 45 ∷ ws = text ∙ ap (λ (m : ℕ). sign_text (m == 1) ++ ws) e in
-          kept-as (read_signed k) signed_decimal (negsuc n) (ap (read_signed k) all ∙ read_signed_minus k (suc n) ws numeral same (omega (arith, small, same)))
-          (ap (λ l. 45 ∷ l) (ap decimal (sym same) ∙ printed) ∙ sym all)
-
-      go : (f : ℕ) → f ≤ 1 → h.first ≡ f → KeepsText (read_signed k) signed_decimal bs end end
-      go zero order e = plain e
-      go (suc zero) order e = negative e v refl (some e)
-      go (suc (suc f)) order e = absurd (omega (arith, order))
-
-  pub keeps-unsigned : get_or bs 0 0 ≢ 45 → KeepsText (read_unsigned k) decimal bs end end
-  keeps-unsigned other =
-      let all : take end bs ≡ ws = text ∙ ap (λ (n : ℕ). sign_text (n == 1) ++ ws) none in
-      let digit = first_digit ws numeral in
-      kept-as (read_unsigned k) decimal v (ap (read_unsigned k) all ∙ read_unsigned_some k v ws ws (without_leading_plus_none ws (λ e. omega (arith, digit, e))) numeral refl small) (printed ∙ sym all)
-    where
-      first-of : (l : List ℕ) → take 1 l ≡ 45 ∷ [] → get_or l 0 0 ≡ 45
-      first-of [] e = cc
-      first-of (b ∷ l) e = cc
-
-      none : h.first ≡ 0
-      none = go h.first h.minus refl
-        where
-          go : (f : ℕ) → f ≤ 1 → h.first ≡ f → f ≡ 0
-          go zero order e = refl
-          go (suc zero) order e = absurd (other (first-of bs (ap (λ (n : ℕ). take n bs) (sym e) ∙ h.sign ∙ ap (λ (n : ℕ). sign_text (n == 1)) e)))
-          go (suc (suc f)) order e = absurd (omega (arith, order))
+  pub keeps-number : form.has (get_or bs 0 0 == 45) ≡ true → KeepsText form.read form.num bs end end
+  keeps-number has =
+      let its : form.has negative ≡ true = ap form.has (sym minus-shown) ∙ has in
+      record {
+        number = form.of negative v;
+        within = h.within;
+        shorter = omega arith;
+        run = subst IsNumberText (sym text) (subst (λ l. IsNumberText (sign_text negative ++ l)) (append-nil ws) (text-run negative ws [] numeral tt));
+        stops = stops-at bs end h.stops;
+        reads = ap form.read text ∙ laws.reads_digits negative ws its numeral small;
+        text = laws.prints negative v its some ∙ ap (λ l. sign_text negative ++ l) printed ∙ sym text;
+      }

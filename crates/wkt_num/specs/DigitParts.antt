@@ -1,6 +1,6 @@
 -- Digits in the lanes of a vector, and the parts of a number's text by their places. Only private contracts cite this file.
 use Rattle.std.proofs.Common.{◌≡◌, ℕ, ◌+◌, ◌-◌, ◌*◌, ◌/◌, ◌^◌, ◌<◌, ℤ, pos, negsuc, ap, ◌∙◌, arith}
-use Rattle.std.specs.Prelude.{unsigned_abs, ◌+ℤ◌, ◌*ℤ◌, ◌%◌, ◌≤◌, ◌==◌, if◌then◌else◌, List, [], ◌∷◌, ◌++◌, length, drop, map, replicate, zero, suc, false, bit_and, ◌≢◌, ◌⊎◌, Bool, take, nat_lt, slice_index, slice_range, neg_ℤ}
+use Rattle.std.specs.Prelude.{unsigned_abs, ◌+ℤ◌, ◌*ℤ◌, ◌%◌, ◌≤◌, ◌==◌, if◌then◌else◌, List, [], ◌∷◌, ◌++◌, length, drop, map, replicate, zero, suc, false, bit_and, ◌≢◌, ◌⊎◌, Bool, take, nat_lt, slice_index, slice_range}
 use Rattle.std.specs.Int.{int_shr, int_rem_euclid}
 use Rattle.std.proofs.lemmas.Int.{ints}
 use Rattle.std.specs.Fmt.{sign_text}
@@ -172,10 +172,6 @@ pub record IsFirstOther (bs : List ℕ) (from others at : ℕ) : Type 0 where
   pub next : bit_and others (others - 1) ≡ others_mask bs (at + 1)
 
 -- A number that bytes begin with, in units. Only private contracts cite this.
-
--- A magnitude with its sign.
-abbrev pub signed : Bool → ℕ → ℤ
-signed negative m = if negative then neg_ℤ (pos m) else pos m
 
 -- The bytes begin with a number run of `end` bytes, which is read as so many units, and 64 bits hold these.
 pub record BeginsUnits (places : ℕ) (bytes : List ℕ) (units : ℤ) (end : ℕ) : Type 0 where

@@ -1,10 +1,9 @@
 //! Numbers of few digits, straight to 64 bits.
-ghost use Rattle.std.specs.Prelude.{◌≡◌, ◌+◌, ◌-◌, ◌*◌, ◌^◌, ◌≤◌, ◌<◌, ℕ, Some, IfSome, length, slice_range, unsigned_abs};
+ghost use Rattle.std.specs.Prelude.{◌≡◌, ◌+◌, ◌-◌, ◌*◌, ◌^◌, ◌≤◌, ◌<◌, Some, IfSome, length, slice_range};
 ghost use Rattle.std.specs.Str.Parse.{AllDigits, digits_value};
-ghost use Rattle.wkt_num.specs.DigitParts.{BeginsUnits, ReadsDigits, SpellsAll, signed};
-ghost use Rattle.wkt_num.specs.Whole.{read_signed, read_unsigned};
+ghost use Rattle.wkt_num.specs.DigitParts.{BeginsUnits, ReadsDigits, SpellsAll};
+ghost use Rattle.wkt_num.specs.Whole.{signed};
 
-use crate::in_window::digits_with_sign;
 use crate::kept::{after_minus, is_of_run};
 use crate::lanes::first_8;
 use crate::powers::{SHORT_PLACES, ten_to};
@@ -116,36 +115,9 @@ fn scaled(negative: bool, number: u64, times: u64) -> Option<i64>
     Some(if negative { -units } else { units })
 }
 
-/// The number with a sign that a text of at most `most` bytes spells. `None` implies nothing.
-#[inline(always)]
-pub(crate) fn fast_signed(most: usize, bytes: &[u8]) -> Option<i64>
-    requires { most ≤ 18 }
-    ensures reads { IfSome result (λ x. (bits : ℕ) → 10 ^ most ≤ 2 ^ bits → read_signed bits bytes.now ≡ Some x) }
-    ensures small { IfSome result (λ x. unsigned_abs x < 10 ^ most) }
-{
-    let first = after_minus(bytes);
-    match digits_of_all(most, bytes, first) {
-        Some(digits) => Some(digits_with_sign(first == 1, digits)),
-        None => None,
-    }
-}
-
-/// As [`fast_signed`], of a number without a sign.
-#[inline(always)]
-pub(crate) fn fast_unsigned(most: usize, bytes: &[u8]) -> Option<u64>
-    requires { most ≤ 18 }
-    ensures reads { IfSome result (λ x. (bits : ℕ) → 10 ^ most ≤ 2 ^ bits → read_unsigned bits bytes.now ≡ Some x) }
-    ensures small { IfSome result (λ x. x < 10 ^ most) }
-{
-    match digits_of_all(most, bytes, 0) {
-        Some(digits) => Some(digits),
-        None => None,
-    }
-}
-
 /// What all bytes from `first` on spell, if they are digits, and the bytes are at most `most`.
 #[inline(always)]
-fn digits_of_all(most: usize, bytes: &[u8], first: usize) -> Option<u64>
+pub(crate) fn digits_of_all(most: usize, bytes: &[u8], first: usize) -> Option<u64>
     requires few { most ≤ 18 }
     requires minus { first ≤ length bytes.now }
     ensures { IfSome result (λ digits. SpellsAll most bytes.now first digits) }

@@ -1,11 +1,11 @@
 //! Numbers that a window shows whole, read in one pass.
-ghost use Rattle.std.specs.Prelude.{◌≡◌, ◌==◌, ℕ, ◌+◌, ◌≤◌, ◌<◌, ◌^◌, IfSome, length, slice_range, take, unsigned_abs};
+ghost use Rattle.std.specs.Prelude.{◌≡◌, ◌==◌, ◌+◌, ◌≤◌, ◌<◌, ◌^◌, IfSome, length, slice_range, take};
 ghost use Rattle.std.specs.Fmt.{sign_text};
 ghost use Rattle.std.specs.Str.Parse.{AllDigits, digits_value};
 ghost use Rattle.wkt_num.specs.Decimal.{read_decimal};
 ghost use Rattle.wkt_num.specs.Number.{BeginsNumber};
-ghost use Rattle.wkt_num.specs.DigitParts.{signed, ShowsWhole};
-ghost use Rattle.wkt_num.specs.Whole.{read_signed, read_unsigned};
+ghost use Rattle.wkt_num.specs.DigitParts.{ShowsWhole};
+ghost use Rattle.wkt_num.specs.Whole.{signed};
 
 use crate::kept::{after_minus, first_other, is_of_run, others_from};
 use crate::lanes::first_8;
@@ -97,51 +97,9 @@ fn sixteen_from(bytes: &[u8], from: usize, count: usize) -> u64
     high * ten_to(count as u32 - 8) + eight_from(bytes, from + 8, count - 8)
 }
 
-/// A number with a sign, of at most so many digits, that the bytes begin with, and where its run ends, if it does so among
-/// the first 32. `None` implies nothing about the bytes.
-#[inline(always)]
-pub(crate) fn signed_in_window(most: usize, bytes: &[u8]) -> Option<(i64, usize)>
-    requires window { 32 ≤ length bytes.now }
-    requires most { most ≤ 16 }
-    ensures reads { IfSome result (λ r. (bits : ℕ) → 10 ^ most ≤ 2 ^ bits → BeginsNumber (read_signed bits) bytes.now r.0 r.1) }
-    ensures within { IfSome result (λ r. r.1 < 32) }
-    ensures small { IfSome result (λ r. unsigned_abs r.0 < 10 ^ most) }
-{
-    let first = after_minus(bytes);
-    match digits_in_window(most, bytes, first) {
-        Some((digits, end)) => Some((digits_with_sign(first == 1, digits), end)),
-        None => None,
-    }
-}
-
-/// The number with its sign.
-#[inline(always)]
-pub(crate) fn digits_with_sign(negative: bool, digits: u64) -> i64
-    requires { digits < 2 ^ 63 }
-    ensures { result ≡ signed negative digits }
-{
-    let number = digits as i64;
-    if negative { -number } else { number }
-}
-
-/// As [`signed_in_window`], of a number without a sign.
-#[inline(always)]
-pub(crate) fn unsigned_in_window(most: usize, bytes: &[u8]) -> Option<(u64, usize)>
-    requires window { 32 ≤ length bytes.now }
-    requires most { most ≤ 16 }
-    ensures reads { IfSome result (λ r. (bits : ℕ) → 10 ^ most ≤ 2 ^ bits → BeginsNumber (read_unsigned bits) bytes.now r.0 r.1) }
-    ensures within { IfSome result (λ r. r.1 < 32) }
-    ensures small { IfSome result (λ r. r.0 < 10 ^ most) }
-{
-    match digits_in_window(most, bytes, 0) {
-        Some((digits, end)) => Some((digits, end)),
-        None => None,
-    }
-}
-
 /// What the digits from `first` on spell, which are a run or its end, and where they end.
 #[inline(always)]
-fn digits_in_window(most: usize, bytes: &[u8], first: usize) -> Option<(u64, usize)>
+pub(crate) fn digits_in_window(most: usize, bytes: &[u8], first: usize) -> Option<(u64, usize)>
     requires window { 32 ≤ length bytes.now }
     requires most { most ≤ 16 }
     requires minus { first ≤ 1 }

@@ -1,7 +1,7 @@
 use Rattle.std.proofs.Common.{◌≡◌, ◌+◌, ◌++◌, ap, ◌∙◌, true, false, take, drop, min, length}
 use Rattle.std.specs.Str.Parse.{without_leading_sign, starts_with_minus, digits_value}
 use Rattle.wkt_num.specs.Whole.{is_numeral}
-use Rattle.wkt_num.proofs.ReadNumbers.{numeral_from}
+use Rattle.wkt_num.specs.WholeLaws.{numeral_from}
 use Rattle.wkt_dialects.proofs.Scaled.{same_without, no-exponent, no-digits, are-parts}
 use Rattle.wkt_dialects.proofs.exponents.parts_of.Goals as goal
 
