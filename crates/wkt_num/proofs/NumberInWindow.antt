@@ -14,10 +14,10 @@ use borrow.Author.Tests.{ne_eqb, lt-ltb}
 use Rattle.wkt_num.specs.Whole.{keep_if, IsSigned, signed, WholeForm, IsWholeForm}
 use Rattle.wkt_num.specs.Bytes.{class_of, Run, AllRun}
 use Rattle.wkt_num.specs.Number.{IsNumberText, BeginsNumber}
-use Rattle.wkt_num.specs.WholeLaws.{digits_are_run, point_run, minus_run}
+use Rattle.wkt_num.specs.WholeLaws.{digits_are_run, point_run}
 use Rattle.wkt_num.specs.Decimal.{read_magnitude, read_decimal, with_sign, and_then}
-use Rattle.wkt_num.specs.DecimalLaws.{first_of, run_append, number_first, digits_append, value_append, read-near, after_split, ten_pos}
-use Rattle.wkt_num.proofs.DecimalParts.{take-range, length-range, stops-at, digits-parts, range-split}
+use Rattle.wkt_num.specs.DecimalLaws.{first_of, digits_append, value_append, read-near, after_split, ten_pos}
+use Rattle.wkt_num.proofs.DecimalParts.{take-range, length-range, stops-at, text-run, digits-parts, range-split}
 use Rattle.wkt_num.proofs.TextInsideText.{reads-fraction, reads-whole}
 use Rattle.wkt_num.specs.DigitParts.{BeginsUnits, ShowsWhole, SpellsAll}
 
@@ -53,11 +53,6 @@ held-is u h = to_z-of_z w64 u (fits u h)
 pub held : (D : ℕ) (bs : List ℕ) (end : ℕ) (units : ℤ) → BeginsUnits D bs units end → BeginsUnits D bs (to_z w64 (of_z w64 units)) end
 held D bs end units b = subst (λ u. BeginsUnits D bs u end) (sym (held-is units b.fits)) b
 
--- a sign, digits and a rest are one run
-pub number-run : (negative : Bool) (ws rest : List ℕ) → IsNumeral 10 ws → AllRun rest → IsNumberText (sign_text negative ++ (ws ++ rest))
-number-run true ws rest h run = (refl, (minus_run, run_append ws rest (digits_are_run ws h.1) run))
-number-run false ws rest h run = number_first ws rest h run
-
 -- so many digits and zeros
 pub product-less : (n t a b k : ℕ) → n < 10 ^ a → t ≡ 10 ^ b → a + b ≤ k → n * t < 10 ^ k
 product-less n t a b k less ten few =
@@ -87,7 +82,7 @@ module _ (D : ℕ) (bs : List ℕ) (first point : ℕ) (few : D ≤ 18) (sign : 
       → (class_of (get_or bs end 0) ≡ Run → ⊥) → BeginsNumber (read_decimal 127 36 D) bs (signed negative m) end
   begins end m rest inside text run fits reads stops = record {
     within = inside;
-    run = subst IsNumberText (sym text) (number-run negative ws rest numeral run);
+    run = subst IsNumberText (sym text) (text-run negative ws rest numeral run);
     stops = stops-at bs end (λ _. stops);
     reads = ap (read_decimal 127 36 D) text ∙ reads-signed D m negative (ws ++ rest) (omega (arith, few)) fits (first_of ws rest numeral) reads;
   }
@@ -314,7 +309,7 @@ module _ {T : Type 0} (d most : ℕ) (form : WholeForm T) (laws : IsWholeForm d 
   pub windowed-number : (end : ℕ) → 32 ≤ length bs → ShowsWhole most bs first number end → BeginsNumber form.read bs x end
   windowed-number end window shows = record {
     within = inside;
-    run = subst IsNumberText (sym text) (subst (λ l. IsNumberText (sign_text (first == 1) ++ l)) (append-nil shown) (number-run (first == 1) shown [] numeral tt));
+    run = subst IsNumberText (sym text) (subst (λ l. IsNumberText (sign_text (first == 1) ++ l)) (append-nil shown) (text-run (first == 1) shown [] numeral tt));
     stops = stops-at bs end (λ _. shows.stops);
     reads = ap form.read text ∙ digits-read shown numeral shows.value shows.small;
   }
