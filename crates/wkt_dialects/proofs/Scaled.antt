@@ -26,7 +26,8 @@ use Rattle.wkt_dialects.specs.Exponents.{is_e, before_e, after_e, scaled_units, 
 use Rattle.wkt_dialects.specs.declared.exponents.Scaled.{Scaled}
 use Rattle.wkt_dialects.specs.Numbers.{moved_left, moved_right, moved, digits_of, IsE, IsPoint, IsScaled, IsWrittenNumber}
 use Rattle.wkt_read.specs.Lexemes.{without_plus, starts_number}
-use Rattle.wkt_dialects.proofs.Units.{units_equal, enough_right, enough_left, point_between, length-zeros, value-front, value-behind}
+use Rattle.wkt_num.proofs.TextInsideText.{length-zeros}
+use Rattle.wkt_dialects.proofs.Units.{units_equal, enough_right, enough_left, point_between, value-front, value-behind}
 
 -- What is read without exponents has none.
 

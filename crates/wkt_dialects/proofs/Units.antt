@@ -1,24 +1,19 @@
 -- Units with the point moved.
 use Rattle.std.proofs.Common.{◌≡◌, ℕ, zero, suc, ◌+◌, ◌*◌, ◌/◌, ◌^◌, ◌<◌, ◌≤◌, Bool, true, false, ◌==◌, if◌then◌else◌, List, ◌∷◌, ◌++◌, length, Some, None, refl, sym, ap, ◌∙◌, arith}
 use Rattle.std.specs.Str.Parse.{AllDigits, digits_value, digits_value_after}
-use Rattle.std.specs.Char.{digit_value}
 use Rattle.std.proofs.lemmas.List.{append-nil}
 use Rattle.std.proofs.lemmas.Nat.{pow-add}
-use Rattle.std.proofs.Math.Nat.{pow-suc, pow-le-pow_right, mul-le-mul_right, le_of_mul-le-mul_right, mul-div_cancel}
+use Rattle.std.proofs.Math.Nat.{pow-le-pow_right, mul-le-mul_right, le_of_mul-le-mul_right, mul-div_cancel}
 use borrow.Author.Tests.{eqb-true, eqb-false, le-leb}
 use Rattle.wkt_num.specs.Whole.{is_numeral, keep_if}
 use Rattle.wkt_num.specs.WholeLaws.{is_numeral_of}
 use Rattle.wkt_num.specs.Decimal.{before_point, after_point, units_of, read_magnitude, zeros}
 use Rattle.wkt_num.specs.DecimalLaws.{before_digits, after_digits, digits_append, units_is, ten_pos, value_append}
+use Rattle.wkt_num.proofs.NumberLaws.{cancel}
 use Rattle.wkt_num.proofs.Scan.{units_none}
+use Rattle.wkt_num.proofs.TextInsideText.{value-zeros}
 
 -- Two fractions that are equal have the same units.
-
-cancel : (x y p : ℕ) → 0 < p → x * p ≡ y * p → x ≡ y
-cancel x y p some e =
-    let le : x ≤ y = le_of_mul-le-mul_right {k = p} (omega (arith, e)) some in
-    let ge : y ≤ x = le_of_mul-le-mul_right {k = p} (omega (arith, e)) some in
-    omega arith
 
 crossed : (u a b p q r : ℕ) → u * p ≡ a → a * r ≡ b * p → u * r * p ≡ b * p
 crossed u a b p q r e f = omega (arith, ap (λ x. x * r) e, f)
@@ -88,14 +83,6 @@ point_between limit D xs ys a b some =
     ∙ ap (λ t. if t then units_of limit D (digits_value 10 (xs ++ ys)) (length ys) else None) (is_numeral_of (xs ++ ys) (some, digits_append xs ys a b))
 
 -- Zeros in front and behind.
-pub value-zeros : (n k : ℕ) → digits_value_after 10 n (zeros k) ≡ n * 10 ^ k
-value-zeros n zero = omega arith
-value-zeros n (suc k) = value-zeros (n * 10 + digit_value 48) k ∙ omega (arith, ap (λ p. n * p) (pow-suc 10 k))
-
-pub length-zeros : (k : ℕ) → length (zeros k) ≡ k
-length-zeros zero = refl
-length-zeros (suc k) = ap suc (length-zeros k)
-
 pub value-front : (k : ℕ) (ds : List ℕ) → digits_value 10 (zeros k ++ ds) ≡ digits_value 10 ds
 value-front k ds = value_append 0 (zeros k) ds ∙ ap (λ n. digits_value_after 10 n ds) (value-zeros 0 k ∙ omega arith)
 

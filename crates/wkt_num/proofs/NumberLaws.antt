@@ -3,7 +3,7 @@ use Rattle.std.proofs.Common.{◌≡◌, ◌⊎◌, inl, inr, ℕ, zero, suc, �
 use Rattle.std.specs.Prelude.{unsigned_abs, int_lt}
 use Rattle.std.specs.Str.Parse.{IsNumeral, AllDigits, digits_value, starts_with_minus, without_leading_sign, without_leading_plus}
 use Rattle.std.proofs.lemmas.List.{append-nil}
-use Rattle.std.proofs.Math.Nat.{mul-le-mul_right, pow-suc, mod-lt, div-le_self, le-mul_of_pos_right}
+use Rattle.std.proofs.Math.Nat.{mul-le-mul_right, le_of_mul-le-mul_right, pow-suc, mod-lt, div-le_self, le-mul_of_pos_right}
 use Rattle.std.proofs.lemmas.Str.Parse.{digit_from_value, without_leading_plus_none}
 use Rattle.std.specs.Fmt.{decimal, sign_text}
 use Rattle.std.specs.Char.{digit_value}
@@ -254,15 +254,11 @@ last-in [] b h = h.0
 last-in (c ∷ cs) b h = last-in cs b h.1
 
 -- equal factors are left out
-cancel : (x y p : ℕ) → 0 < p → x * p ≡ y * p → x ≡ y
-cancel x y p some h = omega (arith, not-less x y p some h, not-less y x p some (sym h))
-  where
-    not-less : (a b q : ℕ) → 0 < q → a * q ≡ b * q → a ≤ b
-    not-less a b q some h = go (nat_le a b) refl
-      where
-        go : (t : Bool) → nat_le a b ≡ t → a ≤ b
-        go true e = leb-true a b e
-        go false e = absurd (omega (arith, h, some, mul-le-mul_right {m = b + 1} {n = a} q (omega (arith, leb-false a b e))))
+pub cancel : (x y p : ℕ) → 0 < p → x * p ≡ y * p → x ≡ y
+cancel x y p some e =
+    let le : x ≤ y = le_of_mul-le-mul_right {k = p} (omega (arith, e)) some in
+    let ge : y ≤ x = le_of_mul-le-mul_right {k = p} (omega (arith, e)) some in
+    omega arith
 
 -- ---- a text of this form is the text of the units
 

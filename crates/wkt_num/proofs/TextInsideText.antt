@@ -271,11 +271,11 @@ magnitude-is D w g negative less =
     ∙ ap (λ (r : ℕ). sign_text negative ++ decimal w ++ fraction_text D r) (mod-mul-add w (10 ^ D) g less)
 
 -- zeros after a number
-value-zeros : (n k : ℕ) → digits_value_after 10 n (zeros k) ≡ n * 10 ^ k
+pub value-zeros : (n k : ℕ) → digits_value_after 10 n (zeros k) ≡ n * 10 ^ k
 value-zeros n zero = omega arith
 value-zeros n (suc k) = value-zeros (n * 10 + digit_value 48) k ∙ omega (arith, ap (λ p. n * p) (pow-suc 10 k))
 
-length-zeros : (k : ℕ) → length (zeros k) ≡ k
+pub length-zeros : (k : ℕ) → length (zeros k) ≡ k
 length-zeros zero = refl
 length-zeros (suc k) = ap suc (length-zeros k)
 
