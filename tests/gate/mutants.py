@@ -5,7 +5,7 @@ A mutant has to be refused. The functions that it changes are checked alone, in 
 libraries that `rt ci` left. A mutant that its functions let through is tried by its file and then by its crate, since a
 function without clauses is held by those that call it.
 
-tests/data/wrong_bodies/SEEN says of each mutant in which state of its crate it was last seen refused, the oldest first.
+tests/data/mutants/SEEN says of each mutant in which state of its crate it was last seen refused, the oldest first.
 The state is made of the mutant, of its crate, and of the definitions of all crates below: where one changes, the mutant
 is stale. --stale tries those alone. --minutes N begins with no more after N minutes, and says how many are left.
 Mutants of crates/*/must-fail are not listed, since `rt ci` tries these each time.

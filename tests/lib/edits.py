@@ -1,7 +1,7 @@
 #!/usr/bin/env python3
 """The mutants: edits that change what a function does, and that the checker has to refuse.
 
-tests/data/wrong_bodies/CRATE.txt has those of a crate, each under a heading `# NAME`; crates/CRATE/must-fail those that
+tests/data/mutants/CRATE.txt has those of a crate, each under a heading `# NAME`; crates/CRATE/must-fail those that
 the gate tries, each in a file. An edit has a line `file: PATH`, and then pairs of lines `old: TEXT` and `new: TEXT`;
 each old text stands once in that file, when the pairs before it were applied.
 
@@ -12,7 +12,7 @@ import pathlib
 import sys
 
 TOP = pathlib.Path(__file__).resolve().parents[2]
-FOLDER = TOP / "tests/data/wrong_bodies"
+FOLDER = TOP / "tests/data/mutants"
 
 
 class Edit:
