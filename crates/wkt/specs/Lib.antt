@@ -79,9 +79,9 @@ pub use Rattle.wkt_flat.specs.Shape as FlatShape
 pub use Rattle.wkt_flat.specs.Rings
 pub use Rattle.wkt_flat.specs.declared.coord.Coord as FlatCoord
 -- walks over its coordinates
-pub use Rattle.wkt_visit.specs.Coords as FlatCoords
-pub use Rattle.wkt_visit.specs.Bounds
-pub use Rattle.wkt_visit.specs.Mapped
+pub mod FlatCoords
+pub mod Bounds
+pub mod Mapped
 -- conversions between the two
 pub use Rattle.wkt_convert.specs.Flatten
 pub use Rattle.wkt_convert.specs.Kinds as FlatKinds

@@ -1,3 +1,0 @@
-pub mod Coords
-pub mod Bounds
-pub mod Mapped
