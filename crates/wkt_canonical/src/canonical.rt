@@ -148,25 +148,25 @@ pub fn write_canonical<T: WktNum>(
     write_front::<OfType<T>, false>(OfType::<T>::new(), text.as_bytes(), out, len)
 }
 
-/// Writes the canonical text of what bytes begin with, which where `FEED_ENDS` end at the first LF. Where they are no
+/// Writes the canonical text of what bytes begin with, which where `LF_ENDS` end at the first LF. Where they are no
 /// UTF-8 the result may be `None`.
 ///
 /// # Errors
 /// Those of [`write_canonical`].
 #[inline(always)]
-pub fn write_front<N: Numbers, const FEED_ENDS: bool>(
+pub fn write_front<N: Numbers, const LF_ENDS: bool>(
     numbers: N,
     text: &[u8],
     out: &mut [u8],
     len: usize,
 ) -> Result<Option<(usize, usize)>, NoRoom>
     requires { len + 2 * length text.now + 65 ≤ length out.old }
-    ensures writes { WritesFront (N.read numbers) (N.num numbers) FEED_ENDS text.now len out.old out.new result }
+    ensures writes { WritesFront (N.read numbers) (N.num numbers) LF_ENDS text.now len out.old out.new result }
     ensures kept { take len out.new ≡ take len out.old }
     ensures room { LeavesRoom out.old result }
     ensures whole { length out.new ≡ length out.old }
 {
-    match write_alone::<N, FEED_ENDS>(numbers, text, &mut out[len..]) {
+    match write_alone::<N, LF_ENDS>(numbers, text, &mut out[len..]) {
         Ok(Some((end, n))) => Ok(Some((end, len + n))),
         Ok(None) => Ok(None),
         Err(NoRoom) => Err(NoRoom),
@@ -175,13 +175,13 @@ pub fn write_front<N: Numbers, const FEED_ENDS: bool>(
 
 /// Writes the canonical text of what bytes begin with from the first byte of `out` on.
 #[inline(always)]
-fn write_alone<N: Numbers, const FEED_ENDS: bool>(
+fn write_alone<N: Numbers, const LF_ENDS: bool>(
     numbers: N,
     text: &[u8],
     out: &mut [u8],
 ) -> Result<Option<(usize, usize)>, NoRoom>
     requires { 2 * length text.now + 65 ≤ length out.old }
-    ensures writes { WritesFront (N.read numbers) (N.num numbers) FEED_ENDS text.now 0 out.old out.new result }
+    ensures writes { WritesFront (N.read numbers) (N.num numbers) LF_ENDS text.now 0 out.old out.new result }
     ensures room { LeavesRoom out.old result }
     ensures whole { length out.new ≡ length out.old }
 {
@@ -190,7 +190,7 @@ fn write_alone<N: Numbers, const FEED_ENDS: bool>(
         len: 0,
         failures: 0,
     };
-    match write_next::<N, FEED_ENDS>(numbers, text, &mut space) {
+    match write_next::<N, LF_ENDS>(numbers, text, &mut space) {
         Next::Ends(end) => Ok(Some((end, space.len))),
         Next::Nothing(_, _) => Ok(None),
         Next::NoRoom => Err(NoRoom),
@@ -211,7 +211,7 @@ pub(crate) enum Next {
 ///
 /// The machine holds a text builder by value, and its bytes are put back here, so that whoever lends them knows them afterwards.
 #[inline(always)]
-pub(crate) fn write_next<N: Numbers, const FEED_ENDS: bool>(
+pub(crate) fn write_next<N: Numbers, const LF_ENDS: bool>(
     numbers: N,
     text: &[u8],
     space: &mut Space<'_>,
@@ -219,8 +219,8 @@ pub(crate) fn write_next<N: Numbers, const FEED_ENDS: bool>(
     requires room { space.old.len + 2 * length text.now + 65 ≤ length space.old.out.now }
     ensures same_reference { IfEnds result (λ r. space.new.out.ghost_name ≡ space.old.out.ghost_name) }
     ensures room { IfEnds result (λ r. space.new.len + 64 ≤ length space.new.out.now) }
-    ensures writes { WritesNext (N.read numbers) (N.num numbers) numbers FEED_ENDS text.now space.old space.new result }
-    ensures stops { IfNothing result (StopsIn (N.read numbers) FEED_ENDS text.now) }
+    ensures writes { WritesNext (N.read numbers) (N.num numbers) numbers LF_ENDS text.now space.old space.new result }
+    ensures stops { IfNothing result (StopsIn (N.read numbers) LF_ENDS text.now) }
 {
     let whole = space.out.len();
     let out = std::mem::take(&mut space.out);
@@ -230,7 +230,7 @@ pub(crate) fn write_next<N: Numbers, const FEED_ENDS: bool>(
         polygon: 0,
         numbers,
     };
-    match drive::<N::Number, ByteCursor<'_, FEED_ENDS>, TextBuilder<'_, N>>(
+    match drive::<N::Number, ByteCursor<'_, LF_ENDS>, TextBuilder<'_, N>>(
         ByteCursor::new(text, 0),
         builder,
     ) {

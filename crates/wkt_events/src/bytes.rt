@@ -1,5 +1,5 @@
 //! Bytes at places in a text that ends at NUL or with its last byte, and where white space and runs end.
-//! Where `FEED_ENDS`, the text ends at LF too, which else is white space.
+//! Where `LF_ENDS`, the text ends at LF too, which else is white space.
 ghost use Rattle.std.specs.Bool.{OnTrue};
 ghost use Rattle.std.specs.Prelude.{◌≡◌, ◌≢◌, ◌↔◌, ◌≤◌, ◌<◌, ◌+◌, ℕ, IsTrue, IsAscii, length, get_or, slice_range};
 ghost use Rattle.wkt_num.specs.Bytes.{White, Run, class_of};
@@ -22,10 +22,10 @@ pub fn byte_at(text: &[u8], at: usize) -> u8
 
 /// Whether it may stand between the lexemes of a line.
 #[inline(always)]
-fn is_white<const FEED_ENDS: bool>(byte: u8) -> bool
-    ensures { IsTrue result ↔ (class_in FEED_ENDS byte ≡ White) }
+fn is_white<const LF_ENDS: bool>(byte: u8) -> bool
+    ensures { IsTrue result ↔ (class_in LF_ENDS byte ≡ White) }
 {
-    if FEED_ENDS && byte == b'\n' {
+    if LF_ENDS && byte == b'\n' {
         return false;
     }
     words::is_white(byte)
@@ -33,14 +33,14 @@ fn is_white<const FEED_ENDS: bool>(byte: u8) -> bool
 
 /// Past white space, of which mostly there is none, or one space.
 #[inline(always)]
-pub fn skip_white<const FEED_ENDS: bool>(text: &[u8], at: usize) -> usize
+pub fn skip_white<const LF_ENDS: bool>(text: &[u8], at: usize) -> usize
     requires { at ≤ length text.now }
     ensures order { at ≤ result }
     ensures inside { result ≤ length text.now }
-    ensures line { at ≤ length (line_of FEED_ENDS text.now) → result ≤ length (line_of FEED_ENDS text.now) }
-    ensures same { remaining_spanned FEED_ENDS text.now at ≡ remaining_spanned FEED_ENDS text.now result }
-    ensures white { (k : ℕ) → at ≤ k → k < result → class_in FEED_ENDS (get_or text.now k 0) ≡ White }
-    ensures stops { class_in FEED_ENDS (get_or text.now result 0) ≢ White }
+    ensures line { at ≤ length (line_of LF_ENDS text.now) → result ≤ length (line_of LF_ENDS text.now) }
+    ensures same { remaining_spanned LF_ENDS text.now at ≡ remaining_spanned LF_ENDS text.now result }
+    ensures white { (k : ℕ) → at ≤ k → k < result → class_in LF_ENDS (get_or text.now k 0) ≡ White }
+    ensures stops { class_in LF_ENDS (get_or text.now result 0) ≢ White }
 {
     if byte_at(text, at) > b' ' {
         return at;
@@ -48,21 +48,21 @@ pub fn skip_white<const FEED_ENDS: bool>(text: &[u8], at: usize) -> usize
     if byte_at(text, at) == b' ' && byte_at(text, at + 1) > b' ' {
         return at + 1;
     }
-    skip_more::<FEED_ENDS>(text, at)
+    skip_more::<LF_ENDS>(text, at)
 }
 
 #[inline(never)]
-fn skip_more<const FEED_ENDS: bool>(text: &[u8], from: usize) -> usize
+fn skip_more<const LF_ENDS: bool>(text: &[u8], from: usize) -> usize
     requires { from ≤ length text.now }
     ensures order { from ≤ result }
     ensures inside { result ≤ length text.now }
-    ensures line { from ≤ length (line_of FEED_ENDS text.now) → result ≤ length (line_of FEED_ENDS text.now) }
-    ensures same { remaining_spanned FEED_ENDS text.now from ≡ remaining_spanned FEED_ENDS text.now result }
-    ensures white { (k : ℕ) → from ≤ k → k < result → class_in FEED_ENDS (get_or text.now k 0) ≡ White }
-    ensures stops { class_in FEED_ENDS (get_or text.now result 0) ≢ White }
+    ensures line { from ≤ length (line_of LF_ENDS text.now) → result ≤ length (line_of LF_ENDS text.now) }
+    ensures same { remaining_spanned LF_ENDS text.now from ≡ remaining_spanned LF_ENDS text.now result }
+    ensures white { (k : ℕ) → from ≤ k → k < result → class_in LF_ENDS (get_or text.now k 0) ≡ White }
+    ensures stops { class_in LF_ENDS (get_or text.now result 0) ≢ White }
 {
     let mut at = from;
-    while is_white::<FEED_ENDS>(byte_at(text, at)) {
+    while is_white::<LF_ENDS>(byte_at(text, at)) {
         at += 1;
     }
     at

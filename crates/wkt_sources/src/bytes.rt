@@ -11,17 +11,17 @@ use wkt_machine::{Axis, Builder, FastSource, LexemeKind, Machine, Source, StepRe
 use wkt_num::WktNum;
 use wkt_read::words::{dimension_in, is_empty_in, kind_in};
 
-/// A place in the bytes of a text. The text ends at its first NUL or with its last byte; where `FEED_ENDS`, at LF too,
+/// A place in the bytes of a text. The text ends at its first NUL or with its last byte; where `LF_ENDS`, at LF too,
 /// which else is white space.
 #[derive(Clone, Copy)]
-pub struct ByteCursor<'a, const FEED_ENDS: bool> {
+pub struct ByteCursor<'a, const LF_ENDS: bool> {
     pub text: &'a [u8],
     pub at: usize,
     // Where the lexeme ends that was looked at, unless it is a number.
     end: usize,
 }
 
-impl<'a, const FEED_ENDS: bool> ByteCursor<'a, FEED_ENDS> {
+impl<'a, const LF_ENDS: bool> ByteCursor<'a, LF_ENDS> {
     #[inline(always)]
     pub fn new(text: &'a [u8], at: usize) -> Self
         ensures text { result.text ≡ text.entry }
@@ -33,10 +33,10 @@ impl<'a, const FEED_ENDS: bool> ByteCursor<'a, FEED_ENDS> {
 
 /// The lexeme that stands there, and where it ends, unless it is a number.
 #[inline(always)]
-fn lexeme_at<const FEED_ENDS: bool>(text: &[u8], at: usize) -> (LexemeKind, usize)
+fn lexeme_at<const LF_ENDS: bool>(text: &[u8], at: usize) -> (LexemeKind, usize)
     requires inside { at ≤ length text.now }
-    requires dark { IsDark FEED_ENDS text.now at }
-    ensures { Sees FEED_ENDS text.now at result.0 result.1 }
+    requires dark { IsDark LF_ENDS text.now at }
+    ensures { Sees LF_ENDS text.now at result.0 result.1 }
 {
     let byte = byte_at(text, at);
     if byte == b'(' {
@@ -48,16 +48,16 @@ fn lexeme_at<const FEED_ENDS: bool>(text: &[u8], at: usize) -> (LexemeKind, usiz
     if byte == b',' {
         return (LexemeKind::Comma, at + 1);
     }
-    run_at::<FEED_ENDS>(text, at)
+    run_at::<LF_ENDS>(text, at)
 }
 
 /// The lexeme that stands there where no mark does, and where it ends, unless it is a number.
 #[inline(always)]
-fn run_at<const FEED_ENDS: bool>(text: &[u8], at: usize) -> (LexemeKind, usize)
+fn run_at<const LF_ENDS: bool>(text: &[u8], at: usize) -> (LexemeKind, usize)
     requires inside { at ≤ length text.now }
-    requires dark { IsDark FEED_ENDS text.now at }
-    requires unmarked { IsUnmarked FEED_ENDS text.now at }
-    ensures { Sees FEED_ENDS text.now at result.0 result.1 }
+    requires dark { IsDark LF_ENDS text.now at }
+    requires unmarked { IsUnmarked LF_ENDS text.now at }
+    ensures { Sees LF_ENDS text.now at result.0 result.1 }
 {
     if begins_number(byte_at(text, at)) {
         return (LexemeKind::Number, at);
@@ -84,10 +84,10 @@ pub(crate) fn seen_word(word: &[u8]) -> LexemeKind
     }
 }
 
-impl<'a, T: WktNum, const FEED_ENDS: bool> Source<T> for ByteCursor<'a, FEED_ENDS> {
+impl<'a, T: WktNum, const LF_ENDS: bool> Source<T> for ByteCursor<'a, LF_ENDS> {
     ghost use Rattle.wkt_sources.specs.Views.{bytes_view};
 
-    ghost view = { bytes_view FEED_ENDS };
+    ghost view = { bytes_view LF_ENDS };
 
     ghost by_type = { λ never. absurd never };
 
@@ -97,8 +97,8 @@ impl<'a, T: WktNum, const FEED_ENDS: bool> Source<T> for ByteCursor<'a, FEED_END
         if self.at >= text.len() {
             return (LexemeKind::Other, self);
         }
-        let at = skip_white::<FEED_ENDS>(text, self.at);
-        let (seen, end) = lexeme_at::<FEED_ENDS>(text, at);
+        let at = skip_white::<LF_ENDS>(text, self.at);
+        let (seen, end) = lexeme_at::<LF_ENDS>(text, at);
         (seen, ByteCursor { text, at, end })
     }
 
@@ -126,13 +126,13 @@ impl<'a, T: WktNum, const FEED_ENDS: bool> Source<T> for ByteCursor<'a, FEED_END
     }
 }
 
-impl<'a, T: WktNum, const FEED_ENDS: bool> FastSource<T> for ByteCursor<'a, FEED_ENDS> {
+impl<'a, T: WktNum, const LF_ENDS: bool> FastSource<T> for ByteCursor<'a, LF_ENDS> {
     #[inline(always)]
     fn header<B: Builder<T>>(self, machine: Machine, builder: B) -> StepResult<Self, B> {
         if self.at > self.text.len() {
             return machine.step(self, builder);
         }
-        header::<T, B, FEED_ENDS, true>(machine, self, builder)
+        header::<T, B, LF_ENDS, true>(machine, self, builder)
     }
 
     #[inline(always)]
@@ -140,7 +140,7 @@ impl<'a, T: WktNum, const FEED_ENDS: bool> FastSource<T> for ByteCursor<'a, FEED
         if self.at > self.text.len() {
             return machine.step(self, builder);
         }
-        header::<T, B, FEED_ENDS, false>(machine, self, builder)
+        header::<T, B, LF_ENDS, false>(machine, self, builder)
     }
 
     #[inline(always)]
@@ -150,6 +150,6 @@ impl<'a, T: WktNum, const FEED_ENDS: bool> FastSource<T> for ByteCursor<'a, FEED
         if self.at > self.text.len() || !has_coordinates(machine.part) {
             return machine.step(self, builder);
         }
-        coordinates::<T, B, FEED_ENDS>(machine, self, builder)
+        coordinates::<T, B, LF_ENDS>(machine, self, builder)
     }
 }

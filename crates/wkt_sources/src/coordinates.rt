@@ -32,42 +32,42 @@ pub(crate) fn has_coordinates(part: Part) -> bool
 
 /// Coordinates with commas between them, and the parenthesis behind them; or as far as no comma stands right there.
 #[inline(always)]
-pub(crate) fn coordinates<'a, T: WktNum, B: Builder<T>, const FEED_ENDS: bool>(
+pub(crate) fn coordinates<'a, T: WktNum, B: Builder<T>, const LF_ENDS: bool>(
     machine: Machine,
-    source: ByteCursor<'a, FEED_ENDS>,
+    source: ByteCursor<'a, LF_ENDS>,
     builder: B,
-) -> StepResult<ByteCursor<'a, FEED_ENDS>, B>
+) -> StepResult<ByteCursor<'a, LF_ENDS>, B>
     requires state { machine.state ≡ next.X }
     requires part { has_coordinates machine.part ≡ true }
     requires inside { source.at ≤ length source.text.now }
-    requires room { HasRoom (bytes_view FEED_ENDS) B.maker 0 source builder }
-    ensures { Steps (bytes_view FEED_ENDS) B.maker machine source.entry builder result }
+    requires room { HasRoom (bytes_view LF_ENDS) B.maker 0 source builder }
+    ensures { Steps (bytes_view LF_ENDS) B.maker machine source.entry builder result }
 {
     match machine.dim {
-        Dimension::XY => coordinates_of::<T, B, FEED_ENDS, true>(machine, source, builder),
-        _ => deep_coordinates::<T, B, FEED_ENDS>(machine, source, builder),
+        Dimension::XY => coordinates_of::<T, B, LF_ENDS, true>(machine, source, builder),
+        _ => deep_coordinates::<T, B, LF_ENDS>(machine, source, builder),
     }
 }
 
 /// The same where it is known whether they have two numbers each.
 #[inline(always)]
-fn coordinates_of<'a, T: WktNum, B: Builder<T>, const FEED_ENDS: bool, const IS_FLAT: bool>(
+fn coordinates_of<'a, T: WktNum, B: Builder<T>, const LF_ENDS: bool, const IS_FLAT: bool>(
     machine: Machine,
-    source: ByteCursor<'a, FEED_ENDS>,
+    source: ByteCursor<'a, LF_ENDS>,
     builder: B,
-) -> StepResult<ByteCursor<'a, FEED_ENDS>, B>
+) -> StepResult<ByteCursor<'a, LF_ENDS>, B>
     requires state { machine.state ≡ next.X }
     requires part { has_coordinates machine.part ≡ true }
     requires flat { OnTrue IS_FLAT (machine.dim ≡ dim_of.XY) }
     requires more { OnFalse IS_FLAT (machine.dim ≢ dim_of.XY) }
     requires inside { source.at ≤ length source.text.now }
-    requires room { HasRoom (bytes_view FEED_ENDS) B.maker 0 source builder }
-    ensures { Steps (bytes_view FEED_ENDS) B.maker machine source.entry builder result }
+    requires room { HasRoom (bytes_view LF_ENDS) B.maker 0 source builder }
+    ensures { Steps (bytes_view LF_ENDS) B.maker machine source.entry builder result }
 {
     let single = is_single(machine.part);
     let (mut source, mut builder) = (source, builder);
     'coordinates: loop {
-        let (is_whole, state, behind, made) = coordinate::<T, B, FEED_ENDS, IS_FLAT>(
+        let (is_whole, state, behind, made) = coordinate::<T, B, LF_ENDS, IS_FLAT>(
             machine, source, builder,
         );
         if !is_whole {
@@ -106,119 +106,104 @@ fn is_next_member(part: Part, text: &[u8], at: usize) -> bool
 ///
 /// What is answered comes through memory, whose place is cleared here, away from the ways beside it.
 #[inline(always)]
-fn deep_coordinates<'a, T: WktNum, B: Builder<T>, const FEED_ENDS: bool>(
+fn deep_coordinates<'a, T: WktNum, B: Builder<T>, const LF_ENDS: bool>(
     machine: Machine,
-    source: ByteCursor<'a, FEED_ENDS>,
+    source: ByteCursor<'a, LF_ENDS>,
     builder: B,
-) -> StepResult<ByteCursor<'a, FEED_ENDS>, B>
+) -> StepResult<ByteCursor<'a, LF_ENDS>, B>
     requires state { machine.state ≡ next.X }
     requires part { has_coordinates machine.part ≡ true }
     requires more { machine.dim ≢ dim_of.XY }
     requires inside { source.at ≤ length source.text.now }
-    requires room { HasRoom (bytes_view FEED_ENDS) B.maker 0 source builder }
-    ensures { Steps (bytes_view FEED_ENDS) B.maker machine source.entry builder result }
+    requires room { HasRoom (bytes_view LF_ENDS) B.maker 0 source builder }
+    ensures { Steps (bytes_view LF_ENDS) B.maker machine source.entry builder result }
 {
-    deep_coordinates_outlined::<T, B, FEED_ENDS>(machine, source, builder)
+    deep_coordinates_outlined::<T, B, LF_ENDS>(machine, source, builder)
 }
 
 #[inline(never)]
-fn deep_coordinates_outlined<'a, T: WktNum, B: Builder<T>, const FEED_ENDS: bool>(
+fn deep_coordinates_outlined<'a, T: WktNum, B: Builder<T>, const LF_ENDS: bool>(
     machine: Machine,
-    source: ByteCursor<'a, FEED_ENDS>,
+    source: ByteCursor<'a, LF_ENDS>,
     builder: B,
-) -> StepResult<ByteCursor<'a, FEED_ENDS>, B>
+) -> StepResult<ByteCursor<'a, LF_ENDS>, B>
     requires state { machine.state ≡ next.X }
     requires part { has_coordinates machine.part ≡ true }
     requires more { machine.dim ≢ dim_of.XY }
     requires inside { source.at ≤ length source.text.now }
-    requires room { HasRoom (bytes_view FEED_ENDS) B.maker 0 source builder }
-    ensures { Steps (bytes_view FEED_ENDS) B.maker machine source.entry builder result }
+    requires room { HasRoom (bytes_view LF_ENDS) B.maker 0 source builder }
+    ensures { Steps (bytes_view LF_ENDS) B.maker machine source.entry builder result }
 {
-    coordinates_of::<T, B, FEED_ENDS, false>(machine, source, builder)
+    coordinates_of::<T, B, LF_ENDS, false>(machine, source, builder)
 }
 
 /// The coordinate that comes next, and whether it is whole. If it isn't: in which state the number that isn't read stands.
 ///
 /// What is carried round the loop stands apart from the machine, since what fills that up would be carried along.
 #[inline(always)]
-fn coordinate<'a, T: WktNum, B: Builder<T>, const FEED_ENDS: bool, const IS_FLAT: bool>(
+fn coordinate<'a, T: WktNum, B: Builder<T>, const LF_ENDS: bool, const IS_FLAT: bool>(
     machine: Machine,
-    source: ByteCursor<'a, FEED_ENDS>,
+    source: ByteCursor<'a, LF_ENDS>,
     builder: B,
-) -> (bool, State, ByteCursor<'a, FEED_ENDS>, B)
+) -> (bool, State, ByteCursor<'a, LF_ENDS>, B)
     requires state { machine.state ≡ next.X }
     requires part { has_coordinates machine.part ≡ true }
     requires flat { OnTrue IS_FLAT (machine.dim ≡ dim_of.XY) }
     requires more { OnFalse IS_FLAT (machine.dim ≢ dim_of.XY) }
     requires inside { source.at ≤ length source.text.now }
-    requires room { HasRoom (bytes_view FEED_ENDS) B.maker 0 source builder }
-    ensures on { OnTrue result.0 (Goes (B.maker.reads builder) (bytes_view FEED_ENDS) B.maker machine source.entry builder (reached machine next.Item result.2 result.3)) }
+    requires room { HasRoom (bytes_view LF_ENDS) B.maker 0 source builder }
+    ensures on { OnTrue result.0 (Goes (B.maker.reads builder) (bytes_view LF_ENDS) B.maker machine source.entry builder (reached machine next.Item result.2 result.3)) }
     ensures inside { OnTrue result.0 (result.2.at ≤ length result.2.text.now) }
-    ensures room { OnTrue result.0 (HasRoom (bytes_view FEED_ENDS) B.maker 0 result.2 result.3) }
-    ensures refused { OnFalse result.0 (Refuses (B.maker.reads builder) (bytes_view FEED_ENDS) B.maker machine source.entry builder (reached machine result.1 result.2 result.3)) }
+    ensures room { OnTrue result.0 (HasRoom (bytes_view LF_ENDS) B.maker 0 result.2 result.3) }
+    ensures refused { OnFalse result.0 (Refuses (B.maker.reads builder) (bytes_view LF_ENDS) B.maker machine source.entry builder (reached machine result.1 result.2 result.3)) }
 {
-    let (has_x, source, made) = number::<T, B, FEED_ENDS>(Axis::X, machine, source, builder);
+    let (has_x, source, made) = number::<T, B, LF_ENDS>(Axis::X, machine, source, builder);
     if !has_x {
         return (false, State::X, source, made);
     }
-    let (has_y, source, made) = number::<T, B, FEED_ENDS>(Axis::Y, machine, source, made);
+    let (has_y, source, made) = number::<T, B, LF_ENDS>(Axis::Y, machine, source, made);
     if !has_y {
         return (false, State::Y, source, made);
     }
     if IS_FLAT {
         return (true, State::Item, source, made);
     }
-    z_and_m::<T, B, FEED_ENDS>(machine, source, made)
+    z_and_m::<T, B, LF_ENDS>(machine, source, made)
 }
 
 /// The numbers behind X and Y, of which there are some.
 #[inline]
-fn z_and_m<'a, T: WktNum, B: Builder<T>, const FEED_ENDS: bool>(
+fn z_and_m<'a, T: WktNum, B: Builder<T>, const LF_ENDS: bool>(
     machine: Machine,
-    source: ByteCursor<'a, FEED_ENDS>,
+    source: ByteCursor<'a, LF_ENDS>,
     builder: B,
-) -> (bool, State, ByteCursor<'a, FEED_ENDS>, B)
+) -> (bool, State, ByteCursor<'a, LF_ENDS>, B)
     requires part { has_coordinates machine.part ≡ true }
     requires more { machine.dim ≢ dim_of.XY }
     requires inside { source.at ≤ length source.text.now }
-    requires room { HasRoom (bytes_view FEED_ENDS) B.maker 0 source builder }
-    ensures on { OnTrue result.0 (Goes (B.maker.reads builder) (bytes_view FEED_ENDS) B.maker (standing machine (next_after axis.Y machine.dim)) source.entry builder (reached machine next.Item result.2 result.3)) }
+    requires room { HasRoom (bytes_view LF_ENDS) B.maker 0 source builder }
+    ensures on { OnTrue result.0 (Goes (B.maker.reads builder) (bytes_view LF_ENDS) B.maker (standing machine (next_after axis.Y machine.dim)) source.entry builder (reached machine next.Item result.2 result.3)) }
     ensures inside { OnTrue result.0 (result.2.at ≤ length result.2.text.now) }
-    ensures room { OnTrue result.0 (HasRoom (bytes_view FEED_ENDS) B.maker 0 result.2 result.3) }
-    ensures refused { OnFalse result.0 (Refuses (B.maker.reads builder) (bytes_view FEED_ENDS) B.maker (standing machine (next_after axis.Y machine.dim)) source.entry builder (reached machine result.1 result.2 result.3)) }
+    ensures room { OnTrue result.0 (HasRoom (bytes_view LF_ENDS) B.maker 0 result.2 result.3) }
+    ensures refused { OnFalse result.0 (Refuses (B.maker.reads builder) (bytes_view LF_ENDS) B.maker (standing machine (next_after axis.Y machine.dim)) source.entry builder (reached machine result.1 result.2 result.3)) }
 {
     match machine.dim {
         // Not asked for.
         Dimension::XY => (true, State::Item, source, builder),
         Dimension::XYZ => {
-            let (has_z, source, made) = number::<T, B, FEED_ENDS>(
-                Axis::Z,
-                machine,
-                source,
-                builder,
-            );
+            let (has_z, source, made) = number::<T, B, LF_ENDS>(Axis::Z, machine, source, builder);
             (has_z, State::Z, source, made)
         }
         Dimension::XYM => {
-            let (has_m, source, made) = number::<T, B, FEED_ENDS>(
-                Axis::M,
-                machine,
-                source,
-                builder,
-            );
+            let (has_m, source, made) = number::<T, B, LF_ENDS>(Axis::M, machine, source, builder);
             (has_m, State::M, source, made)
         }
         Dimension::XYZM => {
-            let (has_z, source, made) = number::<T, B, FEED_ENDS>(
-                Axis::Z,
-                machine,
-                source,
-                builder,
-            );
+            let (has_z, source, made) = number::<T, B, LF_ENDS>(Axis::Z, machine, source, builder);
             if !has_z {
                 return (false, State::Z, source, made);
             }
-            let (has_m, source, made) = number::<T, B, FEED_ENDS>(Axis::M, machine, source, made);
+            let (has_m, source, made) = number::<T, B, LF_ENDS>(Axis::M, machine, source, made);
             (has_m, State::M, source, made)
         }
     }
@@ -226,25 +211,25 @@ fn z_and_m<'a, T: WktNum, B: Builder<T>, const FEED_ENDS: bool>(
 
 /// The number that comes next, and whether one is read.
 #[inline(always)]
-fn number<'a, T: WktNum, B: Builder<T>, const FEED_ENDS: bool>(
+fn number<'a, T: WktNum, B: Builder<T>, const LF_ENDS: bool>(
     axis: Axis,
     machine: Machine,
-    source: ByteCursor<'a, FEED_ENDS>,
+    source: ByteCursor<'a, LF_ENDS>,
     builder: B,
-) -> (bool, ByteCursor<'a, FEED_ENDS>, B)
+) -> (bool, ByteCursor<'a, LF_ENDS>, B)
     requires sound { HasNext (state_for axis) machine.dim }
     requires part { has_coordinates machine.part ≡ true }
     requires inside { source.at ≤ length source.text.now }
-    requires room { HasRoom (bytes_view FEED_ENDS) B.maker 0 source builder }
-    ensures on { OnTrue result.0 (Goes (B.maker.reads builder) (bytes_view FEED_ENDS) B.maker (standing machine (state_for axis)) source.entry builder (reached machine (next_after axis machine.dim) result.1 result.2)) }
+    requires room { HasRoom (bytes_view LF_ENDS) B.maker 0 source builder }
+    ensures on { OnTrue result.0 (Goes (B.maker.reads builder) (bytes_view LF_ENDS) B.maker (standing machine (state_for axis)) source.entry builder (reached machine (next_after axis machine.dim) result.1 result.2)) }
     ensures inside { OnTrue result.0 (result.1.at ≤ length result.1.text.now) }
-    ensures room { OnTrue result.0 (HasRoom (bytes_view FEED_ENDS) B.maker 0 result.1 result.2) }
-    ensures refused { OnFalse result.0 (Refuses (B.maker.reads builder) (bytes_view FEED_ENDS) B.maker (standing machine (state_for axis)) source.entry builder (reached machine (state_for axis) result.1 result.2)) }
+    ensures room { OnTrue result.0 (HasRoom (bytes_view LF_ENDS) B.maker 0 result.1 result.2) }
+    ensures refused { OnFalse result.0 (Refuses (B.maker.reads builder) (bytes_view LF_ENDS) B.maker (standing machine (state_for axis)) source.entry builder (reached machine (state_for axis) result.1 result.2)) }
 {
     // No effect at run time. What is ensured names the machine.
     let _ = machine;
     let text = source.text;
-    let at = skip_white::<FEED_ENDS>(text, source.at);
+    let at = skip_white::<LF_ENDS>(text, source.at);
     let (made, end) = builder.number_in(text, at, axis);
     match end {
         Some(end) => (true, ByteCursor::new(text, end), made),

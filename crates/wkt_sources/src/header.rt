@@ -63,32 +63,32 @@ pub(crate) struct Found {
 ///
 /// There is one for the first geometry and one for those inside, so each has one caller and is inlined there.
 #[inline(always)]
-pub(crate) fn header<'a, T: WktNum, B: Builder<T>, const FEED_ENDS: bool, const INNER: bool>(
+pub(crate) fn header<'a, T: WktNum, B: Builder<T>, const LF_ENDS: bool, const INNER: bool>(
     machine: Machine,
-    source: ByteCursor<'a, FEED_ENDS>,
+    source: ByteCursor<'a, LF_ENDS>,
     builder: B,
-) -> StepResult<ByteCursor<'a, FEED_ENDS>, B>
+) -> StepResult<ByteCursor<'a, LF_ENDS>, B>
     requires state { machine.state ≡ next.Kind }
     requires inside { source.at ≤ length source.text.now }
-    requires may { MayStep (bytes_view FEED_ENDS) B.maker machine source builder }
-    ensures { Steps (bytes_view FEED_ENDS) B.maker machine source.entry builder result }
+    requires may { MayStep (bytes_view LF_ENDS) B.maker machine source builder }
+    ensures { Steps (bytes_view LF_ENDS) B.maker machine source.entry builder result }
 {
     let text = source.text;
-    let at = skip_white::<FEED_ENDS>(text, source.at);
+    let at = skip_white::<LF_ENDS>(text, source.at);
     let rest = &text[at..];
     // Points are for points-6 of bench/, collections for nested-6, and the others for their rows of capi/bench/calls.sh:
     // LINESTRING saves some 100 instructions of that of a collection.
     let plain_head = if is_point(rest) {
-        match plain::<5, FEED_ENDS>(Part::Point, b"POINT", text, at) {
+        match plain::<5, LF_ENDS>(Part::Point, b"POINT", text, at) {
             Some(head) => {
                 let Progress {
                     source: behind,
                     machine: begun,
                     builder: made,
-                } = enter::<T, B, FEED_ENDS>(head, at, machine, source, builder);
+                } = enter::<T, B, LF_ENDS>(head, at, machine, source, builder);
                 return match begun.state {
                     State::X if has_coordinates(begun.part) => {
-                        coordinates::<T, B, FEED_ENDS>(begun, behind, made)
+                        coordinates::<T, B, LF_ENDS>(begun, behind, made)
                     }
                     _ => on(behind, begun, made),
                 };
@@ -96,22 +96,22 @@ pub(crate) fn header<'a, T: WktNum, B: Builder<T>, const FEED_ENDS: bool, const 
             None => None,
         }
     } else if is_polygon(rest) {
-        plain::<7, FEED_ENDS>(Part::Polygon, b"POLYGON", text, at)
+        plain::<7, LF_ENDS>(Part::Polygon, b"POLYGON", text, at)
     } else if is_multipoint(rest) {
-        plain::<10, FEED_ENDS>(Part::MultiPoint, b"MULTIPOINT", text, at)
+        plain::<10, LF_ENDS>(Part::MultiPoint, b"MULTIPOINT", text, at)
     } else if is_linestring(rest) {
-        plain::<10, FEED_ENDS>(Part::LineString, b"LINESTRING", text, at)
+        plain::<10, LF_ENDS>(Part::LineString, b"LINESTRING", text, at)
     } else if is_collection(rest) {
-        plain::<18, FEED_ENDS>(Part::Collection, b"GEOMETRYCOLLECTION", text, at)
+        plain::<18, LF_ENDS>(Part::Collection, b"GEOMETRYCOLLECTION", text, at)
     } else {
         None
     };
     let head = match plain_head {
         Some(head) => Some(head),
-        None => any_form::<FEED_ENDS>(text, at),
+        None => any_form::<LF_ENDS>(text, at),
     };
     match head {
-        Some(head) => Ok(enter::<T, B, FEED_ENDS>(head, at, machine, source, builder)),
+        Some(head) => Ok(enter::<T, B, LF_ENDS>(head, at, machine, source, builder)),
         // Made anew, so that of the machine its depth alone is kept until here.
         None => machine
             .with_part(State::Kind, Part::Collection, Dimension::XY)
@@ -122,7 +122,7 @@ pub(crate) fn header<'a, T: WktNum, B: Builder<T>, const FEED_ENDS: bool, const 
 /// The word of a kind, if it stands there, and its parenthesis or EMPTY, with a space between them at most. `None` doesn't
 /// imply that none stands there.
 #[inline(always)]
-pub(crate) fn plain<const N: usize, const FEED_ENDS: bool>(
+pub(crate) fn plain<const N: usize, const LF_ENDS: bool>(
     part: Part,
     word: &[u8; N],
     text: &[u8],
@@ -133,8 +133,8 @@ pub(crate) fn plain<const N: usize, const FEED_ENDS: bool>(
     requires few { N ≤ 18 }
     requires inside { at ≤ length text.now }
     requires stands { take N (drop at text.now) ≡ word.now }
-    ensures word { IfSome result (λ h. h.then ≡ then.Inside → StandsHead FEED_ENDS text.now at part h.end) }
-    ensures header { IfSome result (λ h. StandsHeader FEED_ENDS text.now at h.part h.dim h.then h.end) }
+    ensures word { IfSome result (λ h. h.then ≡ then.Inside → StandsHead LF_ENDS text.now at part h.end) }
+    ensures header { IfSome result (λ h. StandsHeader LF_ENDS text.now at h.part h.dim h.then h.end) }
     ensures inside { IfSome result (λ h. h.end ≤ length text.now) }
 {
     let _ = word;
@@ -150,10 +150,7 @@ pub(crate) fn plain<const N: usize, const FEED_ENDS: bool>(
         (AfterHeader::Inside, behind + 2)
     } else {
         // For POINT EMPTY of capi/bench/calls.sh.
-        (
-            AfterHeader::Outside,
-            empty_at::<FEED_ENDS>(text, behind + 1)?,
-        )
+        (AfterHeader::Outside, empty_at::<LF_ENDS>(text, behind + 1)?)
     };
     Some(Found {
         part,
@@ -279,20 +276,20 @@ fn eight_bytes(bytes: &[u8]) -> u64
 
 /// Behind a header that stands there.
 #[inline(always)]
-pub(crate) fn enter<'a, T: WktNum, B: Builder<T>, const FEED_ENDS: bool>(
+pub(crate) fn enter<'a, T: WktNum, B: Builder<T>, const LF_ENDS: bool>(
     head: Found,
     at: usize,
     machine: Machine,
-    source: ByteCursor<'a, FEED_ENDS>,
+    source: ByteCursor<'a, LF_ENDS>,
     builder: B,
-) -> Progress<ByteCursor<'a, FEED_ENDS>, B>
+) -> Progress<ByteCursor<'a, LF_ENDS>, B>
     requires state { machine.state ≡ next.Kind }
-    requires may { MayStep (bytes_view FEED_ENDS) B.maker machine source builder }
-    requires between { IsBetween FEED_ENDS source.text.now source.at at }
-    requires line { Legible FEED_ENDS source.text.now source.at → Legible FEED_ENDS source.text.now at }
-    requires head { StandsHeader FEED_ENDS source.text.now at head.part head.dim head.then head.end }
-    ensures on { Goes (B.maker.reads builder) (bytes_view FEED_ENDS) B.maker machine source.entry builder result }
-    ensures stands { RoomAt (bytes_view FEED_ENDS) B.maker result }
+    requires may { MayStep (bytes_view LF_ENDS) B.maker machine source builder }
+    requires between { IsBetween LF_ENDS source.text.now source.at at }
+    requires line { Legible LF_ENDS source.text.now source.at → Legible LF_ENDS source.text.now at }
+    requires head { StandsHeader LF_ENDS source.text.now at head.part head.dim head.then head.end }
+    ensures on { Goes (B.maker.reads builder) (bytes_view LF_ENDS) B.maker machine source.entry builder result }
+    ensures stands { RoomAt (bytes_view LF_ENDS) B.maker result }
     ensures text { result.source.text ≡ source.entry.text }
     ensures at { result.source.at ≡ head.end }
 {
@@ -331,9 +328,9 @@ pub(crate) fn enter<'a, T: WktNum, B: Builder<T>, const FEED_ENDS: bool>(
 
 /// The header that stands there, in any form. `None` doesn't imply that none does.
 #[inline(always)]
-fn any_form<const FEED_ENDS: bool>(text: &[u8], at: usize) -> Option<Found>
+fn any_form<const LF_ENDS: bool>(text: &[u8], at: usize) -> Option<Found>
     requires { at ≤ length text.now }
-    ensures { IfSome result (λ h. StandsHeader FEED_ENDS text.now at h.part h.dim h.then h.end) }
+    ensures { IfSome result (λ h. StandsHeader LF_ENDS text.now at h.part h.dim h.then h.end) }
 {
     let (kind, joined, n) = kind_front(&text[at..])?;
     let behind = at + n;
@@ -343,7 +340,7 @@ fn any_form<const FEED_ENDS: bool>(text: &[u8], at: usize) -> Option<Found>
     let part = part_of(kind);
     match joined {
         Some(dim) => {
-            let (then, end) = behind_dimension::<FEED_ENDS>(text, behind);
+            let (then, end) = behind_dimension::<LF_ENDS>(text, behind);
             Some(Found {
                 part,
                 dim,
@@ -352,7 +349,7 @@ fn any_form<const FEED_ENDS: bool>(text: &[u8], at: usize) -> Option<Found>
             })
         }
         None => {
-            let (dim, then, end) = behind_kind::<FEED_ENDS>(text, behind);
+            let (dim, then, end) = behind_kind::<LF_ENDS>(text, behind);
             Some(Found {
                 part,
                 dim,
@@ -367,19 +364,19 @@ fn any_form<const FEED_ENDS: bool>(text: &[u8], at: usize) -> Option<Found>
 /// that ends.
 #[inline(always)]
 #[tactic(auto, using(crate::proofs::ByteSteps::behind_white))]
-fn behind_kind<const FEED_ENDS: bool>(text: &[u8], from: usize) -> (Dimension, AfterHeader, usize)
+fn behind_kind<const LF_ENDS: bool>(text: &[u8], from: usize) -> (Dimension, AfterHeader, usize)
     requires { from ≤ length text.now }
-    ensures { EndsKind FEED_ENDS text.now from result.0 result.1 result.2 }
+    ensures { EndsKind LF_ENDS text.now from result.0 result.1 result.2 }
 {
-    let at = skip_white::<FEED_ENDS>(text, from);
+    let at = skip_white::<LF_ENDS>(text, from);
     if byte_at(text, at) == b'(' {
         return (Dimension::XY, AfterHeader::Inside, at + 1);
     }
-    if let Some((dim, behind)) = dimension_at::<FEED_ENDS>(text, at) {
-        let (then, end) = behind_dimension::<FEED_ENDS>(text, behind);
+    if let Some((dim, behind)) = dimension_at::<LF_ENDS>(text, at) {
+        let (then, end) = behind_dimension::<LF_ENDS>(text, behind);
         return (dim, then, end);
     }
-    match empty_at::<FEED_ENDS>(text, at) {
+    match empty_at::<LF_ENDS>(text, at) {
         Some(end) => (Dimension::XY, AfterHeader::Outside, end),
         None => (Dimension::XY, AfterHeader::Dimension, from),
     }
@@ -388,15 +385,15 @@ fn behind_kind<const FEED_ENDS: bool>(text: &[u8], from: usize) -> (Dimension, A
 /// What stands behind a dimension, which ends at `from`, and where that ends.
 #[inline(always)]
 #[tactic(auto, using(crate::proofs::ByteSteps::behind_white))]
-fn behind_dimension<const FEED_ENDS: bool>(text: &[u8], from: usize) -> (AfterHeader, usize)
+fn behind_dimension<const LF_ENDS: bool>(text: &[u8], from: usize) -> (AfterHeader, usize)
     requires { from ≤ length text.now }
-    ensures { EndsDimension FEED_ENDS text.now from result.0 result.1 }
+    ensures { EndsDimension LF_ENDS text.now from result.0 result.1 }
 {
-    let at = skip_white::<FEED_ENDS>(text, from);
+    let at = skip_white::<LF_ENDS>(text, from);
     if byte_at(text, at) == b'(' {
         return (AfterHeader::Inside, at + 1);
     }
-    match empty_at::<FEED_ENDS>(text, at) {
+    match empty_at::<LF_ENDS>(text, at) {
         Some(end) => (AfterHeader::Outside, end),
         None => (AfterHeader::Opening, from),
     }
@@ -404,9 +401,9 @@ fn behind_dimension<const FEED_ENDS: bool>(text: &[u8], from: usize) -> (AfterHe
 
 /// The dimension that stands there, and where it ends.
 #[inline(always)]
-fn dimension_at<const FEED_ENDS: bool>(text: &[u8], at: usize) -> Option<(Dimension, usize)>
+fn dimension_at<const LF_ENDS: bool>(text: &[u8], at: usize) -> Option<(Dimension, usize)>
     requires { at ≤ length text.now }
-    ensures names { IfSome result (λ r. (w : List ℕ) × TakesOne FEED_ENDS text.now at (Word w) r.1 × (dim_word w ≡ Some r.0)) }
+    ensures names { IfSome result (λ r. (w : List ℕ) × TakesOne LF_ENDS text.now at (Word w) r.1 × (dim_word w ≡ Some r.0)) }
     ensures inside { IfSome result (λ r. r.1 ≤ length text.now) }
 {
     let (dim, n) = dimension_front(&text[at..])?;
@@ -418,9 +415,9 @@ fn dimension_at<const FEED_ENDS: bool>(text: &[u8], at: usize) -> Option<(Dimens
 
 /// Where EMPTY ends that stands there. `None` doesn't imply that it doesn't.
 #[inline(always)]
-fn empty_at<const FEED_ENDS: bool>(text: &[u8], at: usize) -> Option<usize>
+fn empty_at<const LF_ENDS: bool>(text: &[u8], at: usize) -> Option<usize>
     requires { at ≤ length text.now }
-    ensures { IfSome result (λ end. (w : List ℕ) × TakesOne FEED_ENDS text.now at (Word w) end × (is_empty_word w ≡ true)) }
+    ensures { IfSome result (λ end. (w : List ℕ) × TakesOne LF_ENDS text.now at (Word w) end × (is_empty_word w ≡ true)) }
 {
     if text.len() - at < 5 || !is_empty_in(&text[at..at + 5]) {
         return None;

@@ -24,7 +24,7 @@ loop-at-preserved g c =
       inside = p.0;
       white = λ k low high. elim (cases_lt k c.loop-at.at) [
         | inl before ↦ c.loop-at.invariant.white k low before
-        | inr there ↦ let here : k ≡ c.loop-at.at = omega (arith, there, high) in ap (λ n. class_in (not (g.row.FEED_ENDS == 0)) (get_or c.args.text.now n 0)) here ∙ ap (class_in (not (g.row.FEED_ENDS == 0))) (sym byte) ∙ is
+        | inr there ↦ let here : k ≡ c.loop-at.at = omega (arith, there, high) in ap (λ n. class_in (not (g.row.LF_ENDS == 0)) (get_or c.args.text.now n 0)) here ∙ ap (class_in (not (g.row.LF_ENDS == 0))) (sym byte) ∙ is
       ];
       line = λ h. class-in-line _ c.args.text.now c.loop-at.at (white-some _ c.args.text.now c.loop-at.at c.byte_at.result c.byte_at.ensures.value (c.is_white.ensures.0 c.loop-at-test.true)) (c.loop-at.invariant.line h);
       same = c.loop-at.invariant.same ∙ p.1;

@@ -9,9 +9,9 @@ abbrev pub invariant-loop-at : goal.invariant-loop-at
 invariant-loop-at g l = record {
   order : l.from ≤ l.at;
   inside : l.at ≤ length l.text;
-  line : l.from ≤ length (line_of (not (g.row.FEED_ENDS == 0)) l.text) → l.at ≤ length (line_of (not (g.row.FEED_ENDS == 0)) l.text);
-  white : (k : ℕ) → l.from ≤ k → k < l.at → class_in (not (g.row.FEED_ENDS == 0)) (get_or l.text k 0) ≡ White;
-  same : remaining_spanned (not (g.row.FEED_ENDS == 0)) l.text l.from ≡ remaining_spanned (not (g.row.FEED_ENDS == 0)) l.text l.at;
+  line : l.from ≤ length (line_of (not (g.row.LF_ENDS == 0)) l.text) → l.at ≤ length (line_of (not (g.row.LF_ENDS == 0)) l.text);
+  white : (k : ℕ) → l.from ≤ k → k < l.at → class_in (not (g.row.LF_ENDS == 0)) (get_or l.text k 0) ≡ White;
+  same : remaining_spanned (not (g.row.LF_ENDS == 0)) l.text l.from ≡ remaining_spanned (not (g.row.LF_ENDS == 0)) l.text l.at;
 }
 
 abbrev pub decreases-loop-at : goal.decreases-loop-at

@@ -21,7 +21,7 @@ returns-then-byte_at-gt32-clause-white g c = λ k low high. absurd (omega (arith
 pub returns-then-byte_at-gt32-2-clause-white : goal.returns-then-byte_at-gt32-2-clause-white
 returns-then-byte_at-gt32-2-clause-white g c = λ k low high.
     let here : k ≡ c.args.at = omega (arith, low, high) in
-    ap (λ n. class_in (not (g.row.FEED_ENDS == 0)) (get_or c.args.text.now n 0)) here ∙ ap (class_in (not (g.row.FEED_ENDS == 0))) (sym c.byte_at-2.ensures.value) ∙ space _ c.byte_at-2.result c.if-byte_at-eq32.true
+    ap (λ n. class_in (not (g.row.LF_ENDS == 0)) (get_or c.args.text.now n 0)) here ∙ ap (class_in (not (g.row.LF_ENDS == 0))) (sym c.byte_at-2.ensures.value) ∙ space _ c.byte_at-2.result c.if-byte_at-eq32.true
 
 pub returns-then-byte_at-gt32-2-clause-line : goal.returns-then-byte_at-gt32-2-clause-line
 returns-then-byte_at-gt32-2-clause-line g c = λ h. class-in-line _ c.args.text.now c.args.at (white-some _ c.args.text.now c.args.at c.byte_at-2.result c.byte_at-2.ensures.value (space _ c.byte_at-2.result c.if-byte_at-eq32.true)) h

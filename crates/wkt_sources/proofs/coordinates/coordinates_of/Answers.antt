@@ -51,7 +51,7 @@ coordinates-smaller g c =
 pub coordinates-preserved : goal.coordinates-preserved
 coordinates-preserved g c =
     let turn =
-    turn_goes (g.B.Builder.maker.reads c.coordinates.builder) g.B.Builder.maker (not (g.row.FEED_ENDS == 0)) c.args.machine c.coordinates.source c.new-source-else-byte-eq41.result c.coordinates.builder c.comma-builder.result (reached c.args.machine next.Item c.coordinate-is_whole.result.2 c.coordinate-is_whole.result.3) (OnTrue_at c.if-not-is_whole.false c.coordinate-is_whole.ensures.on) refl
+    turn_goes (g.B.Builder.maker.reads c.coordinates.builder) g.B.Builder.maker (not (g.row.LF_ENDS == 0)) c.args.machine c.coordinates.source c.new-source-else-byte-eq41.result c.coordinates.builder c.comma-builder.result (reached c.args.machine next.Item c.coordinate-is_whole.result.2 c.coordinate-is_whole.result.3) (OnTrue_at c.if-not-is_whole.false c.coordinate-is_whole.ensures.on) refl
     c.requires.state c.requires.part (sym c.is_single-single.ensures ∙ c.if-single.false) (sym c.byte_at-byte.ensures.value ∙ c.if-byte-ne44.false) c.new-source-else-byte-eq41.ensures.text c.new-source-else-byte-eq41.ensures.at c.comma-builder.ensures.makes in
     let some = c.byte_at-byte.ensures.some in
     let comma = c.if-byte-ne44.false in
@@ -90,7 +90,7 @@ coordinates-preserved-then-byte-eq41 g c =
     let there = OnTrue_at c.if-not-is_next_member.false c.is_next_member.ensures in
     let at = c.new-source.ensures.at in
     let turn =
-    member_goes (g.B.Builder.maker.reads c.coordinates.builder) g.B.Builder.maker (not (g.row.FEED_ENDS == 0)) c.args.machine c.coordinates.source c.new-source.result c.coordinates.builder c.close-closed.result c.comma.result c.open-builder.result (reached c.args.machine next.Item c.coordinate-is_whole.result.2 c.coordinate-is_whole.result.3) (OnTrue_at c.if-not-is_whole.false c.coordinate-is_whole.ensures.on) refl
+    member_goes (g.B.Builder.maker.reads c.coordinates.builder) g.B.Builder.maker (not (g.row.LF_ENDS == 0)) c.args.machine c.coordinates.source c.new-source.result c.coordinates.builder c.close-closed.result c.comma.result c.open-builder.result (reached c.args.machine next.Item c.coordinate-is_whole.result.2 c.coordinate-is_whole.result.3) (OnTrue_at c.if-not-is_whole.false c.coordinate-is_whole.ensures.on) refl
     c.requires.state there.0 (sym c.byte_at-byte.ensures.value ∙ c.if-byte-eq41.true) there.1 there.2 c.new-source.ensures.text (omega (arith, at)) c.close-closed.ensures.makes c.comma.ensures.makes c.open-builder.ensures.makes in
     let before = (takes-mark false c.coordinate-is_whole.result.2.text.now (c.coordinate-is_whole.result.2.at + 1 + 1) Open (mark-in false _ Open (ap class_of there.2 ∙ open_mark))).inside in
     record {

@@ -249,7 +249,7 @@ returns-in-Dimension-clause-on g c =
 
 pub returns-in-Dimension-clause-stands : goal.returns-in-Dimension-clause-stands
 returns-in-Dimension-clause-stands g c =
-    subst (λ m. HasRoom (bytes_view (not (g.row.FEED_ENDS == 0))) g.B.Builder.maker (owed (state_of m)) c.new-source.result c.args.builder) (sym c.with_part.ensures)
+    subst (λ m. HasRoom (bytes_view (not (g.row.LF_ENDS == 0))) g.B.Builder.maker (owed (state_of m)) c.new-source.result c.args.builder) (sym c.with_part.ensures)
     (room_behind g.B.Builder.maker _ c.args.source c.args.builder c.args.at c.args.head.part c.args.head.dim then.Dimension c.args.head.end c.requires.between.same (subst (λ t. StandsHeader _ c.args.source.text.now c.args.at c.args.head.part c.args.head.dim t c.args.head.end) c.in-Dimension.is c.requires.head) (rest_room c.requires.may) (header_cost c.args.head.part) 0 c.new-source.result c.args.builder (omega arith) c.new-source.ensures.text c.new-source.ensures.at (λ m fits. g.B.Builder.maker.less c.args.builder m (m + 0) (omega arith) fits))
 
 pub returns-in-Opening-clause-on : goal.returns-in-Opening-clause-on
@@ -259,7 +259,7 @@ returns-in-Opening-clause-on g c =
 
 pub returns-in-Opening-clause-stands : goal.returns-in-Opening-clause-stands
 returns-in-Opening-clause-stands g c =
-    subst (λ m. HasRoom (bytes_view (not (g.row.FEED_ENDS == 0))) g.B.Builder.maker (owed (state_of m)) c.new-source.result c.begin.result) (sym c.with_part-begun.ensures)
+    subst (λ m. HasRoom (bytes_view (not (g.row.LF_ENDS == 0))) g.B.Builder.maker (owed (state_of m)) c.new-source.result c.begin.result) (sym c.with_part-begun.ensures)
     (room_behind g.B.Builder.maker _ c.args.source c.args.builder c.args.at c.args.head.part c.args.head.dim then.Opening c.args.head.end c.requires.between.same (subst (λ t. StandsHeader _ c.args.source.text.now c.args.at c.args.head.part c.args.head.dim t c.args.head.end) c.in-Opening.is c.requires.head) (rest_room c.requires.may) 0 (header_cost c.args.head.part) c.new-source.result c.begin.result (omega arith) c.new-source.ensures.text c.new-source.ensures.at c.begin.ensures.leaves)
 
 pub returns-in-Inside-clause-on : goal.returns-in-Inside-clause-on
@@ -270,7 +270,7 @@ returns-in-Inside-clause-on g c =
 
 pub returns-in-Inside-clause-stands : goal.returns-in-Inside-clause-stands
 returns-in-Inside-clause-stands g c =
-    subst (λ n. HasRoom (bytes_view (not (g.row.FEED_ENDS == 0))) g.B.Builder.maker n c.new-source.result c.open.result) (sym (ap owed c.inside.ensures.state ∙ inside_owes _ _ _))
+    subst (λ n. HasRoom (bytes_view (not (g.row.LF_ENDS == 0))) g.B.Builder.maker n c.new-source.result c.open.result) (sym (ap owed c.inside.ensures.state ∙ inside_owes _ _ _))
     (room_ended g.B.Builder.maker _ c.args.source c.args.builder c.args.at c.args.head.part c.args.head.dim then.Inside c.args.head.end c.requires.between.same (subst (λ t. StandsHeader _ c.args.source.text.now c.args.at c.args.head.part c.args.head.dim t c.args.head.end) c.in-Inside.is c.requires.head) (rest_room c.requires.may) 1 c.new-source.result c.begin-in-Inside.result c.open.result (omega arith) c.new-source.ensures.text c.new-source.ensures.at c.begin-in-Inside.ensures.leaves c.open.ensures.leaves)
 
 pub returns-in-Outside-clause-on : goal.returns-in-Outside-clause-on
@@ -281,5 +281,5 @@ returns-in-Outside-clause-on g c =
 
 pub returns-in-Outside-clause-stands : goal.returns-in-Outside-clause-stands
 returns-in-Outside-clause-stands g c =
-    subst (λ n. HasRoom (bytes_view (not (g.row.FEED_ENDS == 0))) g.B.Builder.maker n c.new-source.result c.empty.result) (sym (ap owed c.outside.ensures.state ∙ outside_owes _ _ _))
+    subst (λ n. HasRoom (bytes_view (not (g.row.LF_ENDS == 0))) g.B.Builder.maker n c.new-source.result c.empty.result) (sym (ap owed c.outside.ensures.state ∙ outside_owes _ _ _))
     (room_ended g.B.Builder.maker _ c.args.source c.args.builder c.args.at c.args.head.part c.args.head.dim then.Outside c.args.head.end c.requires.between.same (subst (λ t. StandsHeader _ c.args.source.text.now c.args.at c.args.head.part c.args.head.dim t c.args.head.end) c.in-Outside.is c.requires.head) (rest_room c.requires.may) 6 c.new-source.result c.begin-in-Outside.result c.empty.result (omega arith) c.new-source.ensures.text c.new-source.ensures.at c.begin-in-Outside.ensures.leaves c.empty.ensures.leaves)

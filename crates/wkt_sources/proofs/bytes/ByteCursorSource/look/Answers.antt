@@ -13,4 +13,4 @@ returns-then-self-text-clause-looked g c = past_looked _ c.args.self.text.now c.
 pub returns-clause-stays : goal.returns-clause-stays
 returns-clause-stays g c =
     let skips = c.skip_white-at.ensures in
-    stays_on (not (g.row.FEED_ENDS == 0)) c.args.self _ refl (record { order = skips.order; same = skips.same; white = skips.white }) (λ k. (k.0, skips.line k.1))
+    stays_on (not (g.row.LF_ENDS == 0)) c.args.self _ refl (record { order = skips.order; same = skips.same; white = skips.white }) (λ k. (k.0, skips.line k.1))
