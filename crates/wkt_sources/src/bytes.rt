@@ -5,7 +5,7 @@ ghost use Rattle.wkt_machine.specs.View.{IsDark, IsUnmarked, seen_word};
 ghost use Rattle.wkt_sources.specs.Views.{Sees};
 
 use crate::coordinates::{coordinates, has_coordinates};
-use crate::header::header;
+use crate::header::take_header;
 use wkt_events::{begins_number, byte_at, run_end, skip_white};
 use wkt_machine::{Axis, Builder, FastSource, LexemeKind, Machine, Source, StepResult};
 use wkt_num::WktNum;
@@ -132,7 +132,7 @@ impl<'a, T: WktNum, const LF_ENDS: bool> FastSource<T> for ByteCursor<'a, LF_END
         if self.at > self.text.len() {
             return machine.step(self, builder);
         }
-        header::<T, B, LF_ENDS, true>(machine, self, builder)
+        take_header::<T, B, LF_ENDS, true>(machine, self, builder)
     }
 
     #[inline(always)]
@@ -140,7 +140,7 @@ impl<'a, T: WktNum, const LF_ENDS: bool> FastSource<T> for ByteCursor<'a, LF_END
         if self.at > self.text.len() {
             return machine.step(self, builder);
         }
-        header::<T, B, LF_ENDS, false>(machine, self, builder)
+        take_header::<T, B, LF_ENDS, false>(machine, self, builder)
     }
 
     #[inline(always)]

@@ -52,7 +52,7 @@ pub(crate) enum AfterHeader {
 
 /// A header that stands in a text: its part and dimension, what stands behind its words, and where that ends.
 #[derive(Clone, Copy)]
-pub(crate) struct Found {
+pub(crate) struct Header {
     part: Part,
     dim: Dimension,
     pub(crate) then: AfterHeader,
@@ -63,7 +63,7 @@ pub(crate) struct Found {
 ///
 /// There is one for the first geometry and one for those inside, so each has one caller and is inlined there.
 #[inline(always)]
-pub(crate) fn header<'a, T: WktNum, B: Builder<T>, const LF_ENDS: bool, const INNER: bool>(
+pub(crate) fn take_header<'a, T: WktNum, B: Builder<T>, const LF_ENDS: bool, const INNER: bool>(
     machine: Machine,
     source: ByteCursor<'a, LF_ENDS>,
     builder: B,
@@ -127,7 +127,7 @@ pub(crate) fn plain<const N: usize, const LF_ENDS: bool>(
     word: &[u8; N],
     text: &[u8],
     at: usize,
-) -> Option<Found>
+) -> Option<Header>
     requires name { IsKindName part word.now }
     requires some { 0 < N }
     requires few { N ≤ 18 }
@@ -152,7 +152,7 @@ pub(crate) fn plain<const N: usize, const LF_ENDS: bool>(
         // For POINT EMPTY of capi/bench/calls.sh.
         (AfterHeader::Outside, empty_at::<LF_ENDS>(text, behind + 1)?)
     };
-    Some(Found {
+    Some(Header {
         part,
         dim: Dimension::XY,
         then,
@@ -277,7 +277,7 @@ fn eight_bytes(bytes: &[u8]) -> u64
 /// Behind a header that stands there.
 #[inline(always)]
 pub(crate) fn enter<'a, T: WktNum, B: Builder<T>, const LF_ENDS: bool>(
-    head: Found,
+    head: Header,
     at: usize,
     machine: Machine,
     source: ByteCursor<'a, LF_ENDS>,
@@ -294,7 +294,7 @@ pub(crate) fn enter<'a, T: WktNum, B: Builder<T>, const LF_ENDS: bool>(
     ensures at { result.source.at ≡ head.end }
 {
     let _ = at;
-    let Found {
+    let Header {
         part,
         dim,
         then,
@@ -328,7 +328,7 @@ pub(crate) fn enter<'a, T: WktNum, B: Builder<T>, const LF_ENDS: bool>(
 
 /// The header that stands there, in any form. `None` doesn't imply that none does.
 #[inline(always)]
-fn any_form<const LF_ENDS: bool>(text: &[u8], at: usize) -> Option<Found>
+fn any_form<const LF_ENDS: bool>(text: &[u8], at: usize) -> Option<Header>
     requires { at ≤ length text.now }
     ensures { IfSome result (λ h. StandsHeader LF_ENDS text.now at h.part h.dim h.then h.end) }
 {
@@ -341,7 +341,7 @@ fn any_form<const LF_ENDS: bool>(text: &[u8], at: usize) -> Option<Found>
     match joined {
         Some(dim) => {
             let (then, end) = behind_dimension::<LF_ENDS>(text, behind);
-            Some(Found {
+            Some(Header {
                 part,
                 dim,
                 then,
@@ -350,7 +350,7 @@ fn any_form<const LF_ENDS: bool>(text: &[u8], at: usize) -> Option<Found>
         }
         None => {
             let (dim, then, end) = behind_kind::<LF_ENDS>(text, behind);
-            Some(Found {
+            Some(Header {
                 part,
                 dim,
                 then,

@@ -4,7 +4,7 @@ use Rattle.std.proofs.lemmas.Bool.{OnTrue_at}
 use Rattle.std.proofs.lemmas.List.{take_rest}
 use Rattle.wkt_sources.proofs.ByteSteps.{collection_name, linestring_name, multipoint_name, point_name, polygon_name}
 use Rattle.wkt_machine.proofs.StepsJoin.{then_steps}
-use Rattle.wkt_sources.proofs.header.header.Goals as goal
+use Rattle.wkt_sources.proofs.header.take_header.Goals as goal
 
 pub returns-in-X : goal.returns-in-X
 returns-in-X g c = then_steps c.enter-made.result _ c.enter-made.ensures.on c.coordinates.ensures
