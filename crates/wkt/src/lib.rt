@@ -25,7 +25,7 @@
 //!        ^ a second number was expected
 //! ```
 //!
-//! Which spelling of another tool stands there, if one is known, says [`Explanation::hint`]. Where the geometry of a text
+//! Which spelling of another tool it is, if one is known, says [`Explanation::hint`]. Where the geometry of a text
 //! ends, and whether more follows it, says [`check`].
 //!
 //! # Compare

@@ -1,4 +1,4 @@
--- What a text builder writes that is told the arrays of the caller, who is answered so.
+-- What a text builder writes that is sent the arrays of the caller, who is answered so.
 use Rattle.std.proofs.Common.{◌+◌, ◌++◌, ◌≤◌, ◌/◌, ◌%◌, ◌^◌, ◌==◌, ℕ, zero, suc, ℤ, pos, negsuc, Bool, true, false, [], ◌∷◌, length, arith, length-append, if◌then◌else◌, ◌≡◌, ◌*◌, List, refl, sym, ap, ◌∙◌, subst, ◌⊎◌, inl, inr}
 use Rattle.std.specs.Prelude.{int_lt}
 use Rattle.std.specs.Fmt.{decimal, sign_text}
@@ -67,7 +67,7 @@ pub number-length : (D : ℕ) (x : ℤ) → IsSigned 63 x → length (decimal_te
 number-length D (pos n) h = magnitude-length D (int_lt (pos n) (pos 0)) n (omega (arith, h))
 number-length D (negsuc n) h = magnitude-length D (int_lt (negsuc n) (pos 0)) (suc n) (omega (arith, h))
 
--- What a text builder writes that is told the arrays of the caller's.
+-- What a text builder writes that is sent the arrays of the caller.
 
 -- a number is that of one kind, and of one dimension
 kind_at : ℕ → GeometryType
@@ -165,7 +165,7 @@ has-room D q g small room p fresh n enough large v h =
 
 -- what the text builder has written then lies within its room
 pub is-within : (p t : TextBuilder ℕ) (es : List (Event ℤ)) → builders.fits p (events_cost (builders.takes p) es) → Tells builders p es t → IsWithin t
-is-within p t es fits told = within-room (read_decimal 127 36 t.numbers) (decimal_text t.numbers) t (told.leaves 0 (omega (arith, fits)))
+is-within p t es fits sent = within-room (read_decimal 127 36 t.numbers) (decimal_text t.numbers) t (sent.leaves 0 (omega (arith, fits)))
 
 -- What a caller is answered who gave arrays.
 

@@ -6,9 +6,9 @@ ghost use Rattle.wkt_calls.specs.Arrays.{IsFlatPoint};
 ghost use Rattle.wkt_c.specs.Rows.{HoldsNoArrays, AddsArrays, AddsRowArrays, HoldsArrays, row_of};
 
 use crate::column::{GivenColumn, is_null};
+use crate::given_text::GivenArrays;
 use crate::joined::Joined;
 use crate::list::RoomList;
-use crate::told::GivenArrays;
 use wkt_calls::flat::{flat_asked, make_point};
 use wkt_calls::options::{ends_as_asked, places_of};
 use wkt_calls::status::{DONE, MEMORY, NOT_WHOLE, NULL_ROW};

@@ -6,7 +6,7 @@ ghost use Rattle.wkt_c.specs.ColumnArrays.{AreArrayColumn, IsArrayColumn, HasOff
 ghost use Rattle.wkt_c.specs.Rows.{row_of, given_arrays, AddsArraysText, HoldsTexts};
 
 use crate::column::{Rows, are_offsets, has_bits, is_null};
-use crate::told::{GivenArrays, told};
+use crate::given_text::{GivenArrays, text_of};
 use wkt_calls::options::MOST_ASKED;
 use wkt_calls::status::{DONE, MEMORY, NO_PLACES, NULL_ROW};
 use wkt_num::Places;
@@ -69,7 +69,7 @@ fn add_text(
     if null {
         return rows.add(&[], NULL_ROW);
     }
-    match told(row, places, room) {
+    match text_of(row, places, room) {
         Ok(builder) => rows.add(builder.written(), DONE),
         Err(status) => {
             if status == MEMORY {

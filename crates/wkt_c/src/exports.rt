@@ -13,8 +13,8 @@ ghost use Rattle.wkt_calls.specs.Arrays.{IsNotFlat, HasMoreAt, AreHandedOut, Hav
 use crate::arrays::{FEW, arrays_long};
 use crate::canonical::canonical;
 use crate::column::{GivenColumn, Rows, answers, is_column};
+use crate::given_text::{GivenArrays, copy_out_text_at};
 use crate::lines::{self, answer_some};
-use crate::told::{GivenArrays, copy_out_text_at};
 use wkt_calls::arrays_call::arrays_short;
 use wkt_calls::canonical::SHORT;
 use wkt_calls::fill::{copy_out, copy_whole};

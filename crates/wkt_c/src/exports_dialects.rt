@@ -12,7 +12,7 @@ use wkt_calls::status::{DONE, NO_PLACES, NOT_WHOLE};
 use wkt_dialects::{Front, split_srid};
 use wkt_explain::Problem;
 
-/// Reports the SRID in front of `text`, and to `end` where what stands behind it begins: 0 and 0 where none stands there.
+/// Reports the SRID in front of `text`, and to `end` where what stands behind it begins: 0 and 0 where there is none.
 #[unsafe(no_mangle)]
 pub extern "C" fn wkt_srid(text: &[u8], srid: &mut u32, end: &mut usize) -> u32
     ensures done { result ≡ DONE }

@@ -18,10 +18,10 @@ mod exports_dialects;
 mod exports_events;
 mod exports_explain;
 mod exports_short;
+mod given_text;
 mod joined;
 mod lines;
 mod list;
 mod sizes;
 #[cfg(test)]
 mod tests;
-mod told;

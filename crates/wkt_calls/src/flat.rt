@@ -94,7 +94,7 @@ pub fn flat_asked<'a>(text: &[u8], options: u32, room: Room<'a>) -> Result<Flat<
     make_flat(text, Places::new(places_of(options)), room)
 }
 
-/// The point of two numbers at the front of a text. `None` doesn't imply that none stands there.
+/// The point of two numbers at the front of a text. `None`: the caller falls back.
 #[inline(always)]
 pub fn make_point(places: u32, text: &[u8]) -> Option<FastPoint>
     ensures { IfSome result (λ p. IsFlatPoint places text.now p) }
@@ -109,7 +109,7 @@ pub fn make_point(places: u32, text: &[u8]) -> Option<FastPoint>
 }
 
 /// Puts the point at the front of a text there, with decimals of as many places as are asked for, and returns whether
-/// there is one. A point that is returned would come through memory that is cleared for each text.
+/// there is one. A point that is returned would need a result slot, zeroed for each text.
 #[inline(never)]
 pub(crate) fn find_point(text: &[u8], options: u32, point: &mut FastPoint) -> bool
     ensures { result ≡ true → IsFlatPoint (places_in options) text.now point.new }

@@ -13,7 +13,7 @@ use wkt_machine::pad;
 use wkt_num::Numbers;
 
 /// How many bytes a window has.
-const PEN_WINDOW: usize = 32;
+const WINDOW: usize = 32;
 
 /// From where on the shortest run stands that is the same number's: past a plus, unless nothing or another stands behind it.
 #[inline(always)]
@@ -57,7 +57,7 @@ impl<'a, N: Numbers> TextBuilder<'a, N> {
         }
     }
 
-    /// The number that stands there, in any form.
+    /// The number at `at`, in any form.
     #[inline(never)]
     fn other_number(self, text: &[u8], at: usize) -> (Self, Option<usize>)
         requires at { at ≤ length text.now }
@@ -101,7 +101,7 @@ impl<'a, N: Numbers> TextBuilder<'a, N> {
         }
     }
 
-    /// The number that stands there, as its text.
+    /// The number at `at`, as its text.
     #[inline(always)]
     pub(crate) fn put_number(self, text: &[u8], at: usize) -> (Self, Option<usize>)
         requires at { at ≤ length text.now }
@@ -115,7 +115,7 @@ impl<'a, N: Numbers> TextBuilder<'a, N> {
             return self.other_number(text, at);
         }
         let rest = &text[at..];
-        if rest.len() >= PEN_WINDOW {
+        if rest.len() >= WINDOW {
             if let Some((end, kept)) = self.numbers.canonical_prefix_simd(rest) {
                 return (self.put_front(rest, kept), Some(at + end));
             }
@@ -123,8 +123,7 @@ impl<'a, N: Numbers> TextBuilder<'a, N> {
         self.slow_number(text, at)
     }
 
-    /// What it returns comes through memory, whose place is cleared here, away from the way before it; but not where
-    /// the last polygon stands, which is as it was.
+    /// Outlined: only this path zeroes the result slot. `polygon` stays as it is, so it isn't passed.
     #[inline(always)]
     fn slow_number(self, text: &[u8], at: usize) -> (Self, Option<usize>)
         requires at { at ≤ length text.now }
@@ -166,8 +165,8 @@ impl<'a, N: Numbers> TextBuilder<'a, N> {
             return (self, None);
         }
         let rest = &text[at..];
-        if self.numbers.reads_texts() && rest.len() < PEN_WINDOW {
-            let mut window = [0; PEN_WINDOW];
+        if self.numbers.reads_texts() && rest.len() < WINDOW {
+            let mut window = [0; WINDOW];
             pad(&mut window, rest);
             if let Some((end, kept)) = self.numbers.canonical_prefix_simd(&window) {
                 return (self.put_front(&window, kept), Some(at + end));

@@ -33,7 +33,7 @@ pub fn room_for(n: usize) -> Option<usize>
 // So many bytes are cleared at once: the C library fills longer pieces by `rep`, an instruction a byte and no faster.
 const PIECE: usize = 2048;
 
-/// Makes a room that is at least so long: zeros come behind what stands there.
+/// Makes a room that is at least so long: zeros follow what it has.
 ///
 /// # Errors
 /// Out of memory.
@@ -79,7 +79,7 @@ pub fn make_room(room: &mut Vec<u8>, len: usize, n: usize) -> Result<(), AllocEr
     }
 }
 
-/// Makes twice the room, and keeps what stands there.
+/// Doubles the room, and keeps what it has.
 ///
 /// # Errors
 /// Out of memory.

@@ -62,7 +62,7 @@ impl Seen {
 }
 
 /// Writes which of the texts name the geometry of an earlier one. Their canonical texts have a line feed between them, the
-/// first stands there, and files have the names of these operands.
+/// first is there already, and files have the names of these operands.
 ///
 /// # Errors
 /// Standard output's error, or out of memory.

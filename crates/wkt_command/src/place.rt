@@ -52,7 +52,7 @@ const WIDTH: usize = 60;
 
 const BEFORE: usize = 30;
 
-/// The part of a line around a place, and below it a mark under what stands there.
+/// The part of a line around a place, and below it a mark under the place.
 #[derive(Clone, Copy)]
 pub struct Excerpt<'a> {
     before: &'a str,

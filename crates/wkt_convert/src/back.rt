@@ -141,7 +141,7 @@ pub(crate) fn geometry<T: WktNum>(alloc: Global, g: &Geometry<T>) -> Result<Wkt<
     }
 }
 
-/// A geometry that is no point. What it returns comes through memory, whose place is cleared here, away from the point's.
+/// A geometry that is no point. Outlined: only this path zeroes the result slot.
 #[inline(always)]
 fn other<T: WktNum>(alloc: Global, g: &Geometry<T>) -> Result<Wkt<T>, AllocError>
     ensures { IfOk result (λ w. trees.tree w ≡ back (flat_tree g.now)) }

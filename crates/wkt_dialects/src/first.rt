@@ -39,7 +39,7 @@ fn counts(dialects: Dialects, text: &[u8], found: Found) -> bool
     }
 }
 
-/// How many numbers stand there, one behind the other.
+/// How many numbers follow each other from there on.
 fn numbers_there(dialects: Dialects, text: &[u8], from: usize) -> usize
     requires { from ≤ length text.now }
     ensures { result ≡ numbers_there dialects (remaining_spanned false text.now from) }

@@ -60,7 +60,7 @@ fn nans_within(count: usize, text: &[u8], from: usize) -> Option<usize>
     }
 }
 
-/// Where the empty point ends that stands there, if one does.
+/// Where the empty point ends that begins there, if one does.
 #[inline(always)]
 pub(crate) fn nan_point(spot: Spot, text: &[u8], from: usize) -> Option<usize>
     requires { from ≤ length text.now }

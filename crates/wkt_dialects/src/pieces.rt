@@ -73,7 +73,7 @@ fn behind(spot: Spot, text: &[u8], found: Found) -> Spot
     }
 }
 
-/// Where the empty point ends that stands there, if one does.
+/// Where the empty point ends that begins there, if one does.
 fn empty_point(dialects: Dialects, spot: Spot, text: &[u8], from: usize) -> Option<usize>
     requires { from ≤ length text.now }
     ensures { MatchOption result (empty_there dialects spot (remaining_spanned false text.now from) ≡ 0) (λ end. (1 < empty_there dialects spot (remaining_spanned false text.now from)) × IsPastSome text.now from (empty_there dialects spot (remaining_spanned false text.now from)) end) }

@@ -45,7 +45,7 @@ fn number_in(bytes: &[u8]) -> (u32, usize)
     (number, count)
 }
 
-/// The SRID that stands in front of a text, and where the text behind it begins.
+/// The SRID in front of a text, and where the text behind it begins.
 pub fn split_srid(text: &[u8]) -> Option<(u32, usize)>
     ensures { MatchOption result ((srid : ℕ) (rest : List ℕ) → HasSrid text.now srid rest → ⊥) (λ r. (r.1 ≤ length text.now) × HasSrid text.now r.0 (drop r.1 text.now)) }
 {

@@ -6,7 +6,7 @@ ghost use Rattle.wkt_events.specs.Remaining.{IsNumberAt, NoNumber, plus_len};
 use crate::bytes::{is_ascii_fast, run_end};
 use wkt_num::Numbers;
 
-/// The number that stands there, in any form, and its end.
+/// The number at `at`, in any form, and its end.
 #[inline(always)]
 pub fn number_there<N: Numbers>(numbers: N, text: &[u8], at: usize) -> Option<(N::Number, usize)>
     requires { at ≤ length text.now }

@@ -33,7 +33,7 @@ pub(crate) fn past_white(text: &[u8], from: usize) -> usize
     at
 }
 
-/// Where the lexeme ends that stands there; where none does, that place.
+/// Where the lexeme ends that begins there; where none does, that place.
 fn lexeme_end(text: &[u8], start: usize) -> usize
     requires inside { start ≤ length text.now }
     requires dark { IsDark false text.now start }

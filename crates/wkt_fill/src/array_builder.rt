@@ -247,8 +247,8 @@ impl<'a> ArrayBuilder<'a> {
         }
     }
 
-    /// The slow path: the number that stands there, in any form. What it returns comes through memory, whose place is
-    /// cleared here, away from the fast path, which returns in registers.
+    /// The slow path: the number at `at`, in any form. Outlined: only this path zeroes the result slot, and the fast one
+    /// returns in registers.
     #[inline(always)]
     fn slow_number(self, text: &[u8], at: usize, axis: Axis) -> (Self, Option<usize>)
         requires { at ≤ length text.now }

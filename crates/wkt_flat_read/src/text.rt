@@ -19,7 +19,7 @@ use wkt_sources::{ByteCursor, message_at};
 
 /// What has grown.
 ///
-/// It comes through memory, whose place is cleared here, away from the ways that don't need it.
+/// Outlined: only this path zeroes the result slot.
 #[inline(always)]
 fn answer<T: WktNum>(grown: &mut FlatTree<T>) -> Result<Flattened<T>, ReadError>
     ensures { AnswersFlat (coord_eq T.eq) grown.old result }

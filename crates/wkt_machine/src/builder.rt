@@ -47,7 +47,7 @@ pub trait Builder<T: WktNum>: Sized + Drop {
         ensures makes { maker.makes self (Event.Number axis number ∷ []) result }
         ensures leaves { Leaves maker self (maker.takes self number) result };
 
-    /// The number of a coordinate that stands there in the bytes, and where its run ends; `None` where none is read.
+    /// The number of a coordinate at a place of the bytes, and where its run ends; `None` where none is read.
     ///
     /// [`read_at`](crate::read_at) reads it. What keeps the number's text, or nothing, need not read it.
     fn number_in(self, text: &[u8], at: usize, axis: Axis) -> (Self, Option<usize>)

@@ -8,7 +8,7 @@ use wkt_num::{Numbers, OfType, WktNum};
 /// How many bytes a window has.
 const NUMBER_WINDOW: usize = 32;
 
-/// The number that stands there, and where it ends.
+/// The number at `at`, and where it ends.
 #[inline(always)]
 pub fn read_at<T: WktNum>(text: &[u8], at: usize) -> Option<(T, usize)>
     requires { at ≤ length text.now }
@@ -34,8 +34,7 @@ pub fn read_by<N: Numbers>(numbers: N, text: &[u8], at: usize) -> Option<(N::Num
     slow_read(numbers, text, at)
 }
 
-/// The slow path, for a number that no window shows whole. What it returns comes through memory, whose place is cleared
-/// here.
+/// The slow path, for a number that no window shows whole. Outlined: only this path zeroes the result slot.
 #[inline(always)]
 fn slow_read<N: Numbers>(numbers: N, text: &[u8], at: usize) -> Option<(N::Number, usize)>
     requires { at ≤ length text.now }
@@ -66,7 +65,7 @@ fn slow_read_outlined<N: Numbers>(numbers: N, text: &[u8], at: usize) -> Option<
     number_there(numbers, text, at)
 }
 
-/// Where the number ends that stands there, whose value isn't asked for.
+/// Where the number at `at` ends. Its value isn't asked for.
 #[inline(always)]
 pub(crate) fn end_at<N: Numbers>(numbers: N, text: &[u8], at: usize) -> Option<usize>
     requires { at ≤ length text.now }

@@ -17,7 +17,7 @@ use wkt_num::WktNum;
 impl Machine {
     /// After one lexeme.
     ///
-    /// What it returns comes through memory, whose place is cleared here, away from the ways beside it.
+    /// Outlined: only this path zeroes the result slot.
     #[inline(always)]
     pub fn step<T: WktNum, S: Source<T>, B: Builder<T>>(
         self,

@@ -27,7 +27,7 @@ pub enum InferError {
     Memory(AllocError),
 }
 
-/// Why the header of a text names no kind, with what the text begins with as it stands there.
+/// Why the header of a text names no kind, with what the text begins with, in its own case.
 #[derive(Clone, Copy, PartialEq, Eq, Debug)]
 pub enum HeaderError<'a> {
     /// The text begins with none of the kind words. This is what it has before its first `(` or
@@ -160,8 +160,7 @@ pub fn infer_type(alloc: Global, text: &str) -> Result<(GeometryType, Dimension)
     }
 }
 
-/// What [`infer_type`] returns, in no memory: the prefix that it refuses is lent from the text, in the case in which it
-/// stands there.
+/// What [`infer_type`] returns, in no memory: the prefix that it refuses is lent from the text, in its own case.
 ///
 /// # Errors
 /// As of `infer_type`, but for `Memory`.

@@ -1,4 +1,4 @@
-//! The message of a place, by what is expected there and what stands there: a row of the table of `docs/GRAMMAR.md`.
+//! The message of a place, by what is expected there and what was found: a row of the table of `docs/GRAMMAR.md`.
 ghost use Rattle.std.specs.Prelude.{◌≡◌};
 ghost use Rattle.wkt_read.specs.Table.{at_end, at_other, at_word, at_bad};
 

@@ -31,7 +31,7 @@ impl<'a, const LF_ENDS: bool> ByteCursor<'a, LF_ENDS> {
     }
 }
 
-/// The lexeme that stands there, and where it ends, unless it is a number.
+/// The lexeme at `at`, and where it ends, unless it is a number.
 #[inline(always)]
 fn lexeme_at<const LF_ENDS: bool>(text: &[u8], at: usize) -> (LexemeKind, usize)
     requires inside { at ≤ length text.now }
@@ -51,7 +51,7 @@ fn lexeme_at<const LF_ENDS: bool>(text: &[u8], at: usize) -> (LexemeKind, usize)
     run_at::<LF_ENDS>(text, at)
 }
 
-/// The lexeme that stands there where no mark does, and where it ends, unless it is a number.
+/// The lexeme at `at`, where no mark is, and where it ends, unless it is a number.
 #[inline(always)]
 fn run_at<const LF_ENDS: bool>(text: &[u8], at: usize) -> (LexemeKind, usize)
     requires inside { at ≤ length text.now }

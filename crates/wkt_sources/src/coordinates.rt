@@ -104,7 +104,7 @@ fn is_next_member(part: Part, text: &[u8], at: usize) -> bool
 
 /// The same of more numbers each. They stand apart, since few texts have them.
 ///
-/// What is answered comes through memory, whose place is cleared here, away from the ways beside it.
+/// Outlined: only this path zeroes the result slot.
 #[inline(always)]
 fn deep_coordinates<'a, T: WktNum, B: Builder<T>, const LF_ENDS: bool>(
     machine: Machine,

@@ -50,7 +50,7 @@ pub(crate) enum AfterHeader {
     Outside,
 }
 
-/// A header that stands in a text: its part and dimension, what stands behind its words, and where that ends.
+/// A header in a text: its part and dimension, what stands behind its words, and where that ends.
 #[derive(Clone, Copy)]
 pub(crate) struct Header {
     part: Part,
@@ -119,8 +119,8 @@ pub(crate) fn take_header<'a, T: WktNum, B: Builder<T>, const LF_ENDS: bool, con
     }
 }
 
-/// The word of a kind, if it stands there, and its parenthesis or EMPTY, with a space between them at most. `None` doesn't
-/// imply that none stands there.
+/// The word of a kind at `at`, and its parenthesis or EMPTY, with a space between them at most. `None`: the caller falls
+/// back.
 #[inline(always)]
 pub(crate) fn plain<const N: usize, const LF_ENDS: bool>(
     part: Part,
@@ -274,7 +274,7 @@ fn eight_bytes(bytes: &[u8]) -> u64
     ])
 }
 
-/// Behind a header that stands there.
+/// Behind that header.
 #[inline(always)]
 pub(crate) fn enter<'a, T: WktNum, B: Builder<T>, const LF_ENDS: bool>(
     head: Header,
@@ -326,7 +326,7 @@ pub(crate) fn enter<'a, T: WktNum, B: Builder<T>, const LF_ENDS: bool>(
     }
 }
 
-/// The header that stands there, in any form. `None` doesn't imply that none does.
+/// The header at `at`, in any form. `None`: the caller falls back.
 #[inline(always)]
 fn any_form<const LF_ENDS: bool>(text: &[u8], at: usize) -> Option<Header>
     requires { at ≤ length text.now }
@@ -399,7 +399,7 @@ fn behind_dimension<const LF_ENDS: bool>(text: &[u8], from: usize) -> (AfterHead
     }
 }
 
-/// The dimension that stands there, and where it ends.
+/// The dimension at `at`, and where it ends.
 #[inline(always)]
 fn dimension_at<const LF_ENDS: bool>(text: &[u8], at: usize) -> Option<(Dimension, usize)>
     requires { at ≤ length text.now }
@@ -413,7 +413,7 @@ fn dimension_at<const LF_ENDS: bool>(text: &[u8], at: usize) -> Option<(Dimensio
     Some((dim, at + n))
 }
 
-/// Where EMPTY ends that stands there. `None` doesn't imply that it doesn't.
+/// Where EMPTY at `at` ends. `None`: the caller falls back.
 #[inline(always)]
 fn empty_at<const LF_ENDS: bool>(text: &[u8], at: usize) -> Option<usize>
     requires { at ≤ length text.now }

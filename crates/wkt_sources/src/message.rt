@@ -39,7 +39,7 @@ fn between<'a>(text: &'a [u8], from: usize, to: usize) -> &'a [u8]
     &text[from..to]
 }
 
-/// The lexeme that stands there, and where it ends, if it is no mark.
+/// The lexeme at that place, and where it ends, if it is no mark.
 #[inline(always)]
 fn run_given<'a, N: Numbers>(
     numbers: N,

@@ -21,7 +21,7 @@ pub struct FastPoint {
 
 /// The point that the bytes begin with, if their first are `POINT(` or `POINT (`, and `fast_units` reads its two
 /// numbers.
-/// `None` doesn't imply that they begin with no geometry.
+/// `None`: the caller falls back.
 #[inline(always)]
 pub fn fast_point(places: u32, text: &[u8]) -> Option<FastPoint>
     ensures { IfSome result (λ p. IsPointFront places text.now p.x p.y p.end) }
@@ -46,7 +46,7 @@ pub fn fast_point(places: u32, text: &[u8]) -> Option<FastPoint>
     })
 }
 
-/// The number that comes next, and where it ends. `None` doesn't imply that none comes.
+/// The number that comes next, and where it ends. `None`: the caller falls back.
 #[inline(always)]
 #[tactic(auto, using(crate::proofs::ByteSteps::number_fast))]
 fn fast_number(places: u32, text: &[u8], at: usize) -> Option<(i64, usize)>

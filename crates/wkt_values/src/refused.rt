@@ -26,7 +26,7 @@ fn at_number<T: WktNum>(expected: Expected, digits: &str) -> Message
     }
 }
 
-/// The message of the place alone, by the token that stands there.
+/// The message of the place alone, by its token.
 fn at_place<T: WktNum>(expected: Expected, lexeme: Lexeme<'_>) -> Message
     ensures { (ls : List lex.Lexeme) → IsFirst (found lexeme.entry) ls → result ≡ at_place T.read expected ls }
 {
@@ -84,7 +84,7 @@ fn closing<T: WktNum>(message: Message, lexeme: Lexeme<'_>) -> Message
     }
 }
 
-/// Whether a number stands there.
+/// Whether a number is next.
 #[inline(always)]
 fn is_number(lexeme: Lexeme<'_>) -> bool
     ensures { result ≡ is_number (found lexeme.entry) }

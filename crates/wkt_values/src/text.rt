@@ -87,7 +87,7 @@ fn front_of<T: WktNum>(alloc: Global, text: &str) -> Result<(Wkt<T>, usize), Rea
 
 /// What has grown.
 ///
-/// It comes through memory, whose place is cleared here, away from the ways that don't need it.
+/// Outlined: only this path zeroes the result slot.
 #[inline(always)]
 fn answer<T: WktNum>(grown: &mut Tree<T>) -> Result<Wkt<T>, ReadError>
     ensures { AnswersReader grown.old result }

@@ -18,6 +18,6 @@ returns-in-Some-clause-some g c =
     let num = g.N.Numbers.num c.args.self.numbers in
     let law : ReadsTexts read = search rules in
     let rest = take (length c.args.text.now - c.args.at) (drop c.args.at c.args.text.now) in
-    let (keeps, same) = padded-keeps read num rest c.pad.new.window c.in-Some.end c.in-Some.kept (omega (arith, c.if-rest-lt-PEN_WINDOW.true)) c.pad.ensures.front c.pad.ensures.nul c.in-Some.ensures.keeps in
+    let (keeps, same) = padded-keeps read num rest c.pad.new.window c.in-Some.end c.in-Some.kept (omega (arith, c.if-rest-lt-WINDOW.true)) c.pad.ensures.front c.pad.ensures.nul c.in-Some.ensures.keeps in
     kept-numbered read num (num_utf8 read num (g.N.Numbers.is_value c.args.self.numbers) (g.met.N.Numbers.reads_values c.args.self.numbers) (g.met.N.Numbers.reads_back c.args.self.numbers) law) c.args.text.now c.args.at c.in-Some.end c.in-Some.kept c.args.self c.put_front.result c.requires.at keeps
     (subst (λ l. Extends c.args.self l c.put_front.result) same c.put_front.ensures)

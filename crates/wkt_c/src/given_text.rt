@@ -83,7 +83,7 @@ fn is_enough(room: usize, given: Given<'_>, places: u32) -> bool
 }
 
 /// A text builder that has written the text of the geometry of those arrays, if the room is large enough.
-pub(crate) fn told<'a>(
+pub(crate) fn text_of<'a>(
     given: GivenArrays<'_>,
     places: Places,
     room: &'a mut [u8],
@@ -125,7 +125,7 @@ fn copy_out_text(
     ensures { CopiesOutText places given.entry.kind given.entry.dimension given.entry.numbers.now given.entry.rings.now given.entry.polygons.now
         (length room.old) out.old out.new needed.old needed.new result }
 {
-    match told(given, places, room) {
+    match text_of(given, places, room) {
         Ok(builder) => copy_out(builder.written(), out, needed),
         Err(status) => status,
     }

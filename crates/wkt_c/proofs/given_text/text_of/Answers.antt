@@ -1,4 +1,4 @@
--- Arrays that are those of a geometry are told to a text builder that has room for them.
+-- Arrays that are those of a geometry are sent to a text builder that has room for them.
 use Rattle.std.proofs.Common.{ℕ, ◌≤◌, length, inr, refl, subst, arith}
 use Rattle.wkt_num.specs.Decimal.{IsUnits, read_decimal, decimal_text}
 use Rattle.wkt_machine.specs.Events.{events}
@@ -8,7 +8,7 @@ use Rattle.wkt_canonical.proofs.Texts.{events_write}
 use Rattle.wkt_fill.specs.declared.given.Given.{Given}
 use Rattle.wkt_c.specs.Rooms.{text_room}
 use Rattle.wkt_c.proofs.Telling.{of-none, text-of, has-room, is-within}
-use Rattle.wkt_c.proofs.told.told.Goals as goal
+use Rattle.wkt_c.proofs.given_text.text_of.Goals as goal
 
 pub returns-then-not-are_arrays-clause-err : goal.returns-then-not-are_arrays-clause-err
 returns-then-not-are_arrays-clause-err c =

@@ -1,6 +1,6 @@
 -- The text is handed out, if there is room for it.
 use Rattle.wkt_c.proofs.Telling.{handed}
-use Rattle.wkt_c.proofs.told.copy_out_text.Goals as goal
+use Rattle.wkt_c.proofs.given_text.copy_out_text.Goals as goal
 
 pub returns-in-Ok : goal.returns-in-Ok
 returns-in-Ok c =
