@@ -110,7 +110,7 @@ each wkt_command "$dir/lines" 1 2 1 check --max 0
 each wkt_command "$dir/dialects" 1 2 1 canon --dialect ewkt,exponents,nan --refused refused
 each wkt_command /dev/null 0 2 1 same 'LINESTRING(1 2,3 4)' 'linestring ( 1.0 2, 3 +4)'
 each_test wkt
-each_test wkt_values value_tests::
+each_test wkt_read_tests values::
 each_test wkt_examples rows::
 
 # nested N: a point in so many collections

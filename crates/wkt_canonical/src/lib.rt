@@ -18,6 +18,3 @@ pub use room::{
     SPARE, has_room, lengthen, make_room, room_for, widen, write_growing, write_growing_by,
 };
 pub use text_builder::TextBuilder;
-
-#[cfg(test)]
-mod tests;

@@ -25,6 +25,3 @@ pub use places::place_in;
 pub use put::{Front, NoRoom, Put};
 pub use reading::write_as_read;
 pub use srid::{rest_of, split_srid};
-
-#[cfg(test)]
-mod tests;

@@ -19,8 +19,3 @@ pub use front_events::{EventCounts, write_events};
 pub use given::{Given, are_arrays};
 pub use telling::tell;
 pub use units::WktUnits;
-
-#[cfg(test)]
-mod event_tests;
-#[cfg(test)]
-mod tests;

@@ -8,6 +8,3 @@ mod text;
 mod tree;
 
 pub use text::read_text;
-
-#[cfg(test)]
-mod tests;

@@ -38,6 +38,3 @@ pub use reading::Lines;
 pub use reply::{Canonical, Reply, write_replies};
 pub use streaming::{stream, stream_over, stream_with};
 pub use whole::{WholeLines, write_whole_lines};
-
-#[cfg(test)]
-mod tests;

@@ -14,12 +14,3 @@ pub mod value;
 pub use from_str::FromWktStr;
 pub use text::read_text;
 pub use value::{Unread, read};
-
-#[cfg(test)]
-mod from_str_tests;
-#[cfg(test)]
-mod made_by_hand;
-#[cfg(test)]
-mod tests;
-#[cfg(test)]
-mod value_tests;

@@ -1,5 +1,5 @@
 //! Where the geometries at the front of texts end, counted by hand.
-use crate::read_text;
+use wkt_values::read_text;
 use std::process::Abort;
 use wkt_num::Decimal;
 use wkt_sources::{front_end, front_end_by_tokens};

@@ -1,6 +1,6 @@
 //! The events of texts of each kind.
 
-use crate::{EventRoom, WktUnits, write_events};
+use wkt_fill::{EventRoom, WktUnits, write_events};
 use std::process::Abort;
 use wkt_num::Places;
 

@@ -1,5 +1,5 @@
 //! Canonical texts, written by hand.
-use crate::{TextWritten, canonical_into};
+use wkt_canonical::{TextWritten, canonical_into};
 use wkt_num::Decimal;
 
 // What each text is written as; nothing where no beginning of it is a geometry.

@@ -1,6 +1,6 @@
 //! Text to arrays, and arrays to the events that fill them again.
 
-use crate::{ArrayBuilder, Given, Room, are_arrays, fill_arrays, tell};
+use wkt_fill::{ArrayBuilder, Given, Room, are_arrays, fill_arrays, tell};
 use std::process::Abort;
 use wkt_num::Places;
 use wkt_types::{Dimension, GeometryType};

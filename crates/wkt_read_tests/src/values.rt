@@ -1,7 +1,7 @@
 //! Values that are read, beside the same made by hand.
 use crate::made_by_hand::{coord, line};
-use crate::text::read_text;
-use crate::value::{Unread, read};
+use wkt_values::text::read_text;
+use wkt_values::{Unread, read};
 use std::alloc::{AllocError, Global};
 use std::process::Abort;
 use wkt_read::{PeekableTokens, ReadError, Tokens};

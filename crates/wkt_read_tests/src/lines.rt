@@ -1,5 +1,5 @@
 //! Lines answered in a room, by hand.
-use crate::{answer_line, write_whole_lines};
+use wkt_lines::{answer_line, write_whole_lines};
 use std::process::Abort;
 use wkt_num::{Decimal, OfType};
 

@@ -1,5 +1,5 @@
 //! Values that `from_str` reads, beside the same made by hand.
-use crate::from_str::FromWktStr;
+use wkt_values::FromWktStr;
 use crate::made_by_hand::{coord, line};
 use std::alloc::{AllocError, Global};
 use std::process::Abort;

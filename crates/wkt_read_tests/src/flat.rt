@@ -1,5 +1,5 @@
 //! Flat values that are read from a text, beside those that a `Wkt` of it is converted to.
-use crate::text::read_text;
+use wkt_flat_read::read_text;
 use std::alloc::{AllocError, Global};
 use std::process::Abort;
 use wkt_convert::FromAny;
