@@ -145,6 +145,7 @@ export class Blocks {
   #wkt;
   #reading;
   #tally;
+  #words = new Int32Array(WORDS * 4096); // what `lines` finds, from one call to the next
 
   constructor(wkt, { reading, seeds }) {
     this.#wkt = wkt;
@@ -203,11 +204,12 @@ export class Blocks {
 
   /** Lines, the last of which may end without a line feed. What is saved of them is `kept`, where that isn't `answers`. */
   lines(bytes, ask) {
-    if (bytes.length > LONG && lineEnd(bytes, 0) >= bytes.length - 1) return this.one(bytes.subarray(0, lineEnd(bytes, 0)), ask);
+    const first = bytes.length > LONG ? lineEnd(bytes, 0) : 0;
+    if (first > 0 && first >= bytes.length - 1) return this.one(bytes.subarray(0, first), ask);
     const answers = this.#answers(bytes);
     const refusals = new Refusals(this.#wkt, this.#reading, ask);
     const tally = this.#tally;
-    let words = new Int32Array(WORDS * 4096);
+    let words = this.#words;
     let n = 0, lines = 0, blank = 0, done = 0, from = 0;
     const kept = [];
     for (let at = 0; at < answers.length;) {
@@ -220,7 +222,7 @@ export class Blocks {
       let end;
       if (accepted && whole) {
         end = tally.add(answers, at);
-        if (n === words.length) words = grown(words);
+        if (n === words.length) words = this.#words = grown(words);
         words[n] = tally.low;
         words[n + 1] = tally.high;
         words[n + 2] = at;

@@ -15,7 +15,7 @@ import { repeatsInWords, say, speak } from './verdict.js';
 /** So much of a file is looked at to see whether it is one geometry, and so much to see whether its lines are long. */
 const FRONT = 64 << 10, LONG = 1 << 20;
 /** For each part of a file of that size there is one worker more, up to so many. */
-const PER_WORKER = 16 << 20, MOST_WORKERS = 4;
+const PER_WORKER = 32 << 20, MOST_WORKERS = 4;
 /** A worker that was asked to stop, and hasn't in so many milliseconds, is ended. */
 const PATIENCE = 2000;
 

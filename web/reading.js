@@ -13,6 +13,8 @@ const PIECE = 4 << 20;
 const LONGEST = 256 << 20;
 /** The longest file that is turned: it stands in memory as a whole. */
 const TURNED = 128 << 20;
+/** So much of a long line is read for the engine to make faster code. It halves what the answer to 50 MB takes. */
+const WARM = 1 << 20;
 /** How much canonical text is kept to be saved, and how much of it in memory. */
 const KEPT = 2 ** 30, IN_MEMORY = 2 ** 28;
 const FEED = 10;
@@ -129,6 +131,8 @@ export class Reading {
       ends = to > 0;
       parts.push(ends ? part.subarray(0, to) : part);
       this.#read += parts.at(-1).length;
+      // Engines put faster code in place between calls alone, and one call answers a long line. So its front is read before.
+      if (!ends && parts.length === 1) this.#wkt.reads(part.subarray(0, WARM), this.#asked.reading);
       if (this.#read - begin > LONGEST + PIECE) throw new Unreadable(`A line behind line ${this.#count.lines} is longer than ${LONGEST >> 20} MB. The command wkt reads it.`);
       this.#tell(false);
     }

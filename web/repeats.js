@@ -27,9 +27,9 @@ export class Repeats {
   #lineAt;
   // Of each line that may be a repeat, or be repeated: its block, where its words are there, and 1 and the number of the
   // earlier one, or 0.
-  #block = [];
-  #at = [];
-  #earlier = new Int32Array(0);
+  #block;
+  #at;
+  #earlier;
   #table = new Int32Array(1); // by their hashes, 1 and their numbers
   #doubts = [];
   #doubted = 0; // how many bytes of text they have, about
@@ -88,15 +88,18 @@ export class Repeats {
         met[at] |= bit;
       }
     }
+    const [blocks, ats] = [new Int32Array(this.entered), new Int32Array(this.entered)];
+    let n = 0;
     this.#blocks.forEach(({ words }, block) => {
       for (let i = 0; i < words.length; i += WORDS) {
         const high = words[i + HIGH];
         if ((again[(high >>> 5) & fewer] & (1 << high)) === 0) continue;
-        this.#block.push(block);
-        this.#at.push(i);
+        blocks[n] = block;
+        ats[n++] = i;
       }
     });
-    return this.#at.length;
+    [this.#block, this.#at] = [blocks.subarray(0, n), ats.subarray(0, n)];
+    return n;
   }
 
   #word(i, word) {

@@ -9,16 +9,17 @@ from selenium.webdriver.common.by import By
 from selenium.webdriver.support.ui import Select
 
 
-# Makes doubles of the lines of a text, whose middle comes so many times, and remembers the lines.
+# Makes doubles of the lines of a text, and remembers them. Its middle comes so many times, each with its number for #.
 PLAIN = """
 const seen = new Set();
 const [begin, middle, times, end] = window.text;
-for (const line of (begin + middle.repeat(times) + end).split('\\n')) {
+const all = Array.from({ length: times }, (_, k) => middle.replaceAll('#', k)).join('');
+for (const line of (begin + all + end).split('\\n')) {
   if (line.match(/[-0-9.]+/g)?.map(Number).length) seen.add(line);
 }
 return seen.size;
 """
-# How many times the processor time of that a file may take, also on a busy machine. It was 0.7 to 1.9 times.
+# How many times the processor time of that a file of 8 MB may take, also on a busy machine. It was 0.4 to 2.2 times.
 PLAINS = 4
 
 
@@ -161,7 +162,7 @@ class Files(Page):
     def test_large_file(self):
         """The page stays free while a large file is read, and takes little more than a script that makes doubles."""
         place = random.Random(1)
-        pairs = [f"{place.gauss(0, 40):.6f} {place.gauss(0, 20):.6f}" for _ in range(30000)]
+        pairs = [f"{place.gauss(0, 40):.6f} {place.gauss(0, 20):.6f}#" for _ in range(30000)]
         for what, begin, middle, end in (
             ("lines", "", "".join(f"POINT ({it})\n" for it in pairs), ""),
             ("one line", "LINESTRING (", "".join(f"{it}," for it in pairs), "0 0)\n"),
@@ -174,7 +175,7 @@ class Files(Page):
         path = os.path.join(self.folder.name, "large.wkt")
         begin, middle, times, end = made
         with open(path, "w", encoding="utf-8") as file:
-            file.write(begin + middle * times + end)
+            file.write(begin + "".join(middle.replace("#", str(k)) for k in range(times)) + end)
         begun, busy, process = time.time(), self.main_thread(), self.metric("ProcessTime")
         self.drop(path)
         self.wait(lambda: "ccepted" in self.said("say"), 120 + 10 * self.size)
