@@ -28,6 +28,8 @@ static const struct {
     {"POINT(nan nan)", WKT_EWKT | WKT_EXPONENTS, "", 7, 99},
     {"POINT(nan nan nan)", WKT_NAN | WKT_UNTAGGED, "POINT Z EMPTY", WKT_OK, 18},
     {"POINT(1 2)", ALL, "POINT(1 2)", WKT_OK, 10},
+    {"POINT Z(1 2 3)", ALL, "POINT Z(1 2 3)", WKT_OK, 14},
+    {"POINT(1 2 3 4 5)", ALL, "", 7, 99},
     {"POINT(1 2 3)\xff", WKT_UNTAGGED, "", WKT_NOT_UTF8, 99},
     {"POINT(1 2)", 8192, "", WKT_NO_PLACES, 99},
     {"POINT(1 2)", ALL | 37, "", WKT_NO_PLACES, 99},
@@ -48,6 +50,10 @@ static void canonical(void) {
             CHECK(wkt_canonical(BYTES(text), places, out, 3, &needed, &end_at) == WKT_TOO_SMALL && untouched() &&
                   needed == strlen(texts[i].canonical) && end_at == texts[i].end);
     }
+    /* A text may end at a 0 byte: of a whole one, nothing may follow it. */
+    CHECK(wkt_canonical((const uint8_t *)"POINT(1 2 3)", 13, WKT_WHOLE | WKT_UNTAGGED | 18, out, ROOM, &needed,
+                        &end_at) == WKT_NOT_WHOLE &&
+          end_at == 12);
 }
 
 static void places(void) {
@@ -90,9 +96,16 @@ static void others(void) {
     const char *text = "SRID=1;LINESTRING(1 2 3,4e1 5 6) ";
     CHECK(wkt_arrays(BYTES(text), ALL | WKT_WHOLE, &sizes, numbers, 6, rings, 2, polygons, 2) == WKT_OK);
     CHECK(sizes.kind == 1 && sizes.dimension == WKT_XYZ && sizes.end == 32 && numbers[3] == 40 && numbers[5] == 6);
+    CHECK(sizes.numbers == 6 && rings[0] == 0 && rings[1] == 2 && polygons[0] == 0 && polygons[1] == 1);
     CHECK(wkt_same_ends(BYTES("SRID=1;POINT(1 2 3) "), BYTES("POINT Z(1e0 2 0.3e1)"), ALL, &same, &end_at,
                         &other_end) == WKT_OK &&
           same == 1 && end_at == 19 && other_end == 20);
+    CHECK(wkt_same_ends(BYTES("SRID=1;POINT(1 2 3) "), BYTES("POINT(1 2)"), ALL, &same, &end_at, &other_end) ==
+              WKT_OK &&
+          same == 0 && end_at == 19 && other_end == 10);
+    CHECK(wkt_same_ends(BYTES("SRID=1;POINT(1 2 3) "), BYTES("POINT(1 2 3)x"), ALL | WKT_WHOLE, &same, &end_at,
+                        &other_end) == WKT_NOT_WHOLE &&
+          same == 0 && end_at == 19 && other_end == 12);
     CHECK(wkt_same(BYTES("SRID=1;POINT(1 2)"), BYTES("SRID=2;POINT(1 2)"), ALL, &same) == WKT_OK && same == 1);
     CHECK(wkt_same(BYTES("SRID=1;POINT(1 2)"), BYTES("POINT(1"), ALL, &same) == 7);
     CHECK(wkt_srid(BYTES("SRID=4326;POINT(1 2)"), &srid, &end_at) == WKT_OK && srid == 4326 && end_at == 10);

@@ -23,5 +23,3 @@ mod joined;
 mod lines;
 mod list;
 mod sizes;
-#[cfg(test)]
-mod tests;
