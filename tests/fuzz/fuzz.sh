@@ -21,7 +21,7 @@ build() {
     git clone -q "$root" "$WORK/wkt"
     mkdir -p "$WORK/wkt/crates/wkt_fuzz/src"
     cp "$here/program.txt" "$WORK/wkt/crates/wkt_fuzz/src/main.rt"
-    echo 'wkt_fuzz: wkt wkt_bytes wkt_lines wkt_calls wkt_c wkt_type_tests serde_json' >> "$WORK/wkt/crates.txt"
+    echo 'wkt_fuzz: wkt wkt_bytes wkt_lines wkt_calls wkt_c wkt_test_support serde_json' >> "$WORK/wkt/crates.txt"
     # There the functions for C are called like any other.
     sed -i 's/^wkt_c staticlib:/wkt_c:/' "$WORK/wkt/crates.txt"
     sed -i -E 's/^mod (exports[a-z_]*|sizes);/pub mod \1;/' "$WORK/wkt/crates/wkt_c/src/lib.rt"

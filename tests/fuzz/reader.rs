@@ -8,7 +8,7 @@ pub const DIMENSIONS: [&str; 4] = ["", "Z", "M", "ZM"];
 /// The messages of a coordinate's places, by its dimension.
 const AXES: [&[usize]; 4] = [&[8, 9], &[8, 9, 10], &[8, 9, 11], &[8, 9, 10, 11]];
 
-/// The text of the one number of `Long` (crates/wkt_type_tests).
+/// The text of the one number of `Long` (crates/wkt_test_support).
 const LONG: &str = ".llllllllllllllllllll";
 
 /// A number type: what it reads is kept as the text that it prints.

@@ -1,7 +1,7 @@
 //! Text to arrays, and arrays to the events that fill them again.
 
-use wkt_fill::{ArrayBuilder, Given, Room, are_arrays, fill_arrays, tell};
 use std::process::Abort;
+use wkt_fill::{ArrayBuilder, Given, Room, are_arrays, fill_arrays, tell};
 use wkt_num::Places;
 use wkt_types::{Dimension, GeometryType};
 

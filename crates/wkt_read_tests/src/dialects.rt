@@ -1,8 +1,8 @@
 //! Texts in dialects. What PostGIS 3.3 and GEOS 3.11 read is in the comment where it is something else; the values were
 //! written down by hand, by the definition; a polygon whose first ring is EMPTY has no rings.
-use wkt_dialects::{Dialects, Front, NoRoom, Put, place_in, rest_of, split_srid, write_as_read};
 use std::alloc::Global;
 use std::process::Abort;
+use wkt_dialects::{Dialects, Front, NoRoom, Put, place_in, rest_of, split_srid, write_as_read};
 use wkt_num::Decimal;
 use wkt_values::read_text;
 

@@ -1,7 +1,7 @@
 //! The events of texts of each kind.
 
-use wkt_fill::{EventRoom, WktUnits, write_events};
 use std::process::Abort;
+use wkt_fill::{EventRoom, WktUnits, write_events};
 use wkt_num::Places;
 
 const BEGIN: usize = 1 << 63;

@@ -1,5 +1,4 @@
 //! Flat values that are read from a text, beside those that a `Wkt` of it is converted to.
-use wkt_flat_read::read_text;
 use std::alloc::{AllocError, Global};
 use std::process::Abort;
 use wkt_convert::FromAny;
@@ -7,6 +6,7 @@ use wkt_flat::{
     Geometry, GeometryCollection, Line, LineString, MultiLineString, MultiPoint, MultiPolygon,
     Point, Polygon, Rect, Triangle,
 };
+use wkt_flat_read::read_text;
 use wkt_read::ReadError;
 use wkt_types::{ConvertError, Wkt};
 use wkt_values::FromWktStr;

@@ -1,5 +1,4 @@
 //! Values that `from_str` reads, beside the same made by hand.
-use wkt_values::FromWktStr;
 use crate::made_by_hand::{coord, line};
 use std::alloc::{AllocError, Global};
 use std::process::Abort;
@@ -7,6 +6,7 @@ use wkt_read::ReadError;
 use wkt_types::{
     Coord, Dimension, GeometryCollection, LineString, MultiPoint, Point, Polygon, Wkt,
 };
+use wkt_values::FromWktStr;
 
 fn point(coord: Option<Coord<i32>>, dim: Dimension) -> Wkt<i32> {
     Wkt::from(Point::new(coord, dim))

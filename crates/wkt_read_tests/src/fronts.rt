@@ -1,8 +1,8 @@
 //! Where the geometries at the front of texts end, counted by hand.
-use wkt_values::read_text;
 use std::process::Abort;
 use wkt_num::Decimal;
 use wkt_sources::{front_end, front_end_by_tokens};
+use wkt_values::read_text;
 
 // What each text is; nothing where no beginning of it is a geometry.
 const FRONTS: [(&str, Option<usize>); 69] = [

@@ -1,6 +1,6 @@
 //! Lines answered in a room, by hand.
-use wkt_lines::{answer_line, write_whole_lines};
 use std::process::Abort;
+use wkt_lines::{answer_line, write_whole_lines};
 use wkt_num::{Decimal, OfType};
 
 // What lines are answered with: a canonical text, or `refused` for `None`.

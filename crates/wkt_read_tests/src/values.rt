@@ -1,7 +1,5 @@
 //! Values that are read, beside the same made by hand.
 use crate::made_by_hand::{coord, line};
-use wkt_values::text::read_text;
-use wkt_values::{Unread, read};
 use std::alloc::{AllocError, Global};
 use std::process::Abort;
 use wkt_read::{PeekableTokens, ReadError, Tokens};
@@ -10,6 +8,8 @@ use wkt_types::{
     Coord, Dimension, GeometryCollection, LineString, MultiLineString, MultiPoint, MultiPolygon,
     Point, Polygon, Wkt,
 };
+use wkt_values::text::read_text;
+use wkt_values::{Unread, read};
 
 type Made = Result<Wkt<i32>, AllocError>;
 

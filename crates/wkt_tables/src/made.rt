@@ -13,8 +13,8 @@ use wkt::to_wkt::{
 use wkt::types::{self, Coord, Point, Polygon};
 use wkt::walks::map_coords;
 use wkt::{AnyError, FromWktStr, ReadError, TryFromWkt, Wkt};
+use wkt_all_calls::Swapped;
 use wkt_lines::Lines;
-use wkt_tests::support::Swapped;
 
 /// The two-dimensional geometry of a text, with x for y.
 pub(crate) fn turned(alloc: Global, text: &str) -> Result<String, AnyError> {

@@ -3,8 +3,8 @@ use crate::calls::Number;
 use std::alloc::Global;
 use wkt::to_wkt::CountedText;
 use wkt::{AnyError, Decimal, WktNum};
-use wkt_tests::support::{answer, text_or_message};
-use wkt_type_tests::support::{Dash, Letter, Long};
+use wkt_all_calls::{answer, text_or_message};
+use wkt_test_support::{Dash, Letter, Long};
 
 /// What reading a text gives over that number type, if all calls agree.
 pub(crate) fn answer_of(alloc: Global, number: &str, text: &str) -> Result<String, AnyError> {

@@ -12,7 +12,7 @@ use std::{env, fs};
 use thiserror::Error;
 use wkt::to_wkt::{Counted, ReadAllError, read_all};
 use wkt::{AnyError, Decimal};
-use wkt_tests::support::{answer, text_or_message};
+use wkt_all_calls::{answer, text_or_message};
 
 /// Why a table isn't checked to its end.
 #[derive(Debug, Drop, Error)]

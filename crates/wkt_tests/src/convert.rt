@@ -1,11 +1,11 @@
 //! A custom type that has `to_wkt` alone: its text comes by the default bodies of `ToWkt`.
-use crate::support::asserts::equal;
+use crate::asserts::equal;
 use std::alloc::{AllocError, Global};
 use std::io::ErrorKind;
 use std::process::Abort;
 use wkt_access::Error;
 use wkt_convert::{ToWkt, ToWktError};
-use wkt_type_tests::support::Slow;
+use wkt_test_support::Slow;
 use wkt_types::{Coord, Dimension, GeometryCollection, Point, Wkt};
 use wkt_values::FromWktStr;
 

@@ -1,6 +1,5 @@
 //! Texts that are deep or long.
-use crate::support::asserts::{LISTS, equal};
-use crate::support::{Swapped, answer, text_or_message};
+use crate::asserts::{LISTS, equal};
 use std::alloc::{AllocError, Global};
 use std::process::Abort;
 use std::test::Fail;
@@ -8,6 +7,7 @@ use wkt::geo_types::Geometry;
 use wkt::tokenizer::Tokens;
 use wkt::walks::{map_coords, num_coords};
 use wkt::{Decimal, FromWktStr, ToWkt, TryFromWkt, Wkt, infer_type, same_geometry};
+use wkt_all_calls::{Swapped, answer, text_or_message};
 
 const NO_KIND_TEXT: &str = "Invalid type encountered";
 

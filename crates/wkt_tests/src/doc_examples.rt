@@ -1,5 +1,5 @@
 //! The examples of the doc comments that are no rows of `wkt_tables`, line for line, with what they give.
-use crate::support::asserts::equal;
+use crate::asserts::equal;
 use std::alloc::Global;
 use std::process::Abort;
 use wkt::events::NoRoom;

@@ -1,7 +1,6 @@
 //! The two-dimensional types: flat values from readers that are slow or fail, and their coordinates mapped.
 //! `wkt_type_tests` has what needs no reading.
-use crate::support::Swapped;
-use crate::support::asserts::equal;
+use crate::asserts::equal;
 use std::alloc::Global;
 use std::io::ErrorKind;
 use std::process::Abort;
@@ -11,7 +10,8 @@ use wkt::geo_types::{
 use wkt::geo_types_from_wkt::Error;
 use wkt::walks::{Mapper, map_coords};
 use wkt::{Decimal, ToWkt, TryFromWkt};
-use wkt_type_tests::support::{Pieces, source};
+use wkt_all_calls::Swapped;
+use wkt_test_support::{Pieces, source};
 
 type Number = Decimal<6>;
 

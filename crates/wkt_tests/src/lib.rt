@@ -1,11 +1,13 @@
-//! Tests that take several crates, in modules named after what they test, and what tests share. A text and its answer is
-//! no test here, but a row of `wkt_tables`.
+//! Tests that take several crates, in modules named after what they test. A text and its answer is no test here, but a
+//! row of `wkt_tables`.
 //!
-//! Below stand `wkt`, the crates that it is made of, and `wkt_lines`; above, `wkt_tables`, which uses `support`. Nothing
-//! that users build depends on this crate. Tests that need no reading are those of `wkt_type_tests`, and tests of proved
-//! callers those of `wkt_examples`.
+//! Below stand `wkt`, the crates that it is made of, `wkt_lines`, and what tests share. Tests of one crate that reads are
+//! those of `wkt_read_tests`, tests that need no reading those of `wkt_type_tests`, and tests of proved callers those of
+//! `wkt_examples`.
 #![tactic(auto)]
 
+#[cfg(test)]
+mod asserts;
 #[cfg(test)]
 mod convert;
 #[cfg(test)]
@@ -22,4 +24,3 @@ mod read;
 mod same_geometry;
 #[cfg(test)]
 mod short_texts;
-pub mod support;

@@ -3,14 +3,14 @@
 
 mod one_by_one;
 
-use crate::support::asserts::{BROKEN_PIPE, End, INTERRUPTED, LISTS, WELL, ended, equal};
+use crate::asserts::{BROKEN_PIPE, End, INTERRUPTED, LISTS, WELL, ended, equal};
 use std::alloc::Global;
 use std::io;
 use std::io::ErrorKind;
 use std::process::Abort;
 use wkt_bytes::{ByteSource, Counted};
 use wkt_lines::{run, run_over, stream, stream_over};
-use wkt_type_tests::support::{Pieces, Slow, source};
+use wkt_test_support::{Pieces, Slow, source};
 
 const INPUT: &[u8] = b"point ( 10 -20.50 )\nPOINT ZM EMPTY\nPOINTZ(-117 33 10)\nPOINT (10)\n\n";
 

@@ -1,5 +1,5 @@
 //! What is read, and what of the text was taken; and headers of each length.
-use crate::support::asserts::equal;
+use crate::asserts::equal;
 use std::alloc::Global;
 use std::process::Abort;
 use wkt_read::{PeekableTokens, ReadError, Token, Tokens, infer_type};

@@ -1,5 +1,5 @@
 //! Geometries that are one, in whatever way they are put together.
-use crate::support::asserts::equal;
+use crate::asserts::equal;
 use std::alloc::Global;
 use std::process::Abort;
 use wkt::types::{Coord, Dimension, GeometryCollection, LineString};

@@ -2,7 +2,7 @@
 
 mod reference;
 
-use crate::support::asserts::{equal, equal_at};
+use crate::asserts::{equal, equal_at};
 use reference::{ReferenceLexeme, front, lexemes, whole};
 use std::alloc::{AllocError, Global};
 use std::test::Fail;

@@ -1,7 +1,7 @@
 //! How a wrapper gathers text: the calls that it makes on a sink that counts them.
 ghost use Rattle.std.specs.Prelude.{◌≡◌};
 
-use crate::support::asserts::equal;
+use crate::asserts::equal;
 use std::alloc::Global;
 use std::io::ErrorKind;
 use std::process::Abort;

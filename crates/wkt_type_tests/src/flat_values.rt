@@ -1,6 +1,6 @@
 //! Flat values that are made, copied and compared, at many sizes.
+use crate::asserts::{equal, holds};
 use crate::flat_texts::{TRIANGLE, at, holed, line_string};
-use crate::support::asserts::{equal, holds};
 use std::alloc::Global;
 use std::process::Abort;
 use wkt_flat::{

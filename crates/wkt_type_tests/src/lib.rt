@@ -1,10 +1,11 @@
-//! Tests of what stands below all reading: numbers, sinks of bytes, and the types with their texts; and what tests share
-//! that needs no more.
+//! Tests of what stands below all reading: numbers, sinks of bytes, and the types with their texts.
 //!
-//! Below stand the crates of numbers, bytes, traits and types; above, `wkt_tests`, `wkt_tables` and the fuzz, which use
-//! `support`. It waits for no crate that reads, so it is proved beside them.
+//! Below stand the crates of numbers, bytes, traits and types. It waits for no crate that reads, so it is proved beside
+//! them.
 #![tactic(auto)]
 
+#[cfg(test)]
+mod asserts;
 #[cfg(test)]
 mod bytes;
 #[cfg(test)]
@@ -13,6 +14,5 @@ mod flat_texts;
 mod flat_values;
 #[cfg(test)]
 mod num;
-pub mod support;
 #[cfg(test)]
 mod types;

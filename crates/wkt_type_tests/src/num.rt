@@ -4,7 +4,7 @@ ghost use Rattle.std.specs.Prelude.{IfOk, ◌≡◌};
 ghost use Rattle.std.specs.String.{string_bytes};
 ghost use Rattle.wkt_num.specs.Decimal.{decimal_text};
 
-use crate::support::asserts::equal;
+use crate::asserts::equal;
 use std::alloc::{AllocError, Global};
 use std::fmt;
 use std::process::Abort;

@@ -1,5 +1,5 @@
 //! Values that are made by hand, displayed, copied and compared, and the texts of the errors of writing.
-use crate::support::asserts::{equal, holds, says};
+use crate::asserts::{equal, holds, says};
 use std::alloc::{AllocError, Global};
 use std::fmt;
 use std::process::Abort;

@@ -1,7 +1,7 @@
 //! Lines read one by one, and answered by custom answers.
 ghost use Rattle.std.specs.Prelude.{◌≡◌};
 
-use crate::support::asserts::{BROKEN_PIPE, End, INTERRUPTED, WELL, ended, equal};
+use crate::asserts::{BROKEN_PIPE, End, INTERRUPTED, WELL, ended, equal};
 use std::alloc::{AllocError, Global};
 use std::io;
 use std::io::ErrorKind;
@@ -9,7 +9,7 @@ use std::process::Abort;
 use wkt_bytes::{ByteSource, Counted, ReadAllError};
 use wkt_lines::{AnswerError, Canonical, Lines, Reply, line_end, stream_with};
 use wkt_num::TextSink;
-use wkt_type_tests::support::{Pieces, Slow, source};
+use wkt_test_support::{Pieces, Slow, source};
 
 /// A source whose every second call fails, the first among them.
 #[derive(Drop)]

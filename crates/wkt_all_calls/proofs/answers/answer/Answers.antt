@@ -2,7 +2,7 @@
 use Rattle.std.proofs.Common.{ap, ◌∙◌}
 use Rattle.wkt_access.specs.Texts.{shape_text}
 use Rattle.wkt_types.proofs.Displays.{shown_is}
-use Rattle.wkt_tests.proofs.support.answers.answer.Goals as goal
+use Rattle.wkt_all_calls.proofs.answers.answer.Goals as goal
 
 pub returns-in-Ok-true-clause-text : goal.returns-in-Ok-true-clause-text
 returns-in-Ok-true-clause-text g c =

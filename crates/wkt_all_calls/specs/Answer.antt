@@ -1,7 +1,7 @@
 -- What is claimed of the answer to a text.
 use Rattle.std.specs.Prelude.{Result, Ok, Err}
-use Rattle.wkt_tests.specs.declared.support.answers.AnswerError.{AnswerError}
-use Rattle.wkt_tests.specs.declared.support.answers.AnswerError.TheVariants as answered
+use Rattle.wkt_all_calls.specs.declared.answers.AnswerError.{AnswerError}
+use Rattle.wkt_all_calls.specs.declared.answers.AnswerError.TheVariants as answered
 
 -- The fact is claimed where the text was refused.
 abbrev pub OnAnswerRefused : {A : Type 0} → Result A AnswerError → Type 0 → Type 0

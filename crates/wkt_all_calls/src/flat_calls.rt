@@ -1,5 +1,5 @@
 //! That the calls over two-dimensional values agree, whichever of them is asked.
-use crate::support::answers::shows;
+use crate::answers::shows;
 use serde_json::Value;
 use std::alloc::{AllocError, Global};
 use wkt::deserialize::geo_types::deserialize_geometry;

@@ -4,8 +4,8 @@ use Rattle.std.specs.Str.{bytes_eq, is_utf8, chars}
 use lib.Utf8.{encode}
 use Rattle.std.proofs.lemmas.Str.{is_utf8-from_IsUtf8}
 use Rattle.std.proofs.lemmas.Slice.Eq.{bytes_eq-Decides}
-use Rattle.wkt_type_tests.specs.declared.support.numbers.Long as longs
-use Rattle.wkt_type_tests.specs.Numbers.{read_long}
+use Rattle.wkt_test_support.specs.declared.numbers.Long as longs
+use Rattle.wkt_test_support.specs.Numbers.{read_long}
 
 no-text : is_utf8 (46 ∷ 200 ∷ []) ≡ false
 unfolding is_utf8 chars encode

@@ -1,8 +1,8 @@
 -- Texts that break the laws of numbers, for edits that must be refused.
 use Rattle.std.proofs.Common.{◌≡◌, ℕ, ◌==◌, if◌then◌else◌, List, [], ◌∷◌, Option, Some, None, refl}
-use Rattle.wkt_type_tests.specs.declared.support.numbers.Letter.{Letter}
-use Rattle.wkt_type_tests.specs.declared.support.numbers.Letter.TheVariants.{A, B}
-use Rattle.wkt_type_tests.specs.Numbers.{AnyLetter}
+use Rattle.wkt_test_support.specs.declared.numbers.Letter.{Letter}
+use Rattle.wkt_test_support.specs.declared.numbers.Letter.TheVariants.{A, B}
+use Rattle.wkt_test_support.specs.Numbers.{AnyLetter}
 
 -- A text that begins with a plus.
 abbrev pub plus_text : Letter → List ℕ

@@ -11,10 +11,10 @@ pub enum Letter {
 
 impl WktNum for Letter {
     ghost use denote.Enum.Bare.{same_true, true_same};
-    ghost use Rattle.wkt_type_tests.specs.contracts.support.numbers.Letter.{the_type};
-    ghost use Rattle.wkt_type_tests.specs.Numbers.{AnyLetter, letter_text, read_letter};
-    ghost use Rattle.wkt_type_tests.specs.Numbers.{letter_reads_back, any_letter, letter_number_text};
-    ghost use Rattle.wkt_type_tests.specs.WrongNumbers.{plus_text, read_plus, plus_reads_back, comma_text, read_comma, comma_reads_back};
+    ghost use Rattle.wkt_test_support.specs.contracts.numbers.Letter.{the_type};
+    ghost use Rattle.wkt_test_support.specs.Numbers.{AnyLetter, letter_text, read_letter};
+    ghost use Rattle.wkt_test_support.specs.Numbers.{letter_reads_back, any_letter, letter_number_text};
+    ghost use Rattle.wkt_test_support.specs.WrongNumbers.{plus_text, read_plus, plus_reads_back, comma_text, read_comma, comma_reads_back};
 
     ghost is_value = { AnyLetter };
 
@@ -56,8 +56,8 @@ pub enum Dash {
 
 impl WktNum for Dash {
     ghost use Rattle.std.proofs.Common.{refl};
-    ghost use Rattle.wkt_type_tests.specs.Numbers.{AnyDash, dash_text, read_dash};
-    ghost use Rattle.wkt_type_tests.specs.Numbers.{dash_reads_back, any_dash, dash_number_text, one_dash};
+    ghost use Rattle.wkt_test_support.specs.Numbers.{AnyDash, dash_text, read_dash};
+    ghost use Rattle.wkt_test_support.specs.Numbers.{dash_reads_back, any_dash, dash_number_text, one_dash};
 
     ghost is_value = { AnyDash };
 
@@ -99,8 +99,8 @@ const LONG: &str = ".llllllllllllllllllll";
 
 impl WktNum for Long {
     ghost use Rattle.std.proofs.Common.{refl};
-    ghost use Rattle.wkt_type_tests.specs.Numbers.{AnyLong, long_text, read_long};
-    ghost use Rattle.wkt_type_tests.specs.Numbers.{long_reads_back, any_long, long_number_text, one_long};
+    ghost use Rattle.wkt_test_support.specs.Numbers.{AnyLong, long_text, read_long};
+    ghost use Rattle.wkt_test_support.specs.Numbers.{long_reads_back, any_long, long_number_text, one_long};
 
     ghost is_value = { AnyLong };
 

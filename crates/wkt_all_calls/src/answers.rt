@@ -4,9 +4,9 @@ ghost use Rattle.std.specs.Prelude.{◌≡◌, IfOk, IsErr};
 ghost use Rattle.std.specs.String.{string_bytes};
 ghost use Rattle.wkt_read.specs.Front.{HasNoFront};
 ghost use Rattle.wkt.specs.CanonicalText.{IsCanonical};
-ghost use Rattle.wkt_tests.specs.Answer.{OnAnswerMemory, OnAnswerRefused};
+ghost use Rattle.wkt_all_calls.specs.Answer.{OnAnswerMemory, OnAnswerRefused};
 
-use crate::support::flat_calls::flat_alike;
+use crate::flat_calls::flat_alike;
 use std::alloc::{AllocError, Global};
 use std::fmt::Display;
 use thiserror::Error;

@@ -2,10 +2,10 @@
 use Rattle.std.proofs.Common.{Option, Some, None, ◌≡◌, IfSome, refl}
 use Rattle.std.specs.Prelude.{ℕ, ◌==◌, if◌then◌else◌, List, [], ◌∷◌, codes}
 use Rattle.std.specs.Str.{bytes_eq}
-use Rattle.wkt_type_tests.specs.declared.support.numbers.Letter.{Letter}
-use Rattle.wkt_type_tests.specs.declared.support.numbers.Letter.TheVariants.{A, B}
-use Rattle.wkt_type_tests.specs.declared.support.numbers.Dash as dashes
-use Rattle.wkt_type_tests.specs.declared.support.numbers.Long as longs
+use Rattle.wkt_test_support.specs.declared.numbers.Letter.{Letter}
+use Rattle.wkt_test_support.specs.declared.numbers.Letter.TheVariants.{A, B}
+use Rattle.wkt_test_support.specs.declared.numbers.Dash as dashes
+use Rattle.wkt_test_support.specs.declared.numbers.Long as longs
 use Rattle.wkt_num.specs.Bytes.{class_of}
 use Rattle.wkt_num.specs.Number.{IsNumberText}
 

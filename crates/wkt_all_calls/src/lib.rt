@@ -1,8 +1,9 @@
-//! What tests share: what all calls return for a text, a mapper, and for the tests of this crate what they assert.
+//! What all calls return for a text, and a mapper, for tests.
+//!
+//! Below stand `wkt` and the crates that it is made of; above, `wkt_tests` and `wkt_tables`.
+#![tactic(auto)]
 
 mod answers;
-#[cfg(test)]
-pub(crate) mod asserts;
 mod flat_calls;
 
 pub use answers::{AnswerError, answer, text_or_message};

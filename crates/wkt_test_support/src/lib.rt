@@ -1,9 +1,10 @@
-//! What tests share: number types of one value and of two, sinks and sources that are slow or fail, and for the tests of
-//! this crate what they assert.
+//! What the crates of tests share: number types of one value and of two, sinks and sources that are slow or fail.
+//!
+//! Below stand `wkt_num` and `wkt_bytes`; above, `wkt_type_tests`, `wkt_tests`, `wkt_tables` and the fuzz.
+#![tactic(auto)]
+
 ghost use Rattle.std.specs.Prelude.{◌≡◌, ◌≤◌, ◌<◌};
 
-#[cfg(test)]
-pub(crate) mod asserts;
 mod numbers;
 
 pub use numbers::{Dash, Letter, Long};
