@@ -1,9 +1,10 @@
 #!/usr/bin/env python3
-"""Writes the workloads: lines.py mixed|points|polygons|nested|refused|empty DECIMALS BYTES > FILE.
+"""Writes the workloads: lines.py mixed|points|polygons|nested|refused|empty|strange DECIMALS BYTES > FILE.
 
 `points` are lines of one POINT each, `polygons` of one POLYGON; `mixed` are lines of all kinds, short and long;
 `nested` are collections in collections, up to eight levels; `refused` are points with a fault each; `empty` are lines
-with nothing in them. Half of the lines have a space after the kind word and after each comma, as some databases print
+with nothing in them; `strange` are mixed lines in which signs, zeros, spaces and the lengths of numbers differ from one
+number to the next. Half of the lines have a space after the kind word and after each comma, as some databases print
 them. Numbers have DECIMALS decimals, from 0 to 14 or from 16 on; where DECIMALS is 15, thirteen to fifteen. The same
 arguments give the same bytes on every machine.
 """
@@ -115,9 +116,30 @@ class Lines:
         return self.geometry(kind, 900 if kind == "LINESTRING" else 400)
 
 
+class StrangeLines(Lines):
+    """DECIMALS are the most that a number has."""
+
+    # Another space at each place.
+    space = property(lambda self: " " * self.numbers.below(3), lambda self, _: None)
+    comma = property(lambda self: " " * self.numbers.below(2) + "," + " " * self.numbers.below(3), lambda self, _: None)
+
+    def text(self, units):
+        below = self.numbers.below
+        sign = ("-" if units < 0 else "") or "+" * (below(8) == 0)
+        whole = "0" * (below(4) == 0) + str(below(10 ** (1 + below(6))))
+        fraction = "".join(str(below(10)) for _ in range(below(self.decimals + 1))) + "0" * (below(4) == 0)
+        return f"{sign}{whole}.{fraction}" if fraction else f"{sign}{whole}"
+
+    def geometry(self, kind, long):
+        return super().geometry(kind.lower() if self.numbers.below(2) else kind, long)
+
+    def body(self, kind, long):
+        return super().body(kind.upper(), long)
+
+
 def main():
     workload, decimals, size = sys.argv[1], int(sys.argv[2]), int(sys.argv[3])
-    lines = Lines(decimals)
+    lines = (StrangeLines if workload == "strange" else Lines)(decimals)
     written = 0
     while written < size:
         line = lines.next_line(workload) + "\n"

@@ -4,7 +4,8 @@
 #
 # callgrind counts between a call and its return alone (--toggle-collect). As in bench/measure.sh, a figure is the count
 # on 3 MB of lines less that on 1 MB, over the difference in bytes. WORKLOADS may name others than the four there.
-# PLACES="18 35" adds a row for each: a program that reads numbers of so many places.
+# PLACES="18 35" adds a row for each: a program that reads numbers of so many places. The last row is no count: it has the
+# processor's cycles a byte, by cycles.c.
 set -eu
 here=$(cd "$(dirname "$0")" && pwd)
 lines=$here/../../bench/lines.py
@@ -25,3 +26,6 @@ row 'the call wkt_lines' count "$work/wkt_lines" --toggle-collect=wkt_lines
 row 'examples/lines.c' count "$work/wkt_lines"
 for places in ${PLACES:-}; do row "wkt_lines, $places places" with_places "$places"; done
 [ ! -x "$work/geos_lines" ] || row 'geos_lines.c' count "$work/geos_lines"
+"$cc" -O2 -D_GNU_SOURCE -I"$here/../out" "$here/cycles.c" "$here/../out/libwkt.a" -o "$work/cycles"
+cycles() { "$work/cycles" < "$1"; }
+row 'cycles of wkt_lines_some' cycles
