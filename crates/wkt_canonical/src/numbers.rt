@@ -116,7 +116,7 @@ impl<'a, N: Numbers> TextBuilder<'a, N> {
         }
         let rest = &text[at..];
         if rest.len() >= WINDOW {
-            if let Some((end, kept)) = self.numbers.canonical_prefix_simd(rest) {
+            if let Some((end, kept)) = self.numbers.canonical_prefix(rest) {
                 return (self.put_front(rest, kept), Some(at + end));
             }
         }
@@ -168,7 +168,7 @@ impl<'a, N: Numbers> TextBuilder<'a, N> {
         if self.numbers.reads_texts() && rest.len() < WINDOW {
             let mut window = [0; WINDOW];
             pad(&mut window, rest);
-            if let Some((end, kept)) = self.numbers.canonical_prefix_simd(&window) {
+            if let Some((end, kept)) = self.numbers.canonical_prefix(&window) {
                 return (self.put_front(&window, kept), Some(at + end));
             }
         }

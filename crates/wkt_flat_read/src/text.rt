@@ -63,7 +63,7 @@ pub fn read_text<T: WktNum>(alloc: Global, text: &str) -> Result<Flattened<T>, R
     }
 }
 
-/// The geometry at the front of any text, as a flat value, by the machine. What it is made of is cleared here.
+/// The geometry at the front of any text, as a flat value, by the machine. Outlined: only this path zeroes the tree.
 #[inline(never)]
 fn front_of<T: WktNum>(alloc: Global, text: &str) -> Result<Flattened<T>, ReadError>
     ensures found { IfOk result (IsFlatFront T.read (coord_eq T.eq) text.now) }

@@ -5,6 +5,8 @@ ghost use Rattle.wkt_machine.specs.Machine.{at, part_of, inside, outside, start,
 ghost use Rattle.wkt_machine.specs.Machines.{state_of, next_after, is_single, IsSound};
 ghost use Rattle.wkt_machine.specs.Machine as place;
 ghost use Rattle.wkt_machine.specs.declared.machine.LexemeKind.TheVariants as sees;
+ghost use Rattle.wkt_machine.specs.declared.machine.State.TheVariants as states;
+ghost use Rattle.wkt_machine.specs.declared.part.Part.TheVariants as parts;
 
 use crate::part::{Axis, Part};
 use wkt_access::Dimension;
@@ -213,6 +215,7 @@ impl Machine {
     #[inline(always)]
     pub fn leave_collection(self) -> Machine
         requires { 0 < self.depth }
+        ensures exact { result ≡ record { state = states.Geometry; part = parts.Collection; dim = self.dim; depth = self.depth - 1 } }
         ensures state { state_of result ≡ at (self.depth - 1) place.Geometry }
         ensures sound { IsSound result }
     {

@@ -74,7 +74,7 @@ pub(crate) fn end_at<N: Numbers>(numbers: N, text: &[u8], at: usize) -> Option<u
 {
     let rest = &text[at..];
     if rest.len() >= NUMBER_WINDOW {
-        if let Some((end, _)) = numbers.canonical_prefix_simd(rest) {
+        if let Some((end, _)) = numbers.canonical_prefix(rest) {
             return Some(at + end);
         }
     }
@@ -96,7 +96,7 @@ fn slow_end<N: Numbers>(numbers: N, text: &[u8], at: usize) -> Option<usize>
     if rest.len() < NUMBER_WINDOW {
         let mut window = [0; NUMBER_WINDOW];
         pad(&mut window, rest);
-        if let Some((end, _)) = numbers.canonical_prefix_simd(&window) {
+        if let Some((end, _)) = numbers.canonical_prefix(&window) {
             return Some(at + end);
         }
     }

@@ -9,7 +9,7 @@ ghost use Rattle.wkt_num.specs.DecimalLaws.{decimal_reads_back, decimal_reads_va
 
 use crate::formatted::FormatterText;
 use crate::in_window::units_in_window;
-use crate::kept::canonical_prefix_simd;
+use crate::kept::canonical_prefix;
 use crate::number::WktNum;
 use crate::numbers::{Numbers, Places};
 use crate::printing::write_units;
@@ -157,7 +157,7 @@ impl<const D: u32> WktNum for Decimal<D> {
     }
 
     #[inline(always)]
-    fn canonical_prefix_simd(bytes: &[u8]) -> Option<(usize, usize)>
+    fn canonical_prefix(bytes: &[u8]) -> Option<(usize, usize)>
         requires { 32 ≤ length bytes.now }
         ensures keeps { IfSome result (λ r. KeepsText (read_decimal 127 36 D) (decimal_text D) bytes.now r.0 r.1) }
         ensures within { IfSome result (λ r. r.0 < 32) }
@@ -166,7 +166,7 @@ impl<const D: u32> WktNum for Decimal<D> {
         if D > MOST_PLACES {
             return None;
         }
-        canonical_prefix_simd(Places::new(D), bytes)
+        canonical_prefix(Places::new(D), bytes)
     }
 
     #[inline(always)]

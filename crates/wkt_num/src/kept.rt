@@ -15,7 +15,7 @@ use std::simd::prelude::*;
 /// Where the number run that the bytes begin with ends, and where its number's text does, if the run ends in a window. Each
 /// text that is printed and ends there is found, if so few digits stand before its point that all such units fit.
 #[inline(always)]
-pub fn canonical_prefix_simd(places: Places, bytes: &[u8]) -> Option<(usize, usize)>
+pub fn canonical_prefix(places: Places, bytes: &[u8]) -> Option<(usize, usize)>
     requires { 32 ≤ length bytes.now }
     ensures keeps { IfSome result (λ r. KeepsText (read_decimal 127 36 places) (decimal_text places) bytes.now r.0 r.1) }
     ensures within { IfSome result (λ r. r.0 < 32) }

@@ -32,7 +32,7 @@ pub trait WktNum: Copy + PartialEq + PartialOrd + Debug {
     /// Where the number run that 32 bytes or more begin with ends, and where its number's text does, which is a beginning of
     /// it, if the run ends within the first 32. `None` implies nothing about the bytes, unless the type says which texts it
     /// finds. Whole numbers and decimals do, in their own clauses.
-    fn canonical_prefix_simd(bytes: &[u8]) -> Option<(usize, usize)>
+    fn canonical_prefix(bytes: &[u8]) -> Option<(usize, usize)>
         requires { 32 ≤ length bytes.now }
         ensures keeps { IfSome result (λ r. KeepsText read num bytes.now r.0 r.1) }
         ensures within { IfSome result (λ r. r.0 < 32) }

@@ -8,7 +8,7 @@ ghost use Rattle.wkt_num.specs.Sink.{Puts};
 ghost use Rattle.wkt_num.specs.Number.{IsNumberText, ReadsTexts, KeepsText, BeginsNumber};
 
 use crate::in_window::units_in_window;
-use crate::kept::canonical_prefix_simd;
+use crate::kept::canonical_prefix;
 use crate::number::WktNum;
 use crate::powers::SHORT_PLACES;
 use crate::printing::write_units;
@@ -39,8 +39,8 @@ pub trait Numbers: Copy {
     fn write_number<W: TextSink>(self, number: Self::Number, f: &mut W) -> fmt::Result
         ensures { Puts W.sink f.old (num self number) f.new result };
 
-    /// As `WktNum::canonical_prefix_simd`.
-    fn canonical_prefix_simd(self, bytes: &[u8]) -> Option<(usize, usize)>
+    /// As `WktNum::canonical_prefix`.
+    fn canonical_prefix(self, bytes: &[u8]) -> Option<(usize, usize)>
         requires { 32 ≤ length bytes.now }
         ensures keeps { IfSome result (λ r. KeepsText (read self) (num self) bytes.now r.0 r.1) }
         ensures within { IfSome result (λ r. r.0 < 32) };
@@ -105,8 +105,8 @@ impl<T: WktNum> Numbers for OfType<T> {
     }
 
     #[inline(always)]
-    fn canonical_prefix_simd(self, bytes: &[u8]) -> Option<(usize, usize)> {
-        T::canonical_prefix_simd(bytes)
+    fn canonical_prefix(self, bytes: &[u8]) -> Option<(usize, usize)> {
+        T::canonical_prefix(bytes)
     }
 
     #[inline(always)]
@@ -241,13 +241,13 @@ impl Numbers for Places {
     }
 
     #[inline(always)]
-    fn canonical_prefix_simd(self, bytes: &[u8]) -> Option<(usize, usize)>
+    fn canonical_prefix(self, bytes: &[u8]) -> Option<(usize, usize)>
         requires { 32 ≤ length bytes.now }
         ensures keeps { IfSome result (λ r. KeepsText (read_decimal 127 36 self) (decimal_text self) bytes.now r.0 r.1) }
         ensures within { IfSome result (λ r. r.0 < 32) }
         ensures finds { (end : ℕ) → IsDecimalText self bytes.now end → end < 32 → result ≡ Some (end, end) }
     {
-        canonical_prefix_simd(self, bytes)
+        canonical_prefix(self, bytes)
     }
 
     #[inline(always)]

@@ -41,8 +41,8 @@ pub fn read_signed(places: u32, negative: bool, body: &[u8]) -> Option<i128>
     }
 }
 
-/// The slow path, for a body of any form. What it returns comes through memory, whose place is cleared here, away from
-/// the fast paths, which return in registers.
+/// The slow path, for a body of any form. Outlined: only this path zeroes the result slot, and the fast ones return in
+/// registers.
 #[inline(always)]
 fn slow_read(places: u32, negative: bool, body: &[u8]) -> Option<i128>
     requires { places ≤ 36 }

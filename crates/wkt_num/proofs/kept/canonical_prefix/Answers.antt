@@ -4,8 +4,8 @@ use Rattle.std.specs.Char.{is_ascii_digit}
 use Rattle.wkt_num.specs.Bytes.{class_of, Run}
 use Rattle.wkt_num.proofs.DecimalParts.{keeps-whole, keeps-plain}
 use Rattle.wkt_num.proofs.FoundDecimal.{point-low, point-ends, met, passed, ended, end-ends, found-same}
-use Rattle.wkt_num.proofs.kept.canonical_prefix_simd.Goals as goal
-use Rattle.wkt_num.proofs.kept.canonical_prefix_simd.Goals.{then-not-is_whole_number-via-then-not-is_whole_number, then-not-is_whole_number-via-else-not-is_whole_number+then-is_of_run}
+use Rattle.wkt_num.proofs.kept.canonical_prefix.Goals as goal
+use Rattle.wkt_num.proofs.kept.canonical_prefix.Goals.{then-not-is_whole_number-via-then-not-is_whole_number, then-not-is_whole_number-via-else-not-is_whole_number+then-is_of_run}
 
 pub returns-then-bytes-point-ne46-clause-keeps : goal.returns-then-bytes-point-ne46-clause-keeps
 returns-then-bytes-point-ne46-clause-keeps c =

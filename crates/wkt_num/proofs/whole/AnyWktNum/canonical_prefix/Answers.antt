@@ -5,7 +5,7 @@ use Rattle.wkt_num.specs.DigitParts.{IsWholeText}
 use Rattle.wkt_num.proofs.FirstTextFound.{number-text, number-sign, found-both, found-none}
 use Rattle.wkt_num.proofs.NumberInWindow.{made-is, not-made}
 use Rattle.wkt_num.proofs.WindowDigits.{keeps-number}
-use Rattle.wkt_num.proofs.whole.AnyWktNum.canonical_prefix_simd.Goals as goal
+use Rattle.wkt_num.proofs.whole.AnyWktNum.canonical_prefix.Goals as goal
 
 pub of_digits-requires : goal.of_digits-requires
 of_digits-requires g c = ten_pos g.T.Whole.DIGITS
