@@ -161,11 +161,7 @@ export class Blocks {
 
   /** The canonical text, with a line feed, of a line. */
   lineOf(bytes) {
-    const text = this.#wkt.canonicalBytes(bytes, this.#reading);
-    const line = new Uint8Array(text.length + 1);
-    line.set(text);
-    line[text.length] = FEED;
-    return line;
+    return this.#wkt.canonicalBytes(bytes, { ...this.#reading, feed: true });
   }
 
   /** One text in all, over lines or a long one. `ask`: of how many refusals the reasons are asked. */

@@ -1,6 +1,5 @@
 // Reads a file in a worker, and joins what some workers count in its blocks. The file is read in pieces; nothing of it is
 // kept but what is counted, listed, and saved.
-import { joined } from '../javascript/src/lines.js';
 import { ASKED, Blocks, LISTED } from './block.js';
 import { grouped } from './causes.js';
 import { Range, boundsOf } from './range.js';
@@ -19,7 +18,7 @@ const WARM = 1 << 20;
 const KEPT = 2 ** 30, IN_MEMORY = 2 ** 28;
 const FEED = 10;
 /** How often, in milliseconds, it says how far it is, and what is listed and drawn. */
-const TOLD = 80, LISTS = 600;
+const TOLD = 160, LISTS = 600;
 
 /** What the file can't be, said in a user's words. */
 export class Unreadable extends Error {}
@@ -123,20 +122,20 @@ export class Reading {
   /** Reads whole lines from where the last were read to, about a piece of them; or all of the file. */
   async #lines(whole) {
     const { size } = this.#file;
-    const parts = [];
     const begin = this.#read;
-    for (let length = PIECE, ends = false; !ends && !this.stopping; length = 4 * PIECE) {
-      const part = new Uint8Array(await this.#file.slice(this.#read, this.#read + length).arrayBuffer());
-      const to = this.#read + part.length === size ? part.length : whole ? 0 : part.lastIndexOf(FEED) + 1;
-      ends = to > 0;
-      parts.push(ends ? part.subarray(0, to) : part);
-      this.#read += parts.at(-1).length;
+    for (let length = PIECE; ; length *= 16) {
+      const part = new Uint8Array(await this.#file.slice(begin, begin + Math.min(length, LONGEST + PIECE)).arrayBuffer());
+      this.#read = begin + part.length;
+      const to = this.#read === size ? part.length : whole ? 0 : part.lastIndexOf(FEED) + 1;
+      if (to > 0 || this.stopping) {
+        this.#read = begin + to;
+        return part.subarray(0, to);
+      }
+      if (part.length > LONGEST) throw new Unreadable(`A line behind line ${this.#count.lines} is longer than ${LONGEST >> 20} MB. The command wkt reads it.`);
       // Engines put faster code in place between calls alone, and one call answers a long line. So its front is read before.
-      if (!ends && parts.length === 1) this.#wkt.reads(part.subarray(0, WARM), this.#asked.reading);
-      if (this.#read - begin > LONGEST + PIECE) throw new Unreadable(`A line behind line ${this.#count.lines} is longer than ${LONGEST >> 20} MB. The command wkt reads it.`);
+      if (length === PIECE) this.#wkt.reads(part.subarray(0, WARM), this.#asked.reading);
       this.#tell(false);
     }
-    return parts.length === 1 ? parts[0] : joined(parts);
   }
 
   /** Gives a block to each worker as soon as it is free, and takes the answers in the order of the file. */

@@ -1,9 +1,9 @@
 #!/usr/bin/python3
-"""Tests the page in headless Chromium: web/test.py [--size MB] [--shots FOLDER] [--only WORD] [PAGE]
+"""Tests the page in headless Chromium: web/test.py [--idle] [--shots FOLDER] [--only WORD] [PAGE]
 
 PAGE is dist/web/index.html where it is left out. It is opened without a server, but for the test that looks at a
-server's log. MB is the size of the large file, 8 where it is left out. FOLDER gets pictures of the page, light and
-dark, wide and narrow. It needs the Debian packages chromium, chromium-driver and python3-selenium.
+server's log. --idle: nothing else runs on the machine, so large files are held to seconds. FOLDER gets pictures of
+the page, light and dark, wide and narrow. It needs the Debian packages chromium, chromium-driver and python3-selenium.
 
 Here are the tests that nothing leaves the page; those of texts, files, causes, dialects, access, and of what it
 takes in and gives out are in web/test.
@@ -149,10 +149,10 @@ class Shots(Page):
 
 if __name__ == "__main__":
     parser = argparse.ArgumentParser(description=__doc__.split("\n")[0])
-    parser.add_argument("--size", type=float, default=Files.size)
+    parser.add_argument("--idle", action="store_true")
     parser.add_argument("--shots")
     parser.add_argument("--only", help="the tests whose names have this word")
     parser.add_argument("page", nargs="?", default=TOP + "/dist/web/index.html")
     arguments = parser.parse_args()
-    Page.page, Files.size, Shots.folder_of_shots = arguments.page, arguments.size, arguments.shots
+    Page.page, Files.idle, Shots.folder_of_shots = arguments.page, arguments.idle, arguments.shots
     unittest.main(argv=[sys.argv[0], *(["-k", arguments.only] if arguments.only else [])])

@@ -178,8 +178,8 @@ export type GeoJSONGeometry =
 export interface Wkt {
   /** The one text of the geometry that a text names. @throws {WktError} the text is refused */
   canonical(text: Text, asked?: Asked): string;
-  /** The same as bytes of ASCII, which are the caller's. */
-  canonicalBytes(text: Text, asked?: Asked): Uint8Array;
+  /** The same as bytes of ASCII, which are the caller's; with `feed`, a line feed stands behind it. */
+  canonicalBytes(text: Text, asked?: Asked & { feed?: boolean }): Uint8Array;
   /** The canonical text of the geometry that a text begins with, and where that ends in the text. Anything may follow. */
   front(text: Text, asked?: Places & Dialects): { canonical: string; end: number };
   /** Whether a text is read: whether `canonical` answers it. */

@@ -54,10 +54,13 @@ export class Wkt {
     return engine.answerTo(text, engine.texts, length);
   }
 
-  canonicalBytes(text, { places = 18, whole = true, dialect = '' } = {}) {
+  canonicalBytes(text, { places = 18, whole = true, dialect = '', feed = false } = {}) {
     const engine = this.#engine;
     const length = this.#canonical(text, asking(places, whole, dialect));
-    return engine.bytes.slice(engine.answer, engine.answer + length);
+    const end = engine.answer + length;
+    if (!feed) return engine.bytes.slice(engine.answer, end);
+    engine.bytes[end] = 10; // there is room: an answer has less than 2 * length + 65
+    return engine.bytes.slice(engine.answer, end + 1);
   }
 
   front(text, { places = 18, dialect = '' } = {}) {

@@ -25,6 +25,7 @@ for (const [i, places] of PLACES.entries()) {
       }
       assert.equal(wkt.canonical(text, beginning(places)), key);
       assert.equal(texts(wkt.canonicalBytes(bytes(text), beginning(places))), key);
+      assert.equal(texts(wkt.canonicalBytes(bytes(text), { ...beginning(places), feed: true })), `${key}\n`);
       assert.equal(wkt.canonical(key, { places }), key);
       assert.equal(wkt.front(text, { places }).canonical, key);
       assert.ok(wkt.same(text, key, beginning(places)));

@@ -12,7 +12,7 @@ await load(await WebAssembly.compile(new Uint8Array(8)));
 await load(null);
 
 const key: string = wkt.canonical('POINT(1 2)', { places: 6, whole: false });
-const data: Uint8Array = wkt.canonicalBytes(new Uint8Array(3));
+const data: Uint8Array = wkt.canonicalBytes(new Uint8Array(3), { places: 6, feed: true });
 const { canonical, end }: { canonical: string; end: number } = wkt.front('POINT(1 2),');
 const answers: [boolean, boolean] = [wkt.reads('x'), wkt.same('x', new Uint8Array(3), { whole: true })];
 // @ts-expect-error a text is no number

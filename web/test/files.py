@@ -21,12 +21,14 @@ return seen.size;
 """
 # How many times the processor time of that a file of 8 MB may take, also on a busy machine. It was 0.4 to 2.2 times.
 PLAINS = 4
+# How often a larger one is read on an idle machine, until it is read fast enough: other guests slow the host down.
+TRIES = 5
 
 
 class Files(Page):
-    """The size of the large file is in MB."""
+    """Whether nothing else runs on the machine."""
 
-    size = 8
+    idle = False
 
     def test_small_file(self):
         self.open()
@@ -163,14 +165,20 @@ class Files(Page):
         """The page stays free while a large file is read, and takes little more than a script that makes doubles."""
         place = random.Random(1)
         pairs = [f"{place.gauss(0, 40):.6f} {place.gauss(0, 20):.6f}#" for _ in range(30000)]
-        for what, begin, middle, end in (
-            ("lines", "", "".join(f"POINT ({it})\n" for it in pairs), ""),
-            ("one line", "LINESTRING (", "".join(f"{it}," for it in pairs), "0 0)\n"),
+        # On an idle machine a million points, and a line of 50 MB, and how many seconds they may take.
+        for what, times, most, begin, middle, end in (
+            ("lines", 34, 1.2, "", "".join(f"POINT ({it})\n" for it in pairs), ""),
+            ("one line", 75, 1.5, "LINESTRING (", "".join(f"{it}," for it in pairs), "0 0)\n"),
         ):
             with self.subTest(what):
-                self.large_file(what, begin, middle, 1 + int(self.size * 1e6 / len(middle)), end)
+                made = begin, middle, times if self.idle else 10, end
+                if self.idle:
+                    self.assertTrue(any(self.large_file(what, made) < most for _ in range(TRIES)))
+                else:
+                    self.assertLess(self.large_file(what, made), PLAINS * self.plain(made))
 
-    def large_file(self, what, *made):
+    def large_file(self, what, made):
+        """The processor time of the page, in seconds, to read a file."""
         self.open()
         path = os.path.join(self.folder.name, "large.wkt")
         begin, middle, times, end = made
@@ -178,20 +186,23 @@ class Files(Page):
             file.write(begin + "".join(middle.replace("#", str(k)) for k in range(times)) + end)
         begun, busy, process = time.time(), self.main_thread(), self.metric("ProcessTime")
         self.drop(path)
-        self.wait(lambda: "ccepted" in self.said("say"), 120 + 10 * self.size)
+        self.wait(lambda: "ccepted" in self.said("say"), 600)
         seconds, busy = time.time() - begun, (self.main_thread() - busy) / 1000
         process = self.metric("ProcessTime") - process
         os.remove(path)
+        self.note(
+            f"{what}: {seconds:.1f} s, {busy:.2f} s of the main thread, {process:.2f} s of the processor;"
+            f" {self.said('told')}"
+        )
+        self.assertLess(busy, seconds / 2)
+        return process
+
+    def plain(self, made):
+        """The processor time of a plain script for the same text."""
         self.script("window.text = arguments[0]", made)
         before = self.metric("ProcessTime")
         self.script(PLAIN)
-        plain = self.metric("ProcessTime") - before
-        self.note(
-            f"{self.size} MB, {what}: {seconds:.1f} s, {busy:.2f} s of the main thread, {process:.2f} s of the"
-            f" processor; {plain:.2f} s by a plain script; {self.said('told')}"
-        )
-        self.assertLess(busy, seconds / 2)
-        self.assertLess(process, PLAINS * plain)
+        return self.metric("ProcessTime") - before
 
     def test_stop(self):
         """What was read before one stopped is shown; a long line is stopped too."""
