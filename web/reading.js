@@ -18,7 +18,7 @@ const WARM = 1 << 20;
 const KEPT = 2 ** 30, IN_MEMORY = 2 ** 28;
 const FEED = 10;
 /** How often, in milliseconds, it says how far it is, and what is listed and drawn. */
-const TOLD = 160, LISTS = 600;
+const TOLD = 200, LISTS = 600;
 
 /** What the file can't be, said in a user's words. */
 export class Unreadable extends Error {}
