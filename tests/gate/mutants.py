@@ -7,8 +7,9 @@ function without clauses is held by those that call it.
 
 tests/data/mutants/SEEN says of each mutant in which state of its crate it was last seen refused, the oldest first.
 The state is made of the mutant, of its crate, and of the definitions of all crates below: where one changes, the mutant
-is stale. --stale tries those alone. --minutes N begins with no more after N minutes, and says how many are left.
-Mutants of crates/*/must-fail are not listed, since `rt ci` tries these each time.
+is stale. --stale tries those alone, and `promise-..`, of which each breaks a promise of the README. --minutes N begins
+with no more of the stale ones after N minutes, and says how many are left. Mutants of crates/*/must-fail are not
+listed, since `rt ci` tries these each time.
 
 It needs the toolchain, and what `rt ci` left in crates/CRATE/out.
 """
@@ -124,6 +125,10 @@ def note_refused(refused):
     SEEN.write_text("".join(f"{name} {state}\n" for name, state in rows.items() if name in known), encoding="utf-8")
 
 
+def is_promise(edit):
+    return edit.name.startswith("promise-")
+
+
 def wanted(given):
     """The mutants that are asked for; of the stale ones the oldest first."""
     edits = []
@@ -134,8 +139,8 @@ def wanted(given):
         return edits
     seen = seen_refused()
     ages = {name: age for age, name in enumerate(seen)}
-    stale = [it for it in edits if seen.get(f"{it.crate}/{it.name}") != state_of(it)]
-    return sorted(stale, key=lambda it: ages.get(f"{it.crate}/{it.name}", -1))
+    stale = [it for it in edits if is_promise(it) or seen.get(f"{it.crate}/{it.name}") != state_of(it)]
+    return sorted(stale, key=lambda it: -2 if is_promise(it) else ages.get(f"{it.crate}/{it.name}", -1))
 
 
 def main():
@@ -152,7 +157,9 @@ def main():
     until = time.time() + 60 * given.minutes
     refused, left, failed = {}, 0, 0
     with concurrent.futures.ThreadPoolExecutor(len(os.sched_getaffinity(0))) as pool:
-        answers = pool.map(lambda it: tried(it, words[it.crate]) if time.time() < until else None, edits)
+        answers = pool.map(
+            lambda it: tried(it, words[it.crate]) if is_promise(it) or time.time() < until else None, edits
+        )
         for edit, answer in zip(edits, answers):
             name = f"{edit.crate}/{edit.name}"
             if answer is None:

@@ -2,7 +2,7 @@
 """The mutants: edits that change what a function does, and that the checker has to refuse.
 
 tests/data/mutants/CRATE.txt has those of a crate, each under a heading `# NAME`; crates/CRATE/must-fail those that
-the gate tries, each in a file. An edit has a line `file: PATH`, and then pairs of lines `old: TEXT` and `new: TEXT`;
+`rt ci` tries, each in a file. An edit has a line `file: PATH`, and then pairs of lines `old: TEXT` and `new: TEXT`;
 each old text stands once in that file, when the pairs before it were applied.
 
 edits.py check [CRATE..]: whether each fits. edits.py write CRATE FOLDER: one file each.
