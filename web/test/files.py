@@ -151,6 +151,13 @@ class Files(Page):
         self.driver.find_element(By.CSS_SELECTOR, "input[name=split][value=one] + span").click()
         self.wait(lambda: self.said("say") == "The text is refused")
 
+    def test_long_line(self):
+        """Lines before and behind one that is longer than a piece of the file."""
+        self.open()
+        self.drop(self.file("POINT(1 2)\nLINESTRING(" + "1 2," * 1500000 + "1 2)\nPOINT(3 4)\nPOINT(1 2)\n"))
+        self.wait(lambda: self.said("say") == "All 4 lines accepted")
+        self.assertIn("line 4 = line 1", self.said("file-out"))
+
     def test_one_text_in_a_file(self):
         self.open()
         self.drop(self.file("LINESTRING (\n" + ",\n".join(f"{n} {n}" for n in range(40000)) + ")\n"))
