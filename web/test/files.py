@@ -22,7 +22,7 @@ return seen.size;
 # How many times the processor time of that a file of 8 MB may take, also on a busy machine. It was 0.4 to 2.2 times.
 PLAINS = 4
 # How often a larger one is read on an idle machine, until it is read fast enough: other guests slow the host down.
-TRIES = 5
+TRIES = 20
 
 
 class Files(Page):
