@@ -119,21 +119,24 @@ export class Reading {
     this.#file = new Blob([texts.join('\n')]);
   }
 
-  /** Reads whole lines from where the last were read to, about a piece of them; or all of the file. */
+  /** Reads whole lines from where the last were read to, about a piece of them; or one that is longer; or all of the file. */
   async #lines(whole) {
-    const { size } = this.#file;
     const begin = this.#read;
+    let seen = 0; // so much of a line has no line feed
     for (let length = PIECE; ; length *= 16) {
       const part = new Uint8Array(await this.#file.slice(begin, begin + Math.min(length, LONGEST + PIECE)).arrayBuffer());
       this.#read = begin + part.length;
-      const to = this.#read === size ? part.length : whole ? 0 : part.lastIndexOf(FEED) + 1;
+      const ends = this.#read === this.#file.size;
+      const feed = whole ? -1 : seen > 0 ? part.indexOf(FEED, seen) : ends ? part.length - 1 : part.lastIndexOf(FEED);
+      const to = feed >= 0 ? feed + 1 : ends ? part.length : 0;
       if (to > 0 || this.stopping) {
         this.#read = begin + to;
         return part.subarray(0, to);
       }
       if (part.length > LONGEST) throw new Unreadable(`A line behind line ${this.#count.lines} is longer than ${LONGEST >> 20} MB. The command wkt reads it.`);
       // Engines put faster code in place between calls alone, and one call answers a long line. So its front is read before.
-      if (length === PIECE) this.#wkt.reads(part.subarray(0, WARM), this.#asked.reading);
+      if (seen === 0) this.#wkt.reads(part.subarray(0, WARM), this.#asked.reading);
+      seen = part.length;
       this.#tell(false);
     }
   }
