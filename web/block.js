@@ -8,7 +8,7 @@ import { Tally } from './tally.js';
 
 /** A longer text is answered for itself: that is faster. Where it is refused, more of it isn't looked at. */
 const LONG = 1 << 20;
-const FEED = 10, RETURN = 13, REFUSED = 114; // `refused` alone begins with a small letter
+const TAB = 9, FEED = 10, RETURN = 13, SPACE = 32, REFUSED = 114; // `refused` alone begins with a small letter
 const LETTER = 65, OPEN = 40, CLOSE = 41;
 const refusedLine = new TextEncoder().encode('refused\n');
 const latin1 = new TextDecoder('latin1');
@@ -112,7 +112,7 @@ export class Refusals {
 /** Whether an answer is a kind and EMPTY: it has no parenthesis. */
 function isEmpty(answers, at) {
   let i = at;
-  while (answers[i] >= LETTER || answers[i] === 32) i++;
+  while (answers[i] >= LETTER || answers[i] === SPACE) i++;
   return answers[i] === FEED;
 }
 
@@ -137,7 +137,7 @@ function emptyEnd(bytes, from) {
 /** The first place from `from` on that is no white space, or a line feed. */
 function passSpace(bytes, from) {
   let at = from;
-  while (bytes[at] === 32 || bytes[at] === 13 || bytes[at] === 9) at++;
+  while (bytes[at] === SPACE || bytes[at] === RETURN || bytes[at] === TAB) at++;
   return at;
 }
 

@@ -4,6 +4,7 @@ import { Range } from './range.js';
 
 /** How many points of a file are drawn. */
 export const SAMPLE = 15000;
+const FEED = 10, SPACE = 32, MINUS = 45, POINT = 46, ZERO = 48, NINE = 57, LETTER_M = 77, LETTER_Z = 90;
 /** So many digits fit in a whole number of 32 bits. */
 const DIGITS = 9;
 const POWERS = Float64Array.from({ length: DIGITS + 1 }, (_, n) => 10 ** n);
@@ -67,10 +68,7 @@ export class Tally {
     return Object.fromEntries(KINDS.map((name, i) => [name, this.#counts[i]]).filter(([, n]) => n > 0));
   }
 
-  /**
-   * Adds the canonical text that begins at `at`, and returns the place of its line feed. Bytes stand as numbers, since names
-   * are slower where make.py joins the modules.
-   */
+  /** Adds the canonical text that begins at `at`, and returns the place of its line feed. */
   add(bytes, at) {
     this.#counts[kindAt(bytes, at)]++;
     const inner = this.#inner;
@@ -78,24 +76,24 @@ export class Tally {
     let axis = X, third = Z;
     let x = 0;
     let i = at;
-    for (let c = bytes[i]; c !== 10; c = bytes[i]) {
-      if (c > 57 || (c < 48 && c !== 45)) { // no number begins
-        if (c < 45 && c !== 32) axis = X; // ( ) ,
-        else if (c === 90) third = Z;
-        else if (c === 77 && bytes[i - 1] === 32) third = M; // the third number is m where the header says M and not ZM
+    for (let c = bytes[i]; c !== FEED; c = bytes[i]) {
+      if (c > NINE || (c < ZERO && c !== MINUS)) { // no number begins
+        if (c < MINUS && c !== SPACE) axis = X; // ( ) ,
+        else if (c === LETTER_Z) third = Z;
+        else if (c === LETTER_M && bytes[i - 1] === SPACE) third = M; // the third number is m where the header says M and not ZM
         low = Math.imul(low ^ c, ONE);
         i++;
         continue;
       }
       const from = i;
-      const begin = c === 45 ? i + 1 : i; // -
+      const begin = c === MINUS ? i + 1 : i;
       // A one before the digits of the fraction tells 5 from 05.
       let whole = 0, fraction = 0;
-      for (i = begin; (c = bytes[i]) > 47; i++) whole = (Math.imul(whole, 10) + c - 48) | 0;
+      for (i = begin; (c = bytes[i]) >= ZERO; i++) whole = (Math.imul(whole, 10) + c - ZERO) | 0;
       const point = i;
-      if (c === 46) { // .
+      if (c === POINT) {
         fraction = 1;
-        for (i++; (c = bytes[i]) > 47; i++) fraction = (Math.imul(fraction, 10) + c - 48) | 0;
+        for (i++; (c = bytes[i]) >= ZERO; i++) fraction = (Math.imul(fraction, 10) + c - ZERO) | 0;
       }
       const places = i - point - 1;
       let value;
@@ -126,9 +124,9 @@ export class Tally {
     for (let i = from; i < to; i++) {
       const c = bytes[i];
       low = Math.imul(low ^ (low >>> 15) ^ c, ONE);
-      if (c === 46) scale = 1;
-      if (c < 48) continue;
-      value = value * 10 + c - 48;
+      if (c === POINT) scale = 1;
+      if (c < ZERO) continue;
+      value = value * 10 + c - ZERO;
       scale *= 10;
     }
     this.#long = scale > 0 ? value / scale : value;
