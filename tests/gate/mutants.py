@@ -8,7 +8,7 @@ function without clauses is held by those that call it.
 tests/data/mutants/SEEN says of each mutant in which state of its crate it was last seen refused, the oldest first.
 The state is made of the mutant, of its crate, and of the definitions of all crates below: where one changes, the mutant
 is stale. --stale tries those alone, and `promise-..`, of which each breaks a promise of the README. --minutes N begins
-with no more of the stale ones after N minutes, and says how many are left. Mutants of crates/*/must-fail are not
+with no more of the stale ones N minutes later, and says how many are left. Mutants of crates/*/must-fail are not
 listed, since `rt ci` tries these each time.
 
 It needs the toolchain, and what `rt ci` left in crates/CRATE/out.
@@ -18,6 +18,7 @@ import argparse
 import concurrent.futures
 import functools
 import hashlib
+import itertools
 import os
 import pathlib
 import re
@@ -140,7 +141,7 @@ def wanted(given):
     seen = seen_refused()
     ages = {name: age for age, name in enumerate(seen)}
     stale = [it for it in edits if is_promise(it) or seen.get(f"{it.crate}/{it.name}") != state_of(it)]
-    return sorted(stale, key=lambda it: -2 if is_promise(it) else ages.get(f"{it.crate}/{it.name}", -1))
+    return sorted(stale, key=lambda it: ages.get(f"{it.crate}/{it.name}", -1))
 
 
 def main():
@@ -154,13 +155,13 @@ def main():
         static = {row.split()[0] for row in rows if " staticlib:" in row}
     edits = wanted(given)
     words = {crate: words_for(crate, uses, crate in static) for crate in {it.crate for it in edits}}
-    until = time.time() + 60 * given.minutes
     refused, left, failed = {}, 0, 0
     with concurrent.futures.ThreadPoolExecutor(len(os.sched_getaffinity(0))) as pool:
-        answers = pool.map(
-            lambda it: tried(it, words[it.crate]) if is_promise(it) or time.time() < until else None, edits
-        )
-        for edit, answer in zip(edits, answers):
+        promises, others = [[it for it in edits if is_promise(it) == is_one] for is_one in (True, False)]
+        first = [*pool.map(lambda it: tried(it, words[it.crate]), promises)]
+        until = time.time() + 60 * given.minutes
+        then = pool.map(lambda it: tried(it, words[it.crate]) if time.time() < until else None, others)
+        for edit, answer in zip(promises + others, itertools.chain(first, then)):
             name = f"{edit.crate}/{edit.name}"
             if answer is None:
                 left += 1
