@@ -59,7 +59,7 @@ export class Wkt {
     const length = this.#canonical(text, asking(places, whole, dialect));
     const end = engine.answer + length;
     if (!feed) return engine.bytes.slice(engine.answer, end);
-    engine.bytes[end] = 10; // there is room: an answer has less than 2 * length + 65
+    engine.bytes[end] = 10; // `lay` leaves room for it behind the longest answer
     return engine.bytes.slice(engine.answer, end + 1);
   }
 
