@@ -6,7 +6,7 @@ use Rattle.std.specs.Str.Parse.{IsNumeral, AllDigits, digits_value, digits_value
 use Rattle.std.proofs.lemmas.Int.Digits.{digits_value-lt}
 use Rattle.std.proofs.lemmas.List.{append-nil, drop_more, take_more, get_or-drop, get_or-take, length-take-le, drop-drop}
 use Rattle.std.proofs.Math.Seq.{take-add}
-use Rattle.std.proofs.Math.Nat.{le-mul_of_pos_right, pow-le-pow_right, mul-le-mul_right}
+use Rattle.std.proofs.Math.Nat.{mul-le-mul, le-mul_of_pos_right, pow-le-pow_right, mul-le-mul_right}
 use Rattle.std.proofs.lemmas.Bool.{cases_eq}
 use Rattle.std.proofs.lemmas.Nat.{pow-add}
 use borrow.Author.Tests.{eqb-true, ne_eqb}

@@ -27,7 +27,7 @@ pub fn canonical_prefix(places: Places, bytes: &[u8]) -> Option<(usize, usize)>
         return None;
     };
     if bytes[point] != b'.' {
-        if is_of_run(bytes[point]) || !is_whole_number(places, bytes, first, point) {
+        if !is_whole_number(places, bytes, first, point) || is_of_run(bytes[point]) {
             return None;
         }
         return Some((point, point));
@@ -134,25 +134,23 @@ pub(crate) fn after_minus(bytes: &[u8]) -> usize
     }
 }
 
-/// Whether these digits, behind a minus or none, are a whole number as it is printed, with which the units fit. Of none of
-/// them the byte at `first` ends the run, and such bytes are less than digits. A zero that stands first is the whole of it,
-/// so it ends behind one byte.
+/// Whether these digits, behind a minus or none, are a whole number as it is printed, with which the units fit. A zero that
+/// stands first is the whole of it, so it ends behind one byte.
 #[inline(always)]
 fn is_whole_number(places: Places, bytes: &[u8], first: usize, end: usize) -> bool
     requires order { first ≤ end }
-    requires within { end < length bytes.now }
+    requires within { end ≤ length bytes.now }
     requires minus { first ≤ 1 }
     requires digits { AllDigits 10 (slice_range bytes.now first end) }
-    requires stops { class_of (slice_index bytes.now end) ≢ Run }
     ensures whole { OnTrue result (IsWholePart places bytes.now first end) }
     ensures zero { OnTrue result (first ≡ 1 → slice_index bytes.now first ≢ 48) }
     ensures other { OnFalse result (IsWholePart places bytes.now first end → (first ≡ 1) × (slice_index bytes.now first ≡ 48)) }
 {
-    let most = places.most_whole();
-    if bytes[first] > b'0' {
-        return end - first <= most;
+    let count = end - first;
+    if count == 0 || count > places.most_whole() {
+        return false;
     }
-    bytes[first] == b'0' && end == 1
+    bytes[first] != b'0' || end == 1
 }
 
 /// Whether these digits are a whole part as it is printed, with which the units fit.

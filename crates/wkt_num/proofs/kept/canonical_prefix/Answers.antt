@@ -5,7 +5,7 @@ use Rattle.wkt_num.specs.Bytes.{class_of, Run}
 use Rattle.wkt_num.proofs.DecimalParts.{keeps-whole, keeps-plain}
 use Rattle.wkt_num.proofs.FoundDecimal.{point-low, point-ends, met, passed, ended, end-ends, found-same}
 use Rattle.wkt_num.proofs.kept.canonical_prefix.Goals as goal
-use Rattle.wkt_num.proofs.kept.canonical_prefix.Goals.{then-is_of_run-via-then-is_of_run, then-is_of_run-via-else-is_of_run+then-not-is_whole_number}
+use Rattle.wkt_num.proofs.kept.canonical_prefix.Goals.{then-not-is_whole_number-via-then-not-is_whole_number, then-not-is_whole_number-via-else-not-is_whole_number+then-is_of_run}
 
 pub returns-then-bytes-point-ne46-clause-keeps : goal.returns-then-bytes-point-ne46-clause-keeps
 returns-then-bytes-point-ne46-clause-keeps c =
@@ -25,15 +25,15 @@ returns-in_default-clause-finds c end t less =
     let a = c.after_minus-first in
     absurd (point-ends D bs end a.result t a.ensures.minus a.ensures.sign a.ensures.none 32 (omega (arith, less, point-low D bs end a.result t a.ensures.minus a.ensures.sign a.ensures.none)) c.requires c.in_default.ensures.none)
 
-pub returns-then-is_of_run-clause-finds : goal.returns-then-is_of_run-clause-finds
-returns-then-is_of_run-clause-finds c end t less =
+pub returns-then-not-is_whole_number-clause-finds : goal.returns-then-not-is_whole_number-clause-finds
+returns-then-not-is_whole_number-clause-finds c end t less =
     let a = c.after_minus-first in
     let p = c.in-Some.ensures.some in
     let m = met c.args.places c.args.bytes.now end a.result t a.ensures.minus a.ensures.sign a.ensures.none c.in-Some.point p.order (omega (arith, p.within, c.requires)) p.digits (λ _. p.other) in
     let all = m.alone (λ _. c.if-bytes-point-ne46.true) in
-    elim c.then-is_of_run.branch [
-      | then-is_of_run-via-then-is_of_run v ↦ absurd (t.stops (omega (arith, less, c.requires)) (subst (λ (n : ℕ). class_of (get_or c.args.bytes.now n 0) ≡ Run) all.0 v.if-is_of_run.ensures))
-      | then-is_of_run-via-else-is_of_run+then-not-is_whole_number v ↦ let zero = v.if-not-is_whole_number.ensures.other m.whole in absurd (all.1 zero.0 zero.1)
+    elim c.then-not-is_whole_number.branch [
+      | then-not-is_whole_number-via-then-not-is_whole_number v ↦ let zero = v.if-not-is_whole_number.ensures.other m.whole in absurd (all.1 zero.0 zero.1)
+      | then-not-is_whole_number-via-else-not-is_whole_number+then-is_of_run v ↦ absurd (t.stops (omega (arith, less, c.requires)) (subst (λ (n : ℕ). class_of (get_or c.args.bytes.now n 0) ≡ Run) all.0 v.if-is_of_run.ensures))
     ]
 
 pub returns-then-bytes-point-ne46-clause-finds : goal.returns-then-bytes-point-ne46-clause-finds
