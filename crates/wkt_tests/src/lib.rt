@@ -3,7 +3,7 @@
 //!
 //! Below stand `wkt`, the crates that it is made of, `wkt_lines`, and what tests share. Tests of one crate that reads are
 //! those of `wkt_read_tests`, tests that need no reading those of `wkt_type_tests`, and tests of proved callers those of
-//! `wkt_examples`.
+//! `wkt_example_tests`.
 #![tactic(auto)]
 
 #[cfg(test)]

@@ -1,8 +1,5 @@
 //! The error that a sink or a source gave is the one that comes: its kind, its code and its words.
 use crate::equal;
-use crate::flat_from_reader::{CopyError, copy_polygon};
-use crate::my_sinks::{Page, Piecewise};
-use crate::one_text::write_flat_key;
 use std::alloc::Global;
 use std::io;
 use std::io::ErrorKind;
@@ -11,6 +8,9 @@ use wkt::geo_types::{Geometry, LineString, Point, Polygon};
 use wkt::geo_types_from_wkt::Error as FlatError;
 use wkt::to_wkt::{ByteSink, ByteSource, ReadAllError, TextSink, WriterWrapper, put_all, read_all};
 use wkt::{ToWkt, ToWktError, TryFromWkt};
+use wkt_examples::flat_from_reader::{CopyError, copy_polygon};
+use wkt_examples::my_sinks::{Page, Piecewise};
+use wkt_examples::one_text::write_flat_key;
 use wkt_lines::{RunError, run, stream};
 
 /// Which error a sink or a source gives.

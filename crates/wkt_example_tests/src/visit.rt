@@ -1,12 +1,12 @@
 //! Walks over the coordinates of two-dimensional geometries, and the callers that make them.
 use crate::equal;
-use crate::from_text::box_of_text;
-use crate::one_text::{counts, keys};
 use std::alloc::Global;
 use std::process::Abort;
 use wkt::geo_types::{Coord, Geometry, Line, Rect, Triangle};
 use wkt::walks::{Visitor, bounding_rect, num_coords, visit_coords};
 use wkt::{Decimal, ToWkt, TryFromWkt};
+use wkt_examples::from_text::box_of_text;
+use wkt_examples::one_text::{counts, keys};
 
 // A text, how many coordinates its geometry has, and the text of the least rectangle around it, if there is one.
 const WALKED: &[(&str, usize, &str)] = &[

@@ -1,10 +1,6 @@
 //! The callers and examples that answer a text, over rows of texts and what they give. Memory that runs out is an error,
 //! which `tests/gate/each_growth.sh` tries at each allocation.
 use crate::equal;
-use crate::my_builder::has_empty;
-use crate::my_number::Half;
-use crate::one_text::{flat_key, same_place, tidy, tidy_if_any, tidy_pair};
-use crate::refusal::{Answer, answer_to};
 use std::alloc::{AllocError, Global};
 use std::fmt::Display;
 use std::process::Abort;
@@ -12,6 +8,10 @@ use std::test::Fail;
 use wkt::geo_types::Geometry;
 use wkt::geo_types_from_wkt::Error;
 use wkt::{AnyError, Decimal, TryFromWkt};
+use wkt_examples::my_builder::has_empty;
+use wkt_examples::my_number::Half;
+use wkt_examples::one_text::{flat_key, same_place, tidy, tidy_if_any, tidy_pair};
+use wkt_examples::refusal::{Answer, answer_to};
 
 type Number = Decimal<6>;
 

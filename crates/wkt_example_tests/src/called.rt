@@ -1,15 +1,5 @@
 //! The other callers and examples, each called.
-use crate::any_geometry::{count_members, first_member, write_members};
 use crate::equal;
-use crate::every_geometry::{every_geometry, every_geometry_of_stream};
-use crate::flat_from_reader::{CopyError, copy_polygon};
-use crate::from_text::geometry_in;
-use crate::json_service::serve;
-use crate::key::key;
-use crate::my_map::{Figure, Map};
-use crate::my_sinks::{Page, Piecewise, answers};
-use crate::one_text::write_flat_key;
-use crate::scene::{Layer, scene_text};
 use serde_json::Value;
 use std::alloc::Global;
 use std::process::Abort;
@@ -19,6 +9,16 @@ use wkt::geo_types::{Coord, Geometry, Line, LineString, Point};
 use wkt::to_wkt::CountedText;
 use wkt::tokenizer::{PeekableTokens, Tokens};
 use wkt::{Decimal, ToWktError, TryFromWkt};
+use wkt_examples::any_geometry::{count_members, first_member, write_members};
+use wkt_examples::every_geometry::{every_geometry, every_geometry_of_stream};
+use wkt_examples::flat_from_reader::{CopyError, copy_polygon};
+use wkt_examples::from_text::geometry_in;
+use wkt_examples::json_service::serve;
+use wkt_examples::key::key;
+use wkt_examples::my_map::{Figure, Map};
+use wkt_examples::my_sinks::{Page, Piecewise, answers};
+use wkt_examples::one_text::write_flat_key;
+use wkt_examples::scene::{Layer, scene_text};
 use wkt_lines::RunError;
 
 /// Two groups of nothing.

@@ -1,8 +1,5 @@
 //! The custom representation of `my_map`, written by all eleven writers.
 use crate::equal;
-use crate::my_map::{Area, Areas, Corners, Figure, Map, Segment, Track, Tracks};
-use crate::my_points::{Dot, Dots, Spot};
-use crate::my_sinks::Paper;
 use std::alloc::Global;
 use std::process::Abort;
 use wkt::error::Error;
@@ -12,6 +9,9 @@ use wkt::to_wkt::{
     write_linestring, write_multi_linestring, write_multi_point, write_multi_polygon, write_point,
     write_polygon, write_rect, write_triangle,
 };
+use wkt_examples::my_map::{Area, Areas, Corners, Figure, Map, Segment, Track, Tracks};
+use wkt_examples::my_points::{Dot, Dots, Spot};
+use wkt_examples::my_sinks::Paper;
 
 fn spot(rt: &impl Abort, alloc: Global, x: i32, y: i32, others: &[i32]) -> Spot {
     let first: &[i32] = &[x, y];
