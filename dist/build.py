@@ -4,7 +4,7 @@ left.
 
 Of a library for wasm64 it is the archive, which the linker takes.
 
-With INCREMENTAL=yes the proof begins with what `rt check` left of the crate, in a copy.
+With INCREMENTAL=yes the proof begins with what the gate or `rt check` left of the crate, in a copy.
 """
 import os
 import shutil

@@ -4,7 +4,7 @@
 # build.sh [--twice] FILE: into that file. It proves and builds the crate for WebAssembly with addresses of 64 bits, over the
 # libraries that `rt ci` left in crates/*/out/rlib, links it, and lowers the addresses to 32 bits by binaryen's wasm-opt, since
 # not every engine has the wide ones. It fails where the module imports anything.
-# --twice: two builds have to have the same bytes. INCREMENTAL=yes: the proof begins with what `rt check` left of the crate.
+# --twice: two builds have to have the same bytes. INCREMENTAL=yes: the proof begins with what the gate or `rt check` left of the crate.
 # build.sh [--twice] --dist: into dist/wasm, with a PROVENANCE. Run it after .ci/run, in that checkout.
 set -eu
 cd "$(dirname "$0")/.."

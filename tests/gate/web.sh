@@ -1,10 +1,11 @@
 #!/usr/bin/env bash
 # Tests what is made for JavaScript: the module wkt.wasm, the package over it, the examples of its README, and the page.
 #
-# It builds the module by web/build.sh, over the libraries that rt ci left, and compares it with dist/wasm/wkt.wasm. WKT_WASM
-# names a module that is built already: WKT_WASM=dist/wasm/wkt.wasm needs nothing of the prover. The package has to give the
-# answers of the native library to 40,000 texts: LIB names it (capi/out/libwkt.so). The examples of javascript/README.md
-# run in the package as it is packed, and each value that the page writes behind a call is compared.
+# It builds the module by web/build.sh, over the libraries that rt ci left and with the proofs that the gate kept of the
+# library for C, and compares it with dist/wasm/wkt.wasm. WKT_WASM names a module that is built already:
+# WKT_WASM=dist/wasm/wkt.wasm needs nothing of the prover. The package has to give the answers of the native library to
+# 40,000 texts: LIB names it (capi/out/libwkt.so). The examples of javascript/README.md run in the package as it is packed,
+# and each value that the page writes behind a call is compared.
 #
 # It needs Node 18 or later, tsc, Python and, for the page, Chromium and Selenium (tests/needs.sh installs them). SKIP=types
 # passes tsc over, SKIP=page the page, SKIP=esbuild, rollup or webpack that bundler.
@@ -20,7 +21,7 @@ dir=$(mktemp -d)
 trap 'rm -rf "$dir"' EXIT
 
 module=${WKT_WASM:-$dir/wkt.wasm}
-[ -n "${WKT_WASM:-}" ] || web/build.sh "$module" || fail "the module isn't built"
+[ -n "${WKT_WASM:-}" ] || INCREMENTAL=yes web/build.sh "$module" || fail "the module isn't built"
 module=$(readlink -f "$module")
 [ -e "$module" ] || fail "no module: $module"
 export WKT_WASM=$module

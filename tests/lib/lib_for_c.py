@@ -6,6 +6,9 @@ can begin with. Where `rt ci` left none, or what it left doesn't serve, the stat
 
 --when-proved ENDED FILE: beside an `rt ci` that is yet to come or runs. It waits until each of those libraries stands
 anew, and builds FILE, with what processors are free. It gives up when the file ENDED is there and a library isn't.
+
+What it proves is kept beside the library, in a folder `incremental`, with which a build for another processor can
+begin.
 """
 
 import os
@@ -84,6 +87,8 @@ def main():
         f"{kit}/toolchain",
         "--backend",
         "llvm",
+        "--incremental",
+        os.path.join(os.path.dirname(to), "incremental"),
     ]
     how = {"cwd": f"{TOP}/crates/{CRATE}", "stdout": subprocess.DEVNULL}
     return subprocess.run([f"{kit}/bin/rattle", "build", *words, "-o", to], **how).returncode
