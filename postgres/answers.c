@@ -14,9 +14,8 @@ void fail_with_places(int32 most) {
 }
 
 static void fail_with_dialect(const char *name, size_t length) {
-    int shown = pg_mbcliplen(name, (int)length, 60);
-    const char *hint = DIALECT_HINT, *more = (size_t)shown < length ? ".." : "";
-    ereport(ERROR, (errcode(ERRCODE_INVALID_PARAMETER_VALUE), errmsg("unknown dialect: \"%.*s%s\"", shown, name, more),
+    const char *hint = DIALECT_HINT;
+    ereport(ERROR, (errcode(ERRCODE_INVALID_PARAMETER_VALUE), errmsg("unknown dialect: \"%s\"", quoted(name, length)),
                     errhint("%c%s.", pg_toupper((unsigned char)hint[0]), hint + 1)));
 }
 
@@ -75,9 +74,10 @@ Question question_of_text(text *given, uint32_t places) {
     return question_of(VARDATA_ANY(given), VARSIZE_ANY_EXHDR(given), places);
 }
 
-/* What no text brings about: no memory, say. */
+void fail_without_memory(void) { ereport(ERROR, (errcode(ERRCODE_OUT_OF_MEMORY), errmsg("out of memory"))); }
+
+/* What no text brings about. */
 static void fail_with(wkt_status status) {
-    if (status == WKT_NO_MEMORY) ereport(ERROR, (errcode(ERRCODE_OUT_OF_MEMORY), errmsg("out of memory")));
     ereport(ERROR, (errcode(ERRCODE_INTERNAL_ERROR), errmsg("wkt: %s", wkt_message(status))));
 }
 
@@ -178,7 +178,6 @@ bool header_from(Datum given, uint32_t *kind, uint32_t *dimension) {
     Question asked = question_of_front(given);
     Call call = {.asked = &asked};
     wkt_status status = make_call(call_infer, &call, asked.length);
-    if (status == WKT_NO_MEMORY) fail_with(status);
     *kind = call.kind;
     *dimension = call.dimension;
     return status == WKT_OK;

@@ -2,8 +2,9 @@
  *
  * The library looks for no interrupt. So while it works on a long text a timer ticks, and the first tick after a cancel leaves
  * the call by siglongjmp. The library keeps nothing from call to call, and what it holds during one is memory: this file has a
- * list of that, since the Makefile has the linker take malloc, realloc and free from here. No call is left amid one of these
- * three, nor amid a handler of the server's. */
+ * list of that, since the Makefile has the linker take malloc, calloc, realloc and free from here. No call is left amid one of
+ * these, nor amid a handler of the server's. In portable C alone the library takes memory by calloc, and keeps some from call
+ * to call: then no call is left, and a cancel is served behind it. */
 #include "wkt_pg.h"
 
 #include <setjmp.h>
@@ -20,6 +21,7 @@
 static sigjmp_buf call_left;
 static volatile sig_atomic_t may_leave; /* the library's own code runs, in a long call */
 static bool was_left;                   /* the call is made again */
+static bool keeps_memory;               /* the library does, from call to call */
 static struct sigaction handler_before;
 static struct itimerval timer_before;
 static sigset_t mask_before;
@@ -40,7 +42,7 @@ static bool is_interrupted(void) {
 static void tick(int number, siginfo_t *info, void *context) {
     const sigset_t *mask = &((const ucontext_t *)context)->uc_sigmask;
     (void)number, (void)info;
-    if (!may_leave || memcmp(mask, &mask_before, (_NSIG - 1) / 8) != 0 || !is_interrupted()) return;
+    if (!may_leave || keeps_memory || memcmp(mask, &mask_before, (_NSIG - 1) / 8) != 0 || !is_interrupted()) return;
     may_leave = 0;
     siglongjmp(call_left, 1);
 }
@@ -70,9 +72,11 @@ typedef union Block {
 static Block blocks = {{&blocks, &blocks}};
 
 extern void *__real_malloc(size_t size);
+extern void *__real_calloc(size_t count, size_t size);
 extern void *__real_realloc(void *at, size_t size);
 extern void __real_free(void *at);
 extern void *__wrap_malloc(size_t size);
+extern void *__wrap_calloc(size_t count, size_t size);
 extern void *__wrap_realloc(void *at, size_t size);
 extern void __wrap_free(void *at);
 
@@ -93,6 +97,16 @@ void *__wrap_malloc(size_t size) {
     return at;
 }
 
+void *__wrap_calloc(size_t count, size_t size) {
+    sig_atomic_t might = may_leave;
+    void *at = NULL;
+    keeps_memory = true;
+    set_may_leave(0);
+    if (size == 0 || count <= PTRDIFF_MAX / size) at = put(__real_calloc(1, sizeof(Block) + count * size), true);
+    set_may_leave(might);
+    return at;
+}
+
 void *__wrap_realloc(void *old, size_t size) {
     sig_atomic_t might = may_leave;
     void *at;
@@ -105,8 +119,9 @@ void *__wrap_realloc(void *old, size_t size) {
 
 void __wrap_free(void *at) {
     sig_atomic_t might = may_leave;
-    Block *block = (Block *)at - 1;
+    Block *block;
     if (at == NULL) return;
+    block = (Block *)at - 1;
     set_may_leave(0);
     block->before->after = block->after;
     block->after->before = block->before;

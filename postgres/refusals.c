@@ -65,16 +65,49 @@ static Refusal refusal_of(const Question *asked) {
     return refusal;
 }
 
+/* Neither a control character, but for the tab, nor a space but for the usual one, nor what is unseen, ends a line or changes
+ * its direction. */
+static bool is_printable(uint32 c) {
+    static const uint32 others[][2] = {{0, 8},           {10, 0x1F},       {0x7F, 0xA0},     {0xAD, 0xAD},
+                                       {0x61C, 0x61C},   {0x180E, 0x180E}, {0x2000, 0x200F}, {0x2028, 0x202F},
+                                       {0x205F, 0x206F}, {0x3000, 0x3000}, {0xFEFF, 0xFEFF}};
+    for (size_t i = 0; i < lengthof(others); i++)
+        if (c >= others[i][0] && c <= others[i][1]) return false;
+    return true;
+}
+
+/* Of a character beyond ASCII in another encoding than UTF-8 one that is printable. */
+static uint32 code_point_of(const char *at) {
+    if ((unsigned char)*at < 0x80) return (unsigned char)*at;
+    return GetDatabaseEncoding() == PG_UTF8 ? utf8_to_unicode((const unsigned char *)at) : 0xFFFD;
+}
+
+/* The front of a text as a message shows it. What isn't printable stands there by its number, as \x1b or \u{202e}: raw it could
+ * move a cursor, or look like another line of the message. */
+char *quoted(const char *given, size_t length) {
+    const char *end = given + pg_mbcliplen(given, (int)length, 60), *more = given + length > end ? ".." : "";
+    StringInfoData said;
+    initStringInfo(&said);
+    for (int size; given < end; given += size) {
+        uint32 c = code_point_of(given);
+        size = pg_mblen(given);
+        if (is_printable(c))
+            appendBinaryStringInfo(&said, given, size);
+        else
+            appendStringInfo(&said, c < 0x80 ? "\\x%02x" : "\\u{%x}", c);
+    }
+    appendStringInfoString(&said, more);
+    return said.data;
+}
+
 /* The error of a refusal, soft where the caller has a context for it. */
 Datum refuse(Node *context, const Question *asked) {
-    int shown = pg_mbcliplen(asked->given, (int)asked->length, 60);
-    const char *more = (size_t)shown < asked->length ? ".." : "";
     Refusal refusal = refusal_of(asked);
 
     ereturn(context, (Datum)0,
             (errcode(ERRCODE_INVALID_TEXT_REPRESENTATION),
-             errmsg("invalid well-known text: \"%.*s%s\"", shown, asked->given, more), errdetail("%s", refusal.message),
-             refusal.hint ? errhint("%s", refusal.hint) : 0));
+             errmsg("invalid well-known text: \"%s\"", quoted(asked->given, asked->length)),
+             errdetail("%s", refusal.message), refusal.hint ? errhint("%s", refusal.hint) : 0));
 }
 
 static void put_text(Datum *row, bool *nulls, int column, const char *said) {

@@ -20,6 +20,7 @@ unpacked() {
     mkdir -p "$root/wkt/tests/data"
     cp -r "$here" "$root/wkt/postgres"
     cp "$here"/../tests/data/key*.tsv "$root/wkt/tests/data/"
+    cp "$here"/../SECURITY.md "$root/wkt/"
     cp -r "$wkt" "$root/wkt/library"
 }
 # inside COMMAND..: in that Debian, with its own processes and shared memory

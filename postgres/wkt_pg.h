@@ -47,14 +47,19 @@ extern wkt_status long_call(wkt_status (*function)(Call *), Call *call);
 /* What the library reads within some 30 milliseconds. */
 #define LONG_CALL (1 << 20)
 
-/* Makes a call on so many bytes. A cancel or a timeout ends it within a second, also amid a long text. The functions are
- * inline, so that a short text is read without a call through a pointer. */
+/* answers.c */
+extern void fail_without_memory(void);
+
+/* Makes a call on so many bytes; no memory is an error. A cancel or a timeout ends it within a second, also amid a long text.
+ * The functions are inline, so that a short text is read without a call through a pointer. */
 static inline wkt_status make_call(wkt_status (*function)(Call *), Call *call, size_t length) {
+    wkt_status status;
     CHECK_FOR_INTERRUPTS();
-    return length < LONG_CALL ? function(call) : long_call(function, call);
+    status = length < LONG_CALL ? function(call) : long_call(function, call);
+    if (status == WKT_NO_MEMORY) fail_without_memory();
+    return status;
 }
 
-/* answers.c */
 extern void fail_with_places(int32 most);
 extern uint32_t asked_of(FunctionCallInfo fcinfo, int at, int32 most);
 extern Question question_of(const char *given, size_t length, uint32_t places);
@@ -72,6 +77,7 @@ static inline uint32_t places_of(int32 places, int32 most) {
 }
 
 /* refusals.c */
+extern char *quoted(const char *given, size_t length);
 extern Datum refuse(Node *context, const Question *asked);
 
 /* parts.c */

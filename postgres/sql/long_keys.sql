@@ -9,8 +9,10 @@ ALTER TABLE stored ALTER packed SET STORAGE extended;
 INSERT INTO stored SELECT at, at FROM (SELECT ('LINESTRING(' || repeat('1 2,', 1000) || '1 2)')::wkt AS at) a;
 SELECT length(at::text), pg_column_size(at), pg_column_size(packed) < 500 AS is_smaller FROM stored;
 DROP TABLE stored;
--- A btree takes 2704 bytes
+-- A btree takes keys of up to 2692 bytes
 CREATE TABLE places (at wkt PRIMARY KEY);
+INSERT INTO places SELECT ('LINESTRING(' || repeat('1 2,', 669) || repeat('1', 2) || ' 2)')::wkt AS at RETURNING length(at);
+INSERT INTO places SELECT ('LINESTRING(' || repeat('1 2,', 669) || repeat('1', 3) || ' 2)')::wkt AS at RETURNING length(at);
 INSERT INTO places SELECT line_of(1000)::wkt;
 -- The hash way: any length, by an exclusion constraint
 CREATE TABLE by_hash (at wkt, EXCLUDE USING hash (at WITH =));

@@ -51,6 +51,10 @@ SELECT (wkt_explain(t, 6)).cause, count(*) FROM (VALUES ('POINT(1'), ('POINT(1 2
 SELECT count(*) AS others FROM (VALUES ('POINT(1 2)'), ('POINT(1'), ('POINT(1.5 2)'), ('POINT(200000000000000000000 2)'), ('x'), ('POINT(1 2) x')) v(t), generate_series(0, 18) p, wkt_read(t, p) r, wkt_explain(t, p) e
     WHERE (r.place, r.expected, r.cause, r.hint, r.message) IS DISTINCT FROM (e.place, e.expected, e.cause, e.hint, e.message);
 SELECT wkt_explain('POINT(1 2)') IS NULL AS is_null, wkt_explain('POINT(1') IS NULL AS is_not;
+-- What isn't printable stands in a message by its number
+SELECT wkt_canonical(E'\x1b[2J\x07\n\tPOINT(1 2)\x7f');
+SELECT wkt_canonical(U&'\202EPOINT(1 2)\00A0\00E9\+01F600' || repeat(U&'\0085', 30));
+SELECT wkt_canonical('POINT(1 2)', 18, E'\x1b');
 -- Of the type
 SELECT 'POINT(1)'::wkt;
 SELECT ''::wkt;

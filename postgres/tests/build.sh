@@ -26,6 +26,27 @@ printf '#include "postgres.h"\n#undef SIZEOF_DATUM\n#define SIZEOF_DATUM 4\n#inc
 make -s -C "$dir/built" PG_CONFIG="$config" WKT_LIB_DIR="$dir/library" narrow.o > "$dir/make.log" 2>&1 && wrong "build: compiled for a server of 32 bits"
 grep -q 'wkt needs a server of 64 bits' "$dir/make.log" || wrong "build: a server of 32 bits: $(cat "$dir/make.log")"
 
+# A library that takes memory by calloc too, as portable C does, and has none to say why a text is refused.
+cat > "$dir/taken.c" <<'C'
+#include <stdlib.h>
+const char *wkt_version(void);
+const char *wkt_version(void) {
+    char *volatile at = calloc(100, 1000);
+    const char *said = at && at[99999] == 0 ? "taken and given back" : "not 0";
+    at = realloc(at, 200000);
+    free(at);
+    return calloc(2, (size_t)-1) ? "too much" : said;
+}
+int wkt_explain(void);
+int wkt_explain(void) { return 22; }
+C
+gcc -fPIC -fno-builtin -Wno-alloc-size-larger-than -c "$dir/taken.c" -o "$dir/taken.o"
+objcopy --redefine-sym wkt_version=is_version --redefine-sym wkt_explain=is_explained "$dir/library/libwkt.a"
+ar r "$dir/library/libwkt.a" "$dir/taken.o"
+made > "$dir/said"
+is "build: memory by calloc" "taken and given back" "$("$bin/psql" -X -q -At -c "create function pg_temp.taken() returns text as '$dir/built/wkt.so', 'pg_wkt_version' language c" -c "select pg_temp.taken()" 2>&1)"
+is "build: no memory to say why" "ERROR:  out of memory" "$("$bin/psql" -X -q -At -c "create function pg_temp.canonical(text, int) returns text as '$dir/built/wkt.so', 'pg_wkt_canonical' language c" -c "select pg_temp.canonical('POINT(1', 18)" 2>&1)"
+
 # On a processor that the library isn't built for.
 printf 'int wkt_supported(void);\nint wkt_supported(void) { return 0; }\n' > "$dir/unsupported.c"
 gcc -fPIC -c "$dir/unsupported.c" -o "$dir/unsupported.o"

@@ -23,6 +23,15 @@ ask page "insert into places select 10 + n, at::wkt from unnest('{POINT EMPTY,MU
 extents="from places where (extent(at)).x && '[0,5]' and (extent(at)).y && '[0,5]'"
 is "queries: extents" "1 1 14 15" "$(ask page "set enable_seqscan = off" "select id $extents order by id" | paste -sd ' ')"
 [[ $(ask page "set enable_seqscan = off" "explain select id $extents") == *"Index Scan using places_x_y_idx"* ]] || wrong "queries: extents without their index"
+# How long all paths of a value are, where they take most, as SECURITY.md says.
+for shape in "points LINESTRING 5000" "each MULTIPOINT 3333"; do
+    read -r call kind rows <<< "$shape"
+    said=$(sed -n "s/.*n²\/\([0-9]*\)[^\`]*\`wkt_$call\`.*/\1/p" "$here/../SECURITY.md")
+    is "queries: paths of wkt_$call" "$said" "$(ask page "select round(length(at)::numeric ^ 2 / sum(4 * cardinality(path))) from (
+        select (repeat('GEOMETRYCOLLECTION(', 1000) || '$kind(' || repeat('1 2,', $rows) || '1 2' || repeat(')', 1001))::wkt at) a, wkt_$call(at) group by at")"
+done
+is "queries: nested collections are left out" "POINT(1 2) GEOMETRYCOLLECTION(POINT(1 2))" "$(ask page "select string_agg(at::text, ' ' order by n) from unnest('{POINT(1 2),GEOMETRYCOLLECTION(POINT(1 2)),\
+    GEOMETRYCOLLECTION(GEOMETRYCOLLECTION EMPTY)}'::text[]::wkt[]) with ordinality a(at, n) $(sed -n 's/.*`\(WHERE at::text NOT LIKE [^`]*\)`.*/\1/p' "$here/../SECURITY.md")")"
 # An exclusion with another column, and long values: as many as don't overlap.
 long="('LINESTRING(' || repeat('0.123456 1,', 1000) || '2 3)')::wkt"
 ask page "insert into bookings values ($long, '[2026-01-01, 2026-01-02)'), ($long, '[2026-01-02, 2026-01-03)'), ('POINT(1 2)', '[2026-01-01, 2026-01-02)')"
