@@ -22,7 +22,8 @@ int parts_in(const char *canonical, size_t length) {
 
 typedef struct Cursor {
     sqlite3_vtab_cursor base;
-    char *text; /* the canonical text */
+    char *text;                  /* the canonical text */
+    sqlite3_value *arguments[2]; /* what the two hidden columns have */
     Scanner scan;
     sqlite3_int64 row;
     int has_row;
@@ -48,7 +49,7 @@ static void put_span(sqlite3_context *context, Span span) {
     if (span.length > 0) sqlite3_result_text64(context, span.at, span.length, SQLITE_TRANSIENT, SQLITE_UTF8);
 }
 
-static void put_made(sqlite3_context *context, sqlite3_str *made) {
+void put_made(sqlite3_context *context, sqlite3_str *made) {
     int status = sqlite3_str_errcode(made), length = sqlite3_str_length(made);
     char *said = sqlite3_str_finish(made);
     if (status == SQLITE_OK)
@@ -148,6 +149,8 @@ static int best_index(sqlite3_vtab *table, sqlite3_index_info *info) {
         info->aConstraintUsage[at[argument]].omit = 1;
         info->idxNum |= 1 << argument;
     }
+    /* Without a text there are no rows, so that way costs what it did: more than any other. */
+    if (!(info->idxNum & 1)) return SQLITE_OK;
     info->estimatedCost = 1000;
     info->estimatedRows = 100;
     return SQLITE_OK;
@@ -165,6 +168,10 @@ static int open_cursor(sqlite3_vtab *table, sqlite3_vtab_cursor **cursor) {
 static void forget(Cursor *cursor) {
     sqlite3_free(cursor->text);
     sqlite3_free(cursor->scan.path);
+    for (int i = 0; i < 2; i++) {
+        sqlite3_value_free(cursor->arguments[i]);
+        cursor->arguments[i] = NULL;
+    }
     cursor->text = NULL;
     cursor->scan = scan_over("", 0);
     cursor->has_row = 0;
@@ -184,6 +191,12 @@ static int next(sqlite3_vtab_cursor *base) {
     return cursor->scan.failed ? SQLITE_NOMEM : SQLITE_OK;
 }
 
+/* SQLite may compare a hidden column with its argument once more, and a query may ask for it. */
+static int keeps(Cursor *cursor, int argument, sqlite3_value *value) {
+    cursor->arguments[argument] = sqlite3_value_dup(value);
+    return cursor->arguments[argument] != NULL;
+}
+
 static int filter(sqlite3_vtab_cursor *base, int given, const char *name, int count, sqlite3_value **values) {
     Cursor *cursor = (Cursor *)base;
     Question asked;
@@ -194,6 +207,8 @@ static int filter(sqlite3_vtab_cursor *base, int given, const char *name, int co
     if (!(given & 1)) return SQLITE_OK;
     for (int i = 0; i < count; i++)
         if (sqlite3_value_type(values[i]) == SQLITE_NULL) return SQLITE_OK;
+    /* Before it is read as a number, which it stays. */
+    if (count > 1 && !keeps(cursor, 1, values[1])) return SQLITE_NOMEM;
     status = canonical_of(values[0], asked_of(count, values, 1), &asked, &cursor->text, &length);
     if (status != WKT_OK) {
         cursor->text = NULL;
@@ -203,6 +218,7 @@ static int filter(sqlite3_vtab_cursor *base, int given, const char *name, int co
         base->pVtab->zErrMsg = error_of(&asked, status);
         return base->pVtab->zErrMsg ? SQLITE_ERROR : SQLITE_NOMEM;
     }
+    if (!keeps(cursor, 0, values[0])) return SQLITE_NOMEM;
     cursor->scan = ((Table *)base->pVtab)->function->begin(cursor->text, length);
     return next(base);
 }
@@ -211,7 +227,11 @@ static int at_end(sqlite3_vtab_cursor *cursor) { return !((Cursor *)cursor)->has
 
 static int column_of(sqlite3_vtab_cursor *base, sqlite3_context *context, int column) {
     const Function *function = ((Table *)base->pVtab)->function;
-    if (column < function->hidden) function->column((Cursor *)base, context, column);
+    Cursor *cursor = (Cursor *)base;
+    if (column < function->hidden)
+        function->column(cursor, context, column);
+    else if (cursor->arguments[column - function->hidden])
+        sqlite3_result_value(context, cursor->arguments[column - function->hidden]);
     return SQLITE_OK;
 }
 

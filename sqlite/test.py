@@ -215,6 +215,8 @@ same(ask(db, "wkt_same(?, ?, 0, 'exponents')", powers, written), 1)
 if hasattr(db, "setlimit"):
     most = db.setlimit(sqlite3.SQLITE_LIMIT_LENGTH, 2_000_000)
     same(ask(db, "wkt_canonical(?, 0, 'exponents')", powers), "error: string or blob too big")
+    db.setlimit(sqlite3.SQLITE_LIMIT_LENGTH, 100)
+    same(ask(db, "wkt_explain(?)", "POINT(1 2)" + " " * 60 + "x"), "error: string or blob too big")
     db.setlimit(sqlite3.SQLITE_LIMIT_LENGTH, most)
 
 

@@ -35,7 +35,20 @@ mv mod_wkt.so checked
 make -s -f "$here/Makefile" WKT_LIB_DIR="$wkt" CFLAGS="-O1 -g -Werror -fsanitize=address,undefined -fno-sanitize-recover=all"
 asked LD_PRELOAD="$(gcc -print-file-name=libasan.so) $(gcc -print-file-name=libubsan.so)" > said
 diff "$here/expected" said || { echo "sqlite3: other answers under the sanitizers"; exit 1; }
+# A text of which twice the length is more than SQLite allocates at once, which here is 1000 bytes.
+rm mod_wkt.so
+make -s -f "$here/Makefile" WKT_LIB_DIR="$wkt" CFLAGS="-O2 -Werror -DMOST_BYTES=1000"
+long="'point(1 2' || printf('%700s', ')')"
+long="SELECT wkt_canonical($long), wkt_or_null($long || 'x') IS NULL, wkt_same($long, 'POINT(1 2)'), wkt_num_points($long)"
+[ "$(sqlite3 -cmd '.load ./mod_wkt' :memory: "$long" 2>&1)" = "POINT(1 2)|1|1|1" ] || { echo "a long text has another answer"; exit 1; }
 mv checked/mod_wkt.so .
+# No memory to look for why a text is refused: one of 1000 bytes takes 12008 there, in a dialect.
+printf 'void *__libc_malloc(unsigned long);\nvoid *malloc(unsigned long size) { return size == 12008 ? 0 : __libc_malloc(size); }\n' > little.c
+gcc -shared -fPIC -fno-builtin little.c -o little.so
+for call in wkt_canonical wkt_explain wkt_explain_place wkt_explain_cause; do
+    said=$(LD_PRELOAD=./little.so sqlite3 -cmd '.load ./mod_wkt' :memory: "SELECT $call(printf('%-1000s', 'POINT(1 2'), 18, 'ewkt')" 2>&1 || true)
+    [[ $said == *"out of memory"* ]] || { echo "$call where there is no memory: $said"; exit 1; }
+done
 echo "sqlite3: no complaint of ASan or UBSan"
 for python in /usr/bin/python3 python3 none; do
     "$python" -c 'import sqlite3; sqlite3.connect(":memory:").enable_load_extension(True)' 2> /dev/null && break

@@ -84,6 +84,11 @@ select count(*) from wkt_points('POINT(1 2', 6);
 select count(*) from wkt_each('POINT(1.5 2)', 0);
 select count(*) from wkt_bounds('POINT(1 2)', 37);
 select wkt_num_points('POINT(1)');
+-- Their hidden columns have the arguments
+select geometry, places, typeof(places), x from wkt_points('point(1 2.0)', '6');
+select id, x from shapes join wkt_points('point zm (1 2.50 -3 4)') p on p.geometry = g;
+select kind from wkt_each('POINT(1 2)', '6') where geometry = 'POINT(1 2)' and places = '6';
+select min_x from wkt_bounds where (geometry = 'POINT(1 2)' and min_y = '2') or (geometry = 'POINT(3 4)' and min_y = '2');
 -- They may be called in a view, also by those who trust no schema
 create view points as select id, x from shapes, wkt_points(g);
 select count(*) from points;

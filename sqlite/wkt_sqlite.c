@@ -15,7 +15,10 @@ SQLITE_EXTENSION_INIT1
 #define NO_PLACES 37
 #define NO_DIALECT 38
 #define NO_ROOM 39
-#define MOST_BYTES 2147483391 /* of sqlite3_malloc64 */
+/* Of sqlite3_malloc64. A test takes fewer. */
+#ifndef MOST_BYTES
+#define MOST_BYTES 2147483391
+#endif
 
 #ifdef _WIN32
 #define EXPORTED __declspec(dllexport)
@@ -90,8 +93,10 @@ static wkt_status canonical_in(const Question *asked, char **out, size_t room, s
  * is answered in at most some 2n + 8 without exponents, and with them, where it doesn't fit, once more. */
 wkt_status canonical_of(sqlite3_value *value, uint32_t places, Question *asked, char **out, size_t *length) {
     wkt_status status = question_of(value, places, asked);
+    size_t room = 2 * asked->length + 16;
     if (status != WKT_OK || places == NO_ROOM) return WKT_NO_MEMORY;
-    status = canonical_in(asked, out, out ? 2 * asked->length + 16 : 0, length);
+    if (room > MOST_BYTES) room = MOST_BYTES;
+    status = canonical_in(asked, out, out ? room : 0, length);
     if (status != WKT_TOO_SMALL) return status;
     return out ? canonical_in(asked, out, *length, length) : WKT_OK;
 }
@@ -103,6 +108,7 @@ typedef struct Refusal {
     size_t start;
     const char *expected, *front, *cause, *message;
     uint32_t hint;
+    wkt_status status; /* of the library's answer: a refusal's, or that there is no memory */
 } Refusal;
 
 static Refusal refusal_of(const Question *asked) {
@@ -111,17 +117,17 @@ static Refusal refusal_of(const Question *asked) {
     Refusal refusal = {.front = "", .cause = "other"};
     uint32_t message, what;
     size_t stop;
-    wkt_status status =
+    refusal.status =
         wkt_explain(asked->text, asked->length, asked->places | WKT_WHOLE, &message, &refusal.start, &stop, &what);
-    refusal.message = wkt_message(status);
-    if (status == WKT_NOT_UTF8) refusal.cause = "not_utf8";
-    if (status == WKT_NOT_WHOLE) {
+    refusal.message = wkt_message(refusal.status);
+    if (refusal.status == WKT_NOT_UTF8) refusal.cause = "not_utf8";
+    if (refusal.status == WKT_NOT_WHOLE) {
         refusal.expected = "the end of the text";
         refusal.cause = "not_whole";
     }
-    if (status != WKT_OK) return refusal;
+    if (refusal.status != WKT_OK) return refusal;
     refusal.expected = expected[what];
-    if (wkt_hint(asked->text, asked->length, asked->places, &refusal.hint) != WKT_OK) refusal.hint = WKT_HINT_NONE;
+    refusal.status = wkt_hint(asked->text, asked->length, asked->places, &refusal.hint);
     refusal.front = refusal.hint ? "" : "expected_";
     refusal.cause = refusal.hint ? hints[refusal.hint] : words[what];
     return refusal;
@@ -143,7 +149,7 @@ static char *message_of(const Refusal *refusal) {
     return sqlite3_mprintf("at character %llu: %s was expected", (sqlite3_uint64)refusal->start + 1, refusal->expected);
 }
 
-/* The words of an error, in memory of SQLite's. */
+/* The words of an error, in memory of SQLite's; NULL where there is none. */
 char *error_of(const Question *asked, wkt_status status) {
     Refusal refusal;
     char *why, *said, *full = NULL;
@@ -152,6 +158,7 @@ char *error_of(const Question *asked, wkt_status status) {
     if (status == WKT_NO_PLACES) return sqlite3_mprintf("places must be between 0 and %d", MOST_PLACES);
     if (!is_refusal(status)) return sqlite3_mprintf("wkt: %s", wkt_message(status));
     refusal = refusal_of(asked);
+    if (!is_refusal(refusal.status)) return NULL;
     said = message_of(&refusal);
     why = hint_of(asked, refusal.hint);
     if (said && why)
@@ -359,7 +366,7 @@ static int is_explained(sqlite3_context *context, int count, sqlite3_value **val
     status = canonical_of(values[0], asked_of(count, values, 1), asked, NULL, &length);
     if (status == WKT_OK || is_limit(context, asked, status)) return 0;
     *refusal = refusal_of(asked);
-    return 1;
+    return !is_limit(context, asked, refusal->status);
 }
 
 static void place(sqlite3_context *context, int count, sqlite3_value **values) {
@@ -419,8 +426,7 @@ static void explain(sqlite3_context *context, int count, sqlite3_value **values)
     if (from > 0 && text[from - 1] != '\n') sqlite3_str_appendall(said, "  ");
     for (; from < refusal.start; from++) sqlite3_str_appendchar(said, 1, text[from] == '\t' ? '\t' : ' ');
     sqlite3_str_appendf(said, "^ %s was expected", refusal.expected);
-    put_said(context, sqlite3_str_errcode(said) == SQLITE_OK ? sqlite3_str_finish(said)
-                                                             : (sqlite3_free(sqlite3_str_finish(said)), NULL));
+    put_made(context, said);
 }
 
 int sqlite3_wkt_init(sqlite3 *db, char **error, const sqlite3_api_routines *api) {
