@@ -49,19 +49,6 @@ NATIVE = ("include/wkt.h", "capi/build.sh", "capi/*.c", "capi/*.h", "dist/Makefi
           "LICENSE-*")  # fmt: skip
 OWN = ("pyproject.toml", "backend.py", "README.md", "DASK.md", "wkt/*.py", "wkt/*.pyi", "wkt/py.typed",
        "src/*.[ch]", "examples/*.py", "tests/*.py", "tests/*.[ch]", "tests/*.sh")  # fmt: skip
-# The command, as pip puts it beside Python: it becomes the proved program.
-SCRIPT = b'''#!python
-"""The command wkt: the proved program of the package wkt."""
-import importlib.util
-import os
-import sys
-
-package = importlib.util.find_spec("wkt")
-if package is None or package.origin is None:
-    sys.exit("wkt: the package wkt isn't installed for this Python")
-program = os.path.join(os.path.dirname(package.origin), "_command")
-os.execv(program, ["wkt"] + sys.argv[1:])
-'''
 
 
 def _library(folder):
@@ -235,9 +222,10 @@ def _wheel(folder, held, built, library):
     elif "abi3" in modules[0]:
         python = "cp311-abi3-"
     tag = python + _platform(built)
-    script = [("%s-%s.data/scripts/wkt" % (NAME, VERSION), SCRIPT)] if "_command" in built else []
+    # The command is no script of Python: pip would write a first line that no folder with a space in its name can have.
+    command = [_bytes(path) for name, path in built.items() if name == "_command"]
     held = held + [
-        *script,
+        *(("%s-%s.data/scripts/wkt" % (NAME, VERSION), data) for data in command),
         (INFO + "METADATA", _about()),
         (INFO + "WHEEL", ("Wheel-Version: 1.0\nGenerator: wkt\nRoot-Is-Purelib: false\nTag: %s\n" % tag).encode()),
         (INFO + "sboms/wkt.cdx.json", _parts(built, library).encode()),

@@ -76,11 +76,12 @@ static PyObject *coordinates(const Type *type, const struct ArrowArray *array, i
     return made;
 }
 
-/* The offsets of a list; *first and *rows become those of what is in it. */
-static PyObject *list_offsets(const struct ArrowArray *array, int is_64, int64_t *first, int64_t *rows) {
+/* The offsets of a list; *first and *rows become those of what is in it. is_part: the list is in another. */
+static PyObject *list_offsets(const struct ArrowArray *array, int is_part, int is_64, int64_t *first, int64_t *rows) {
     PyObject *made;
     int64_t *to, start;
     if (!arrow_has(array, 2, 2, 1, *first, *rows)) return NULL;
+    if (is_part && has_nulls(array, *first, *rows)) return arrow_wrong("a part of a geometry is null");
     if (*rows > 0 && array->buffers[1] == NULL) return arrow_wrong("it has rows and no offsets");
     if ((made = PyBytes_FromStringAndSize(NULL, (Py_ssize_t)(8 * (*rows + 1)))) == NULL) return NULL;
     to = (int64_t *)PyBytes_AsString(made);
@@ -103,12 +104,7 @@ PyObject *arrow_geo(const Type *type, const struct ArrowArray *array) {
     if ((bits = arrow_bits(array, array->offset + first, rows)) == NULL) return NULL;
     if ((offsets = PyTuple_New(lists)) == NULL) goto failed;
     for (int i = 0; i < lists; i++) {
-        PyObject *made;
-        if (i > 0 && has_nulls(array, first, rows)) {
-            arrow_wrong("a part of a geometry is null");
-            goto failed;
-        }
-        made = list_offsets(array, type->large >> i & 1, &first, &rows);
+        PyObject *made = list_offsets(array, i > 0, type->large >> i & 1, &first, &rows);
         if (made == NULL || PyTuple_SetItem(offsets, i, made) < 0) goto failed;
         array = array->children[0];
     }

@@ -27,25 +27,25 @@ works() {
     [ "$(cd / && echo 'point(1 2.0)' | "$work/$1/bin/wkt" canon)" = 'POINT(1 2)' ] || fail "$1: wkt"
     [ "$(cd / && echo 'point(1 2.0)' | "$work/$1/bin/python" -m wkt canon)" = 'POINT(1 2)' ] || fail "$1: python -m wkt"
 }
-for name in folder repository editable source; do
+for name in folder 'folder of two words' repository editable source; do
     "$python" -m venv "$work/$name"
     case $name in
-        folder) pip $name install --no-index "$work/clone/python" ;;
+        folder*) pip "$name" install --no-index "$work/clone/python" ;;
         repository) pip $name install --no-index "git+file://$work/clone#subdirectory=python" ;;
         editable) pip $name install --no-index -e "$work/clone/python" ;;
         source)
             (cd "$work/clone/python" && "$python" -m build --no-isolation -o "$work/built" . > "$work/said" 2>&1) || { cat "$work/said"; fail "python3 -m build"; }
             pip $name install --no-index "$work"/built/*.tar.gz ;;
     esac
-    works $name
+    works "$name"
     [ "$(git -C "$work/clone" status --porcelain)" = "" ] || { git -C "$work/clone" status --short; fail "$name: the clone has other files"; }
     echo "installed: $name"
 done
 echo '# an edit' >> "$work/clone/python/wkt/_version.py"
 [ "$(cd / && "$work/editable/bin/python" -c 'import wkt; print(wkt.__file__)')" = "$work/clone/python/wkt/__init__.py" ] || fail "editable: another folder"
 git -C "$work/clone" checkout -q .
-REST=yes "$top/tests/gate/command.sh" "$work/folder/bin/wkt" > "$work/said" || { cat "$work/said"; fail "the script wkt: other answers"; }
-echo "the script wkt: $(tail -n 1 "$work/said")"
+REST=yes "$top/tests/gate/command.sh" "$work/folder/bin/wkt" > "$work/said" || { cat "$work/said"; fail "the command wkt: other answers"; }
+echo "the command wkt: $(tail -n 1 "$work/said")"
 # A name that isn't UTF-8 is said, whichever way the command is called.
 for command in "$work/folder/bin/wkt" "$work/folder/bin/python -m wkt"; do
     status=0

@@ -2,6 +2,7 @@
 import array
 import concurrent.futures
 import copy
+import ctypes
 import decimal
 import fractions
 import pickle
@@ -73,6 +74,9 @@ class Numbers(unittest.TestCase):
         for code in "BHILQ":
             self.assertEqual(point(array.array(code, [1, 2])), "POINT(1 2)")
         self.assertEqual(point(memoryview(array.array("q", [1, 2]))), "POINT(1 2)")
+        for kind in (ctypes.c_int64, ctypes.c_uint64, ctypes.c_int16, ctypes.c_uint32.__ctype_be__):
+            self.assertEqual(point(memoryview((kind * 2)(1, 2))), "POINT(1 2)")
+            self.assertEqual(point(memoryview((kind * 4)(1, 0, 2, 0))[::2]), "POINT(1 2)")
         for code in "bhilqBHILQ":
             for numbers in (array.array(code, [1, 2, 3, 4]), memoryview(array.array(code, [1, 0, 2, 0, 3, 0, 4]))[::2]):
                 self.assertEqual(wkt.from_arrays_column(column(numbers=numbers), 0)[0], ["POINT(1 2)", "POINT(3 4)"])

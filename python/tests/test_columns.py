@@ -40,6 +40,9 @@ class Kinds(unittest.TestCase):
         self.assertEqual((answers.dtype, answers.tolist()), (numpy.dtype(object), ANSWERS))
         answers = wkt.canonical(numpy.array(GOOD + GOOD, object).reshape(2, 3))
         self.assertEqual(answers.tolist(), [GOOD_ANSWERS, GOOD_ANSWERS])
+        for kind in "USO":
+            matrix = numpy.array([GOOD, GOOD], kind).view(numpy.matrix)
+            self.assertEqual(wkt.canonical(matrix).astype("U").tolist(), [GOOD_ANSWERS, GOOD_ANSWERS])
         for kind in "US":
             answers = wkt.canonical(numpy.array(GOOD, kind))
             self.assertEqual(answers.dtype.kind, kind)
@@ -336,6 +339,12 @@ class Kinds(unittest.TestCase):
         self.assertEqual(wkt.same(texts[:3], None), [None, None, None])
         with self.assertRaises(ValueError):
             wkt.same(texts, others[:3])
+        # A text that is refused beside a column is as one of a column.
+        for refused in ("POINT(1", b"\xff"):
+            self.assertEqual(wkt.same(texts[:3], refused, invalid="null"), [None, None, None])
+            self.assertEqual(wkt.same(refused, texts[:3], invalid="null"), [None, None, None])
+            with self.assertRaises(wkt.WktError):
+                wkt.same(texts[:3], refused)
         # A row that is null in one column isn't refused for the other's.
         self.assertEqual(wkt.same([None, "POINT(1 2)"], ["x", "POINT(1 2)"]), [None, True])
         with self.assertRaises(wkt.WktError) as raised:

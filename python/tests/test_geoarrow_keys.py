@@ -209,6 +209,8 @@ class Others(Arrow):
             ("linestring", lists([0, 2], separated(SIX, rows=[None] * 6))),
             ("linestring", lists([0, 2], interleaved([(None, 1), (2, 3)]))),
             ("polygon", lists([0, 1], lists([0, 2], inner, rows=[None]))),
+            ("polygon", lists([2**45, 2**45 + 1], line._replace(buffers=(b"\1", line.buffers[1])), large=True)),
+            ("polygon", lists([0, 1], line._replace(buffers=()))),
             ("point", interleaved([(None, 1)])), ("point", separated([(1, None)])),
             ("point", inner._replace(length=7)), ("point", inner._replace(buffers=())),
             ("point", inner._replace(columns=(numbers_of._replace(buffers=(None, None)),))),

@@ -32,6 +32,18 @@ class Doubles(unittest.TestCase):
                     self.assertTrue(digits > places or abs(value) * 10.0 ** max(digits, 0) >= 2.0**63, value)
         self.assertEqual(decimals([float("nan"), float("inf"), -float("inf")], 18)[2].tolist(), [False] * 3)
 
+    def test_context(self):
+        """The caller's context of decimals, which may round or raise, changes no number."""
+        import decimal
+
+        from wkt._doubles import decimals
+
+        values = [0.1234567890123456, 9007199254740993.0, 1e-7, 2.0**-60]
+        wanted = [it.tolist() for it in decimals(values, 36)]
+        for asked in (dict(prec=3), dict(prec=3, traps=[decimal.Inexact]), dict(Emax=2)):
+            with decimal.localcontext(decimal.Context(**asked)):
+                self.assertEqual([it.tolist() for it in decimals(values, 36)], wanted)
+
     def test_fine_rows(self):
         """Numbers of a row that 64 bits hold at one number of places."""
         from wkt._doubles import decimals, scaled

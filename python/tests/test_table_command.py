@@ -219,6 +219,10 @@ class Runs(Folder):
         self.assertEqual(self.run_of("bare.csv --column 2 --no-header", "--out", "bare.csv")[0], 0)
         self.assertEqual(self.has("bare.csv"), b"POINT(1 2),a,point(1 2)\nPOINT(3 4),b,POINT(3 4)\n")
         self.assertEqual(self.run_of("good.csv --column geom", "--out", "/dev/full")[0], 2)
+        # Where one of two can't be written, neither changes.
+        self.put("out.csv", "old")
+        self.assertEqual(self.run_of("a.csv --column geom", "--rejects", "/dev/full")[0], 2)
+        self.assertEqual(self.has("out.csv"), b"old")
 
     def test_many_rows(self):
         """A deduplicated and a joined table as one is made of keys that are known, over many blocks."""
@@ -275,6 +279,15 @@ class Processes(Folder):
             run.stdout.readline()
             run.stdout.close()
             self.assertEqual((run.wait(), b"Traceback" in run.stderr.read()), (2, False))
+
+    def test_untold(self):
+        """Where standard error can't be written, the status is that of a run that fails, and nothing changes."""
+        self.put("out.csv", "old")
+        with open("/dev/full", "w", encoding="utf-8") as full:
+            for words in ("nothing.csv --column geom", "good.csv", "good.csv --column geom"):
+                run = [*COMMAND, *words.split(" "), "--out", "out.csv"]
+                self.assertEqual(subprocess.run(run, stderr=full, check=False).returncode, 2, words)
+                self.assertEqual(self.has("out.csv"), b"old")
 
     def test_killed(self):
         """A run that is ended leaves what was there; one that can clear up leaves nothing else."""

@@ -125,7 +125,9 @@ def same(
     if not columns[0]:
         one, other = other, one
     rows = column_of(one)
-    wanted = column_of(other) if all(columns) else None if is_null(other) else _canonical(other, checked)
+    wanted = column_of(other) if all(columns) else None
+    if not all(columns) and not is_null(other):
+        wanted = or_null(invalid, None, lambda: _canonical(other, checked))
     if wanted is None:
         answers: Any = [None] * len(rows)
     else:

@@ -57,6 +57,8 @@ def rows_of(values: Any) -> Optional[Sequence[Any]]:
     if isinstance(values, (list, tuple)):
         return values if type(values) in _AS_THEY_ARE else list(values)
     if numpy is not None and isinstance(values, numpy.ndarray):
+        if not is_masked(values):
+            values = numpy.asarray(values)  # of no subclass: a matrix is never flat
         return None if values.ndim == 0 else list(values.reshape(-1).tolist())
     if _arrow.is_texts(values):
         return _arrow.rows_of(values)

@@ -5,6 +5,8 @@ from typing import Any, Tuple
 from ._values import numpy
 
 _MOST = 10**15  # decimals of up to 15 digits are each of a double of its own
+# The context of the thread is the caller's, and may round. `repr` writes 17 digits at most.
+_EXACT = decimal.Context(prec=28, Emin=-999999, Emax=999999, clamp=0, traps=[])
 
 
 def decimals(values: Any, places: int) -> Tuple[Any, Any, Any]:
@@ -27,8 +29,8 @@ def decimals(values: Any, places: int) -> Tuple[Any, Any, Any]:
             break
     for i, value in zip(left.tolist(), values[left].tolist()):
         number = decimal.Decimal(repr(value))
-        own = max(0, -int(number.normalize().as_tuple().exponent))
-        scaled = int(number.scaleb(own))
+        own = max(0, -int(number.normalize(_EXACT).as_tuple().exponent))
+        scaled = int(number.scaleb(own, _EXACT))
         if own <= places and -(2**63) <= scaled < 2**63:
             units[i], used[i], has[i] = scaled, own, True
     return units, used, has

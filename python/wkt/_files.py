@@ -129,15 +129,20 @@ class Output:
             self.rows += len(lines)
             self.text.write(self.end.join(lines) + self.end)
 
+    def finish(self) -> None:
+        """Writes what is held, so that an output that can't be written is known before another one appears."""
+        self.text.flush()
+        if self.beside is not None:
+            os.fsync(self.text.fileno())
+
     def __enter__(self) -> "Output":
         return self
 
     def __exit__(self, error: Any, *rest: Any) -> None:
         try:
             if error is None:
-                self.text.flush()
+                self.finish()
                 if self.beside is not None:
-                    os.fsync(self.text.fileno())
                     os.replace(self.beside, self.path)
                     self.beside = None
         finally:

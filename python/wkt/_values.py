@@ -1,6 +1,7 @@
 """The arguments of the functions: what each takes, and what it refuses."""
 import array
 import operator
+import struct
 from typing import Any, NamedTuple, Optional, Union
 
 from ._errors import WktError, words_of
@@ -137,6 +138,8 @@ def _listed(values: Any, what: str) -> Any:
         code = values.typecode if isinstance(values, array.array) else values.format
         if code.lstrip("@=<>!") not in list("bBhHiIlLqQnN"):
             raise TypeError("%s are integers, and not of the type %r" % (what, code))
+        if code[0] in "=<>!":  # as ctypes has them; tolist knows none
+            return [it for (it,) in struct.iter_unpack(code, values.tobytes())]
     return values.tolist() if hasattr(values, "tolist") else list(values)
 
 

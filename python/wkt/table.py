@@ -245,6 +245,9 @@ def run(asked: Any) -> int:
             it.add_keys()
         if it.refused > SHOWN and not it.rejects:
             it.say("%d of %d refusals are shown; --rejects FILE takes all" % (SHOWN, it.refused))
+        for output in (it.rejects, it.out):
+            if output is not None:
+                output.finish()
         it.say("%s: %d rows" % ("standard output" if asked.out == "-" else printable(asked.out), it.out.rows))
     return 1 if it.refused else 0
 
@@ -255,11 +258,11 @@ def ended(number: int, _: Any) -> NoReturn:
 
 
 def main(words: Sequence[str]) -> int:
-    asked = options(words)
-    for number in (signal.SIGTERM, signal.SIGHUP):
-        if signal.getsignal(number) == signal.SIG_DFL:  # nohup has one ignored
-            signal.signal(number, ended)
     try:
+        asked = options(words)
+        for number in (signal.SIGTERM, signal.SIGHUP):
+            if signal.getsignal(number) == signal.SIG_DFL:  # nohup has one ignored
+                signal.signal(number, ended)
         return run(asked)
     except KeyboardInterrupt:
         return 128 + signal.SIGINT
@@ -269,7 +272,8 @@ def main(words: Sequence[str]) -> int:
         said = "out of memory"
     except (Failure, OSError) as error:
         said = printable(str(error))
-    print("wkt.table:", said, file=sys.stderr)
+    with contextlib.suppress(OSError):  # where nobody can be told, the status still says it
+        print("wkt.table:", said, file=sys.stderr)
     return 2
 
 
