@@ -50,14 +50,19 @@ class Positions {
     if (length !== 2 && length !== 3) throw new GeoJSONError(`a position has two numbers, or three, and not ${length}`);
     if (this.width !== 0 && this.width !== length) throw new GeoJSONError('some positions of a geometry have two numbers, and some three');
     this.width = length;
-    return position.map(numberOf).join(' ');
+    let text = numberOf(position[0]);
+    for (let i = 1; i < length; i++) text += ` ${numberOf(position[i])}`;
+    return text;
   }
 
   /** Lists of positions, so deep, in parentheses. */
   nested(value, depth) {
     const items = listOf(value, 'coordinates');
     if (items.length === 0) return 'EMPTY';
-    return `(${items.map((item) => (depth === 1 ? this.text(item) : this.nested(item, depth - 1))).join(',')})`;
+    // Not by map, which passes over what a list lacks.
+    const parts = [];
+    for (const item of items) parts.push(depth === 1 ? this.text(item) : this.nested(item, depth - 1));
+    return `(${parts.join(',')})`;
   }
 }
 

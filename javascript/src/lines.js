@@ -8,6 +8,9 @@ const BLOCK = 1 << 20;
 const LINE = 1 << 16;
 const FEED = 10;
 
+/** A copy, whose owner nobody else is. The `slice` of a Buffer of Node makes none. */
+const copyOf = (bytes) => new Uint8Array(bytes);
+
 /** The answers to lines that come in chunks. What is left of a line is kept here, so other calls may come between. */
 export class LineAnswers {
   #engine;
@@ -26,7 +29,7 @@ export class LineAnswers {
     let from = 0;
     if (this.#length > 0) {
       const feed = chunk.indexOf(FEED);
-      this.#keep(feed < 0 ? chunk.slice() : chunk.subarray(0, feed + 1));
+      this.#keep(feed < 0 ? copyOf(chunk) : chunk.subarray(0, feed + 1));
       if (feed < 0) return answers;
       this.#finish(false, answers);
       from = feed + 1;
@@ -39,7 +42,7 @@ export class LineAnswers {
       this.#answer([chunk.subarray(from, feed + 1)], feed + 1 - from, false, answers);
       from = feed + 1;
     }
-    if (from < chunk.length) this.#keep(chunk.slice(from));
+    if (from < chunk.length) this.#keep(copyOf(chunk.subarray(from)));
     return answers;
   }
 

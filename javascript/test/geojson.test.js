@@ -142,6 +142,11 @@ test('what is no geometry of GeoJSON', () => {
     '{"type":"FeatureCollection","features":[]}', '{"type":"__proto__"}', '{"__proto__":{"type":"Point","coordinates":[1,2]}}'];
   for (const json of none) assert.throws(() => wkt.fromGeoJSON(json), GeoJSONError, json);
   for (const value of [undefined, 7, [], null, () => 1]) assert.throws(() => wkt.fromGeoJSON(value), GeoJSONError);
+  // Lists that lack what they count.
+  const lacking = new Array(2);
+  for (const [type, coordinates] of [['Point', lacking], ['LineString', lacking], ['Polygon', [[[1, 2]].concat(lacking)]], ['MultiPolygon', [lacking]]]) {
+    assert.throws(() => wkt.fromGeoJSON({ type, coordinates }), GeoJSONError);
+  }
 });
 
 // JSON.parse says what is JSON, and what it means.

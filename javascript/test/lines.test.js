@@ -52,22 +52,23 @@ test('a chunk that its owner gave away ends the stream', async () => {
 });
 
 test('chunks that their owner uses again, and other calls between', async () => {
-  const chunk = new Uint8Array(8);
-  const answers = wkt.lineStream();
-  const writer = answers.writable.getWriter();
-  const out = (async () => {
-    let all = '';
-    for await (const piece of answers.readable) all += texts(piece);
-    return all;
-  })();
-  for (const part of ['POINT(1 ', '2)\nPOINT', '( 3 4 )\n']) {
-    chunk.set(bytes(part));
-    await writer.write(chunk);
-    chunk.fill(0);
-    assert.equal(wkt.canonical('LINESTRING(0 0,9 9)'), 'LINESTRING(0 0,9 9)');
+  for (const chunk of [new Uint8Array(8), Buffer.alloc(8)]) {
+    const answers = wkt.lineStream();
+    const writer = answers.writable.getWriter();
+    const out = (async () => {
+      let all = '';
+      for await (const piece of answers.readable) all += texts(piece);
+      return all;
+    })();
+    for (const part of ['POINT(1 ', '2)\nPOINT', '( 3 ', '4 )\n']) {
+      chunk.set(bytes(part));
+      await writer.write(chunk.subarray(0, part.length));
+      chunk.fill(0);
+      assert.equal(wkt.canonical('LINESTRING(0 0,9 9)'), 'LINESTRING(0 0,9 9)');
+    }
+    await writer.close();
+    assert.equal(await out, 'POINT(1 2)\nPOINT(3 4)\n');
   }
-  await writer.close();
-  assert.equal(await out, 'POINT(1 2)\nPOINT(3 4)\n');
 });
 
 test('many lines, long ones, and answers that are longer than their lines', async () => {

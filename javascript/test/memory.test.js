@@ -36,6 +36,20 @@ test('texts of 100 MB, and memory is given back', () => {
   assert.equal(wkt.canonical('POINT(1 2)'), 'POINT(1 2)');
 });
 
+test('memory is as many times the text as README.md says', async () => {
+  const points = (n) => `MULTIPOINT(${'.1 .1,'.repeat(n)}1 2)`;
+  const figures = [[points(5e5), {}, { canonical: 10, reads: 10, lines: 10, same: 10, toGeoJSON: 10, readEvents: 22, toGeoJSONObject: 22, arrays: 26 }],
+    [`SRID=1;${points(1e5).replaceAll('.1', '1e9')}`, { dialect: 'ewkt,exponents' }, { canonical: 120, same: 120, readEvents: 330, toGeoJSONObject: 330, arrays: 330 }]];
+  for (const [text, asked, most] of figures) {
+    for (const [call, times] of Object.entries(most)) {
+      const one = await load(moduleBytes());
+      if (call === 'same') one.same(text, text, asked);
+      else one[call](text, asked);
+      assert.ok(one.memory <= times * text.length, `${call}: ${one.memory / text.length}`);
+    }
+  }
+});
+
 test('long texts of each shape, in time that grows as they do', { timeout: 900000 }, () => {
   const n = 4e6;
   const refused = [`POINT(${'9'.repeat(n)} 1)`, `POINT(0.${'1'.repeat(n)} 1)`, 'x'.repeat(n), ' '.repeat(n), '\n'.repeat(n), '𝄞'.repeat(n), `POINT(1 2)${' '.repeat(n)}x`,
