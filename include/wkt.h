@@ -259,8 +259,9 @@ wkt_status wkt_hint(const uint8_t *text, size_t text_len, uint32_t places, uint3
  * begins; both are 0 where none stands there. What stands behind it may be anything. WKT_OK. It takes no memory. */
 wkt_status wkt_srid(const uint8_t *text, size_t text_len, uint32_t *srid, size_t *end);
 
-/* The kind and the dimension that the header of the text names; the rest is not read. 1: it begins with no kind word.
- * 2: EMPTY comes first, with no space before it. 3: there is neither a parenthesis nor EMPTY. 20. It takes no memory. */
+/* The kind and the dimension that the header of the text names; the rest is not read. 3: there is neither a parenthesis nor
+ * EMPTY. 2: EMPTY comes first, with no space before it. 1: it begins with no kind word. Of these three the first that holds,
+ * in this order. 20. It takes no memory. */
 wkt_status wkt_infer(const uint8_t *text, size_t text_len, uint32_t *kind, uint32_t *dimension);
 
 /* All lines at once: for each line of the input, the canonical text of the geometry that it begins with or `refused`,

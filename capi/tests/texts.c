@@ -286,6 +286,7 @@ static void headers(void) {
     CHECK(wkt_infer(BYTES("PINT("), &kind, &dimension) == 1);
     CHECK(wkt_infer(BYTES("POINTEMPTY"), &kind, &dimension) == 2);
     CHECK(wkt_infer(BYTES("POINT Z 1"), &kind, &dimension) == 3);
+    CHECK(wkt_infer(BYTES("PINT"), &kind, &dimension) == 3 && wkt_infer(BYTES("PINTEMPTY"), &kind, &dimension) == 2);
     CHECK(wkt_infer(BYTES("\xff"), &kind, &dimension) == WKT_NOT_UTF8);
     CHECK(wkt_infer(NULL, 0, &kind, &dimension) == 3 && kind == 9 && dimension == 9);
 }
