@@ -16,13 +16,21 @@ use std::str::FromStr;
 /// assert_eq!(number.to_f64(), 2.5);
 /// # Ok::<(), wkt_proved::DecimalError>(())
 /// ```
-#[derive(Clone, Copy, Default, PartialEq, Eq, PartialOrd, Ord, Hash)]
+#[derive(Clone, Copy, PartialEq, Eq, PartialOrd, Ord, Hash)]
 pub struct Decimal<const PLACES: u8> {
     units: i128,
 }
 
 impl<const PLACES: u8> Decimal<PLACES> {
-    /// How many places: `PLACES`. Those of the library are at most 36, so a decimal of more isn't compiled.
+    /// How many places: `PLACES`. Those of the library are at most 36, so a decimal of more isn't compiled:
+    ///
+    /// ```compile_fail
+    /// assert_eq!(wkt_proved::Decimal::<37>::from_units(5).units(), 5);
+    /// ```
+    ///
+    /// ```compile_fail
+    /// assert_eq!(wkt_proved::Decimal::<37>::default().units(), 0);
+    /// ```
     pub const PLACES: u32 = {
         assert!(PLACES <= 36, "decimals have at most 36 places");
         PLACES as u32
@@ -31,6 +39,7 @@ impl<const PLACES: u8> Decimal<PLACES> {
     /// The decimal of so many units.
     #[must_use]
     pub const fn from_units(units: i128) -> Self {
+        let _ = Self::PLACES;
         Decimal { units }
     }
 
@@ -44,6 +53,13 @@ impl<const PLACES: u8> Decimal<PLACES> {
     #[must_use]
     pub fn to_f64(self) -> f64 {
         nearest(self.units, Self::PLACES)
+    }
+}
+
+/// Zero.
+impl<const PLACES: u8> Default for Decimal<PLACES> {
+    fn default() -> Self {
+        Self::from_units(0)
     }
 }
 
