@@ -4,6 +4,7 @@ import { joined } from '../javascript/src/lines.js';
 import { printable } from '../javascript/src/printable.js';
 import { withBox } from './dialects.js';
 import { WORDS, lineEnd } from './repeats.js';
+import { agreed } from './split.js';
 import { Tally } from './tally.js';
 
 /** A longer text is answered for itself: that is faster. Where it is refused, more of it isn't looked at. */
@@ -31,25 +32,27 @@ export const sentenceIn = ({ cause }) => cause.slice(cause.indexOf(': ') + 2);
 
 const utf8 = new TextDecoder('utf-8', { ignoreBOM: true });
 
-/** The byte, from 1 on, at which a line stops being UTF-8. */
+/** The byte, from 1 on, at which a line stops being UTF-8: the first of what is no character. */
 function notUtf8At(bytes) {
-  const first = bytes.findIndex((byte) => byte > 127);
-  let [good, bad] = [Math.max(0, first), bytes.length]; // beginnings of the line: the first is good, and the second is bad
-  const begins = (length) => {
+  const isUtf8 = (from, to, stream) => {
     try {
-      new TextDecoder('utf-8', { fatal: true }).decode(bytes.subarray(0, length), { stream: true });
+      new TextDecoder('utf-8', { fatal: true }).decode(bytes.subarray(from, to), { stream });
       return true;
     } catch {
       return false;
     }
   };
-  if (begins(bad)) return bad;
-  while (bad - good > 1) {
-    const middle = Math.floor((good + bad) / 2);
-    if (begins(middle)) good = middle;
-    else bad = middle;
+  let good = 0; // before it all are characters
+  for (let to = LONG; to < bytes.length && isUtf8(good, to, true); to += LONG) {
+    good = to;
+    while ((bytes[good] & 0xc0) === 0x80) good--;
   }
-  return bad;
+  // So many more begin characters, of which the last may be none.
+  const from = good;
+  const begun = agreed(Math.min(bytes.length - from, 2 * LONG), (_, more) => isUtf8(from, from + more, true));
+  good += begun;
+  while (!isUtf8(from, good, false)) good--;
+  return good + 1;
 }
 
 /** What a line of a file says at a place, with white space cut short. */
@@ -100,7 +103,7 @@ export class Refusals {
         const why = { column, expected, cause, hint, message: sentenceIn(error.place), caret };
         return { down: line - 1, ...why, found: foundAt(bytes, error.place) };
       }
-      const at = notUtf8At(bytes.subarray(0, LONG));
+      const at = notUtf8At(bytes);
       const caret = `${printable(utf8.decode(bytes.subarray(0, Math.min(at, 60))))}\n`;
       const hint = `byte ${at} of the line is not UTF-8`;
       return { down: 0, column: at, expected: 'UTF-8', cause: causeOf(error), hint, message: error.words, caret, found: '' };

@@ -1,5 +1,6 @@
 // What is given out of canonical lines: the lines, a FeatureCollection of GeoJSON (RFC 7946), or a table.
 import { GeoJSONError } from '../javascript/src/index.js';
+import { geoJSONOf } from '../javascript/src/geojson.js';
 import { printable } from '../javascript/src/printable.js';
 
 const DEPTH = { POLYGON: 2, MULTIPOLYGON: 3, LINESTRING: 1, MULTILINESTRING: 2 };
@@ -80,7 +81,7 @@ export function asRfc7946(text, asked) {
 }
 
 /** A canonical text as the geometry of a feature: RFC 7946 has no m, which is refused or left out, and never becomes z. */
-export const geometryOf = (wkt, text, { m = 'refuse', ...asked }) => wkt.toGeoJSON(asRfc7946(text, asked), { m });
+export const geometryOf = (text, { m = 'refuse', ...asked }) => geoJSONOf(asRfc7946(text, asked), m);
 
 /** A cell of a CSV. A spreadsheet would take one that begins so for a formula: it gets an apostrophe. */
 export function cell(value) {
@@ -102,7 +103,7 @@ export function tableOf(whys) {
  * Canonical lines, among which `refused` stands, in a form; pieces of text, and at last what was left out. `numberOf` gives a
  * line's number, and `refused` keeps or leaves out what is refused.
  */
-export function* formed(wkt, lines, { form, refused, numberOf, ...asked }) {
+export function* formed(lines, { form, refused, numberOf, ...asked }) {
   const left = [];
   let n = 0;
   let first = true;
@@ -117,7 +118,7 @@ export function* formed(wkt, lines, { form, refused, numberOf, ...asked }) {
     let geometry = 'null';
     let why = line === 'refused' ? 'refused' : null;
     try {
-      if (!why) geometry = geometryOf(wkt, line, asked);
+      if (!why) geometry = geometryOf(line, asked);
     } catch (error) {
       if (!(error instanceof GeoJSONError)) throw error;
       why = error.message;

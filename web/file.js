@@ -104,13 +104,15 @@ export async function readFile(file, more = 0, form = null) {
   fit();
   const asked = askedSplit();
   try {
-    const split = form ? 'lines' : asked === 'auto' ? splitOfFront(await file.slice(0, FRONT).text(), file.size > FRONT) : asked;
+    // Without its byte order mark a file is split as with it.
+    const isLines = form && form.form !== 'mark';
+    const split = isLines ? 'lines' : asked === 'auto' ? splitOfFront(await file.slice(0, FRONT).text(), file.size > FRONT) : asked;
     if (!current()) return;
     const others = more > 0 ? ` ${count(more, 'other file')} that came with it ${more === 1 ? 'is' : 'are'} not read.` : '';
     say('idle', `Reading ${short(name, 60)}`, HOW[split] + others);
     const many = !form && split === 'lines' && new Uint8Array(await file.slice(0, LONG).arrayBuffer()).includes(10);
     if (!current()) return;
-    worker = start(file, many, { split, form: form ?? (split === 'pieces' ? { form: 'pieces' } : null) });
+    worker = start(file, many, { split, form: split === 'pieces' ? { form: 'pieces', ...form, pieces: true } : form });
     worker.onmessage = ({ data }) => current() && (data.failed ? fail(data.failed) : take(data));
     for (const it of [worker, ...helpers]) it.onerror = (event) => current() && fail(event.message || 'The worker stopped.');
   } catch (error) {

@@ -27,10 +27,14 @@ const forget = () => {
   $('offer').replaceChildren();
 };
 
+/** Why a text couldn't be turned is said of that text alone. */
+const forgetFailure = () => $('offer').querySelector('.failed')?.remove();
+
 let offered = '', looked = '';
 
 /** Looks at the field's text; `put` puts what it is turned into in its place. */
 export function showOffer(text, put) {
+  forgetFailure();
   const front = `${text.length > LOOKED} ${text.slice(0, LOOKED)}`;
   if (front === looked) return;
   looked = front;
@@ -46,7 +50,8 @@ export function showOffer(text, put) {
   $('offer').replaceChildren(...offerOf(forms, async (form) => {
     const { texts, left, failed } = await turnedText(field.value, form);
     if (failed) {
-      $('offer').append(element('p', {}, short(failed, 200)));
+      forgetFailure();
+      $('offer').append(element('p', { class: 'failed' }, short(failed, 200)));
       return;
     }
     put(texts.join('\n'));

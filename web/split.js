@@ -5,10 +5,14 @@ const KINDS = new Set(KIND_WORDS);
 const AFTER_HEADER = new Set(['Z', 'M', 'ZM', 'EMPTY']);
 const OPEN = 40, CLOSE = 41;
 
+/** White space is that of the grammar: a line of other spaces, as the no-break space, is refused, and not blank. */
+const isSpace = (c) => c === 32 || c === 10 || c === 13 || c === 9;
+const isBlank = (text) => !/[^ \n\r\t]/.test(text);
+
 /** The letters, in capitals, with which a line begins behind white space. A word that is longer than all kinds is cut. */
 export function firstWord(text, from = 0, to = text.length) {
   let start = from;
-  while (start < to && text.charCodeAt(start) <= 32) start++;
+  while (start < to && isSpace(text.charCodeAt(start))) start++;
   return /^[a-z]*/i.exec(text.slice(start, Math.min(to, start + 30)))[0].toUpperCase();
 }
 
@@ -17,7 +21,7 @@ export const isKind = (word) => KINDS.has(word);
 /** The first character of a line that is no white space, or ''. */
 function firstMark(text, from, to) {
   let at = from;
-  while (at < to && text.charCodeAt(at) <= 32) at++;
+  while (at < to && isSpace(text.charCodeAt(at))) at++;
   return at < to ? text[at] : '';
 }
 
@@ -52,7 +56,7 @@ function* byLine(text, at, line) {
     const feed = text.indexOf('\n', offset);
     const to = feed < 0 ? text.length : feed;
     const piece = text.slice(offset, to);
-    if (piece.trim() !== '') yield { text: piece, offset, line: n };
+    if (!isBlank(piece)) yield { text: piece, offset, line: n };
     offset = to + 1;
   }
 }
@@ -83,7 +87,7 @@ const splitter = (split) => (split === 'lines' ? byLine : byParentheses);
  * 1 on. `split`: `one` piece in all, `lines`, or `auto`.
  */
 export function piecesOf(text, split) {
-  if (text.trim() === '') return [];
+  if (isBlank(text)) return [];
   const pieces = split === 'one' ? [] : [...splitter(split)(text, 0, 1)];
   // What is around a single one belongs to it: then the places are those of the text.
   return split === 'one' || (split === 'auto' && pieces.length === 1) ? [{ text, offset: 0, line: 1 }] : pieces;

@@ -82,7 +82,7 @@ function columnsOf(text, delimiter, cut) {
       const filled = rows.map((cells) => cells[i] ?? '').filter((cell) => cell.trim() !== '');
       return filled.filter(isText).length * 2 > filled.length;
     })
-    .map((column) => ({ form: 'csv', delimiter, column, header: Boolean(header), name: header?.[column].trim() || `${column + 1}` }));
+    .map((column) => ({ form: 'csv', delimiter, column, header: Boolean(header), name: header?.[column]?.trim() || `${column + 1}` }));
 }
 
 /** A line without its quotes, and the comma or semicolon behind them; null where it has none. */
@@ -104,17 +104,18 @@ const isGeoJSON = (text) => /^\s*[[{]/.test(text) && /"(type|coordinates|geometr
 
 /**
  * What a text is that isn't well-known text as it stands, by its front: forms, each with what `turned` needs. `cut`: the
- * text is longer than that.
+ * text is longer than that. A byte order mark in front of another form is taken off with it.
  */
 export function formsOf(front, cut) {
-  if (front[0] === MARK) return [{ form: 'mark' }];
-  if (isGeoJSON(front)) return [{ form: 'geojson' }];
-  if (isQuoted(front, cut)) return [{ form: 'quotes' }];
+  const marked = front[0] === MARK;
+  const text = marked ? front.slice(1) : front;
+  if (isGeoJSON(text)) return [{ form: 'geojson' }];
+  if (isQuoted(text, cut)) return [{ form: 'quotes' }];
   for (const delimiter of DELIMITERS) {
-    const columns = columnsOf(front, delimiter, cut);
+    const columns = columnsOf(text, delimiter, cut);
     if (columns.length > 0) return columns;
   }
-  return [];
+  return marked ? [{ form: 'mark' }] : [];
 }
 
 /** All geometries of a value of GeoJSON, each with the number of its feature. */
@@ -191,7 +192,7 @@ function ofPieces(text) {
 export function turned(text, form, wkt, places) {
   const whole = text[0] === MARK ? text.slice(1) : text;
   const { texts, lines, left } = {
-    mark: () => ({ texts: whole.split('\n'), lines: null, left: [] }),
+    mark: () => (form.pieces ? ofPieces(whole) : { texts: whole.split('\n'), lines: null, left: [] }),
     geojson: () => ofGeoJSON(whole, wkt, places),
     quotes: () => ofQuotes(whole),
     csv: () => ofCsv(whole, form),

@@ -81,8 +81,7 @@ async function* linesOf(blob) {
 }
 
 /** Makes what is saved, and says how far it is. */
-async function give({ module, lines, numbers, ...asked }) {
-  const wkt = await load(module);
+async function give({ lines, numbers, ...asked }) {
   const parts = [];
   let [done, left, text, n] = [0, [], '', 0];
   const all = [];
@@ -91,7 +90,7 @@ async function give({ module, lines, numbers, ...asked }) {
     done += some.reduce((sum, line) => sum + line.length + 1, 0);
     post({ done: done / 2, size: lines.size });
   }
-  const pieces = formed(wkt, all, { ...asked, numberOf: (i) => numbers?.[i - 1] ?? i });
+  const pieces = formed(all, { ...asked, numberOf: (i) => numbers?.[i - 1] ?? i });
   for (;;) {
     const { value, done: over } = pieces.next();
     if (over) {

@@ -115,6 +115,15 @@ class Give(Page):
         self.paste('[{"type":"Point","coordinates":[1,2]},{"type":"Feature","geometry":null}]')
         self.driver.find_element(By.CSS_SELECTOR, "#offer button").click()
         self.wait(lambda: "1 left out: feature 2: it has no geometry." in self.said("offer"))
+        # Why a text isn't turned is said once, and of no other text.
+        self.paste('{"type":"Point","coordinates":[1,2]')
+        for _ in range(2):
+            self.driver.find_element(By.CSS_SELECTOR, "#offer button").click()
+            self.wait(lambda: self.said("offer").count("JSON: it ends too early") == 1)
+            time.sleep(0.3)
+        self.assertEqual(1, self.said("offer").count("JSON: it ends too early"))
+        self.paste('{"type":"Point","coordinates":[1,2]}')
+        self.assertNotIn("JSON:", self.said("offer"))
 
     def test_file_taken(self):
         self.open()
@@ -127,6 +136,16 @@ class Give(Page):
         self.drop(self.file("POLYGON((0 0,\n1 0,1 1,0 0))\n" * 20000 + "POINT(1\n"))
         self.wait(lambda: self.said("say") == "1 of 20,001 lines refused")
         self.assertIn("line 40,001", self.said("file-out"))
+        # A byte order mark is taken off, and what stands behind it stays what it was.
+        for text, before, after in (
+            ("POLYGON((0 0,\n1 0,1 1,0 0))\n" * 20000, "1 of 20,000 lines refused", "All 20,000 lines accepted"),
+            ("LINESTRING(0 0,\n" + "1 1,\n" * 80000 + "2 2)", "The text is refused", "The text is accepted"),
+        ):
+            with self.subTest(after):
+                self.drop(self.file("\ufeff" + text))
+                self.wait(lambda before=before: self.said("say") == before)
+                self.driver.find_element(By.CSS_SELECTOR, "#file-out .offer button").click()
+                self.wait(lambda after=after: self.said("say") == after)
 
     def test_readout(self):
         self.open()

@@ -20,6 +20,9 @@ const FORMS = [
   ['POINT(1 2);a ""b"";POINT EMPTY\r\nPOINT(3 4);;POINT(5 6)\r\n', ['csv 1', 'csv 3'], [['POINT(1 2)', 'POINT(3 4)'], ['POINT EMPTY', 'POINT(5 6)']]],
   ['id,geom\n1,"SRID=4326;LINESTRING(0 0,1 1)"\n2,SRID=4326;POINT EMPTY\n', ['csv geom'], [['SRID=4326;LINESTRING(0 0,1 1)', 'SRID=4326;POINT EMPTY']]],
   ['name\tthe_geom\nx\tPOLYGON((0 0,1 0,1 1,0 0))\n', ['csv the_geom'], [['POLYGON((0 0,1 0,1 1,0 0))']]],
+  ['\ufeffid,geom\r\n1,"LINESTRING(0 0,1 1)"\r\n', ['csv geom'], [['LINESTRING(0 0,1 1)']]],
+  ['\ufeff{"type":"Point","coordinates":[1,2]}', ['geojson'], [['POINT(1 2)']]],
+  ['# two points\n1;POINT(1 2)\n2;POINT(3 4)\n', ['csv 2'], [['POINT(1 2)', 'POINT(3 4)']]],
   ['{"type":"Point","coordinates":[0.1,12345678901234567890]}', ['geojson'], [['POINT(0.1 12345678901234567890)']]],
   ['{"type":"FeatureCollection","features":[{"type":"Feature","geometry":{"type":"Point","coordinates":[1,2,3]}},{"type":"Feature","geometry":null}]}',
     ['geojson'], [['POINT Z(1 2 3)']]],
@@ -80,7 +83,7 @@ test('rings and lines of RFC 7946', () => {
 });
 
 function given(lines, asked) {
-  const pieces = formed(wkt, lines, { rings: 'refuse', winding: 'keep', m: 'refuse', refused: 'drop', numberOf: (n) => 10 * n, ...asked });
+  const pieces = formed(lines, { rings: 'refuse', winding: 'keep', m: 'refuse', refused: 'drop', numberOf: (n) => 10 * n, ...asked });
   let text = '';
   for (;;) {
     const { value, done } = pieces.next();
@@ -101,6 +104,10 @@ test('features of GeoJSON', () => {
   assert.deepEqual(JSON.parse(given([], { form: 'geojson' }).text), { type: 'FeatureCollection', features: [] });
 });
 
+test('features of numbers of any places', () => {
+  for (const number of ['0.1234567890123456789', `1${'0'.repeat(30)}`]) assert.match(given([`POINT(${number} 2)`], { form: 'geojson' }).text, new RegExp(`\\[${number},2\\]`));
+});
+
 test('canonical lines', () => {
   assert.equal(given(LINES.slice(0, 3), { form: 'wkt' }).text, 'POINT(0.1 2)\nLINESTRING(1 2)\n');
   assert.equal(given(LINES.slice(0, 3), { form: 'wkt', refused: 'keep' }).text, 'POINT(0.1 2)\nrefused\nLINESTRING(1 2)\n');
@@ -112,6 +119,19 @@ test('a table of refusals', () => {
   assert.deepEqual([...records(tableOf([why]), ',')].map(({ cells }) => cells),
     [['line', 'place', 'expected', 'cause', 'hint', 'message', 'text'], ['3', '7', expected, 'expected_point', '', 'Format', '\'=POINT("a")']]);
   assert.deepEqual(['\u202e', '-1', 'a\nb'].map(cell), ['\\u{202e}', "'-1", 'a\\x0ab']);
+});
+
+test('a line that is not UTF-8 is refused at the first byte of what is no character', () => {
+  // As bytes of Latin-1; the byte. The command says the same.
+  const long = '\xc3\xa9'.repeat(1 << 20);
+  for (const [line, at] of [['\xff', 1], ['POINT(\xff 2)', 7], ['POINT(1 2) \xe9', 12], ['POINT(1 2) \xe9 x', 12], ['POINT(1 2) \xc3\xa9 \xe2\x82', 15], ['\xed\xa0\x80', 1],
+    [`${long}\xe9 `, long.length + 1], [` ${long}\xe9`, long.length + 2]]) {
+    const bytes = Uint8Array.from(line, (c) => c.charCodeAt(0));
+    for (const way of ['lines', 'one']) {
+      const [why] = new Blocks(wkt, { reading: { places: 18, dialect: '' } })[way](bytes, 1).refusals.whys;
+      assert.deepEqual([why.column, why.hint], [at, `byte ${at} of the line is not UTF-8`], line.slice(0, 30));
+    }
+  }
 });
 
 test('refusals by their causes', () => {

@@ -37,6 +37,14 @@ test('a geometry ends where its parentheses close', () => {
   assert.deepEqual(piecesOf('POINT(1\n2)', 'lines').map(({ text }) => text), ['POINT(1', '2)']);
 });
 
+test('a line is blank where it has white space of the grammar alone', () => {
+  for (const split of ['auto', 'lines', 'one']) assert.deepEqual(piecesOf(' \n\t\r\n', split), []);
+  for (const mark of ['\u00a0', '\ufeff', '\u2028', '\x01', '\f']) {
+    for (const split of ['auto', 'lines']) assert.equal(piecesOf(`POINT(1 2)\n \n${mark}\nPOINT(3 4)`, split).length, 3, JSON.stringify(mark));
+    assert.equal(piecesOf(mark, 'auto').length, 1);
+  }
+});
+
 /** What the page has of a text after a change: the pieces that it had, but for those of the change. */
 function changed(before, old, text, split) {
   const { front, back, pieces, moved, lines } = changedPieces(before, old, text, split);
