@@ -17,7 +17,10 @@ date=$(sed -n "s/^## \[$version\] - \([0-9-]*\)\$/\1/p" "$root/CHANGELOG.md")
 when=$(if [ -n "$date" ]; then date -u -d "$date" +%s; else git -C "$root" log -1 --format=%ct; fi)
 # What stands in a clone, at the same place there.
 parts=(capi include dist postgres sqlite rust python javascript web/make.py tests/data/command tests/gate/command.sh tests/gate/keys.c
-    tests/data/keys.tsv crates/wktline/stdin crates/wktline/stdout packaging/release/man packaging/release/completions LICENSE-APACHE LICENSE-MIT CHANGELOG.md)
+    tests/data/keys.tsv crates/wktline/stdin crates/wktline/stdout packaging/release/man packaging/release/completions LICENSE-APACHE LICENSE-MIT CHANGELOG.md
+    # The pages that the others lead to.
+    docs/{ABI,API,CALLING,COMMAND,DIALECTS,FILES,FROM_OTHER_TOOLS,GLOSSARY,GRAMMAR,KEYS,PROVED,SUPPORT}.md docs/names.tsv
+    SECURITY.md bench/README.md tests/README.md tests/fuzz/README.md)
 
 rm -rf "$to"
 mkdir -p "$to"

@@ -27,6 +27,7 @@ calls() {
 source_release() {
     tar -C "$dir" -xzf "$out"/wkt-proved-*.tar.gz
     (cd "$out" && sha256sum --quiet -c SHA256SUMS) || fail "sums"
+    "$root/tests/gate/pages.py" --links "$dir"/wkt-proved-*/ > "$dir/log" || { cat "$dir/log"; fail "links"; }
     make -s -C "$dir"/wkt-proved-*/ install DESTDIR="$dir/root" PREFIX=/usr > "$dir/log" 2>&1 || { cat "$dir/log"; fail "make install"; }
     calls env PATH="$dir/root/usr/bin:$PATH"
     export PKG_CONFIG_PATH=$dir/root/usr/lib/pkgconfig PKG_CONFIG_SYSROOT_DIR=$dir/root

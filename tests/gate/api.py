@@ -48,7 +48,8 @@ class Item:
             if not line or line.startswith(("#", "```", "-")):
                 break
             first.append(line)
-        text = " ".join(first)
+        # A link to another item leads nowhere on a page: its name alone.
+        text = re.sub(r"\[(`[^`]*`)\](\([^)\s]*\))?", r"\1", " ".join(first))
         end = re.search(r"\.(?= |$)", text)
         return text[: end.end()] if end else text
 

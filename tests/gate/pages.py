@@ -2,6 +2,7 @@
 """Checks the pages: long sentences, links that lead nowhere, README's commands, counts, API.md.
 
     tests/gate/pages.py      prints what is wrong, a line each; status 1 where anything is
+    tests/gate/pages.py --links FOLDER      only the links that lead nowhere, of the pages below a folder
 """
 import os
 import re
@@ -10,7 +11,7 @@ import sys
 
 TOP = os.path.dirname(os.path.dirname(os.path.dirname(os.path.abspath(__file__))))
 WORDS = 35
-# Made from the sources, so neither read by sentences nor counted.
+# Made from the sources, so not read by sentences; its links are looked at.
 MADE = {"docs/API.md"}
 # Programs of the toolchain and of the system that README's commands begin with.
 KNOWN = {
@@ -45,8 +46,8 @@ def pages():
     return listed.stdout.split()
 
 
-def text_of(path):
-    with open(f"{TOP}/{path}", encoding="utf-8") as page:
+def text_of(path, top=TOP):
+    with open(f"{top}/{path}", encoding="utf-8") as page:
         return page.read()
 
 
@@ -71,16 +72,16 @@ def anchors(text):
     return {re.sub(r"[^\w\- ]", "", head.lower()).strip().replace(" ", "-") for head in heads}
 
 
-def lost_links(path, text):
+def lost_links(path, text, top=TOP):
     """The links of a page that lead nowhere."""
     for target in re.findall(r"\]\(([^)\s]+)\)", text):
-        if re.match(r"[a-z]+:", target):
+        if re.match(r"[a-z]+:(?!:)", target):
             continue
         file, _, anchor = target.partition("#")
         to = os.path.normpath(os.path.join(os.path.dirname(path), file)) if file else path
-        if not os.path.exists(f"{TOP}/{to}"):
+        if not os.path.exists(f"{top}/{to}"):
             yield f"{path}: the link {target} leads nowhere"
-        elif anchor and anchor not in anchors(text_of(to)):
+        elif anchor and anchor not in anchors(text_of(to, top)):
             yield f"{path}: {to} has no heading {anchor}"
 
 
@@ -143,9 +144,9 @@ def stale_counts():
 def wrong():
     for path in pages():
         text = text_of(path)
+        yield from lost_links(path, text)
         if path in MADE:
             continue
-        yield from lost_links(path, text)
         for sentence in sentences(text):
             count = len(sentence.split())
             if count > WORDS:
@@ -158,7 +159,20 @@ def wrong():
         yield "docs/API.md: not what tests/gate/api.py makes of the sources"
 
 
+def links_below(folder):
+    """The links that lead nowhere, of all pages below a folder."""
+    for base, _, names in os.walk(folder):
+        for name in sorted(names):
+            if name.endswith(".md"):
+                path = os.path.relpath(os.path.join(base, name), folder)
+                yield from lost_links(path, text_of(path, folder), folder)
+
+
 def main():
+    if sys.argv[1:2] == ["--links"]:
+        found = list(links_below(sys.argv[2]))
+        print("\n".join(found) if found else "each link leads somewhere")
+        return 1 if found else 0
     found = list(wrong())
     print("\n".join(found) if found else f"the pages are in order: {len(pages())} of them")
     return 1 if found else 0
