@@ -1,15 +1,16 @@
 #!/usr/bin/env python3
-"""Tries the mutants, each by the functions that it changes: mutants.py [--stale] [--minutes N] [CRATE[/NAME]..]
+"""Tries the mutants, each by the functions that it changes: mutants.py [--promises|--stale] [CRATE[/NAME]..]
 
 A mutant has to be refused. The functions that it changes are checked alone, in seconds, several at a time, over the
-libraries that `rt ci` left. A mutant that its functions let through is tried by its file and then by its crate, since a
-function without clauses is held by those that call it.
+libraries that `rt ci` left. Those of functions with clauses are made some at a time in one copy of their crate: there a
+function is proved from the clauses of those that it calls, so another mutant can't have it refused. A mutant that its
+functions let through is tried by its file and then by its crate, since a function without clauses is held by those that
+call it.
 
 tests/data/mutants/SEEN says of each mutant in which state of its crate it was last seen refused, the oldest first.
 The state is made of the mutant, of its crate, and of the definitions of all crates below: where one changes, the mutant
-is stale. --stale tries those alone, and `promise-..`, of which each breaks a promise of the README. --minutes N begins
-with no more of the stale ones N minutes later, and says how many are left. Mutants of crates/*/must-fail are not
-listed, since `rt ci` tries these each time.
+is stale. --stale tries those alone. --promises tries `promise-..` alone, of which each breaks a promise of the README,
+and says how many are stale. Mutants of crates/*/must-fail are not listed, since `rt ci` tries these each time.
 
 It needs the toolchain, and what `rt ci` left in crates/CRATE/out.
 """
@@ -18,7 +19,6 @@ import argparse
 import concurrent.futures
 import functools
 import hashlib
-import itertools
 import os
 import pathlib
 import re
@@ -26,7 +26,6 @@ import shutil
 import subprocess
 import sys
 import tempfile
-import time
 
 sys.path.insert(0, str(pathlib.Path(__file__).resolve().parents[1] / "lib"))
 from edits import FOLDER, beside, crates as all_crates, edits_of  # noqa: E402 (found by the line above)
@@ -46,12 +45,23 @@ def named(edit):
     return [*(level for level in levels if level and found[0][1]), set()]
 
 
-def named_at(crate, file, old):
-    """The function around a text by its type and name and by its name alone, and the file's module."""
+def has_clauses(crate, file, old):
+    """Whether a text is of a function with clauses: then its brace is on a line of its own."""
+    lines, at = lines_to(crate, file, old)
+    return at is not None and lines[at][: -len(lines[at].lstrip())] + "{" in lines[at:]
+
+
+def lines_to(crate, file, old):
+    """The lines of a file as far as a text, and which of them begins the function around it."""
     text = pathlib.Path(TOP, "crates", crate, file).read_text(encoding="utf-8")
     lines = text[: text.find(old) + len(old)].split("\n")
+    return lines, next((at for at in reversed(range(len(lines))) if FUNCTION.match(lines[at])), None)
+
+
+def named_at(crate, file, old):
+    """The function around a text by its type and name and by its name alone, and the file's module."""
+    lines, at = lines_to(crate, file, old)
     module = re.sub(r"^src/|\.rt$", "", file).replace("/", "::")
-    at = next((at for at in reversed(range(len(lines))) if FUNCTION.match(lines[at])), None)
     if at is None:
         return None, None, module
     name, owner = FUNCTION.match(lines[at])[1], None
@@ -75,25 +85,62 @@ def words_for(crate, uses, is_static):
     return words + ["--links", f"{crate}=", "--jobs", "1"] + ["--crate-type", "staticlib"] * is_static
 
 
-def tried(edit, words):
-    """Whether the mutant is refused, and what says so."""
+def check_of(edits, names, words):
+    """What a check of some functions says, and its status, where these edits are made."""
     with tempfile.TemporaryDirectory() as room:
         for part in ("src", "specs", "proofs"):
-            if os.path.isdir(f"{TOP}/crates/{edit.crate}/{part}"):
-                shutil.copytree(f"{TOP}/crates/{edit.crate}/{part}", f"{room}/{part}")
-        edit.applied(room)
-        for names in named(edit):
-            only = [word for name in sorted(names) for word in ("--only", name)]
-            ran = subprocess.run(
-                [*words, *only], cwd=room, stdin=subprocess.DEVNULL, capture_output=True, text=True, errors="replace"
-            )
-            said = ran.stdout + ran.stderr
-            refused = re.search(r"^(only=\d+ proved=\d+|logic=not-proved.*)$", said, re.M)
-            if ran.returncode == 1 and refused and not re.search(r"error\[[\w-]+\]", said):
-                return True, f"{' '.join(sorted(names)) or 'the crate'}: {refused[0]}"
-            if ran.returncode not in (0, 2):
-                return False, f"not tried: {said.strip().splitlines()[-1] if said.strip() else ran.returncode}"
+            if os.path.isdir(f"{TOP}/crates/{edits[0].crate}/{part}"):
+                shutil.copytree(f"{TOP}/crates/{edits[0].crate}/{part}", f"{room}/{part}")
+        for edit in edits:
+            edit.applied(room)
+        only = [word for name in sorted(names) for word in ("--only", name)]
+        ran = subprocess.run(
+            [*words, *only], cwd=room, stdin=subprocess.DEVNULL, capture_output=True, text=True, errors="replace"
+        )
+        return ran.stdout + ran.stderr, ran.returncode
+
+
+def verdict(said, status):
+    """The line by which a check says that something isn't proved; None where it says no such thing."""
+    found = re.search(r"^(only=\d+ proved=\d+|logic=not-proved.*)$", said, re.M)
+    return found and status == 1 and not re.search(r"error\[[\w-]+\]", said) and found[0]
+
+
+def tried(edit, words):
+    """Whether the mutant is refused, and what says so."""
+    for names in named(edit):
+        said, status = check_of([edit], names, words)
+        if found := verdict(said, status):
+            return True, f"{' '.join(sorted(names)) or 'the crate'}: {found}"
+        if status not in (0, 2):
+            return False, f"not tried: {said.strip().splitlines()[-1] if said.strip() else status}"
     return False, "the whole crate is proved with it"
+
+
+def tried_together(edits, words):
+    """The same of each of some, of which no two change one function."""
+    if len(edits) > 1:
+        said, status = check_of(edits, set().union(*(named(it)[0] for it in edits)), words)
+        if verdict(said, status):
+            lost = re.findall(r"^fn (\S+): (?!proved)", said, re.M)
+            found = [[it for it in lost if any(it.endswith(f"::{name}") for name in named(edit)[0])] for edit in edits]
+            return [(True, " ".join(it)) if it else tried(edit, words) for edit, it in zip(edits, found)]
+    return [tried(it, words) for it in edits]
+
+
+def together(edits):
+    """The mutants in groups that are tried together, each of one crate."""
+    groups = []
+    for edit in edits:
+        names = named(edit)[0] if all(has_clauses(edit.crate, file, old) for file, old, _ in edit.changes) else None
+        for group, taken in groups:
+            if names and taken and group[0].crate == edit.crate and len(group) < 6 and not names & taken:
+                group.append(edit)
+                taken |= names
+                break
+        else:
+            groups.append(([edit], names))
+    return [group for group, _ in groups]
 
 
 @functools.cache
@@ -126,56 +173,46 @@ def note_refused(refused):
     SEEN.write_text("".join(f"{name} {state}\n" for name, state in rows.items() if name in known), encoding="utf-8")
 
 
-def is_promise(edit):
-    return edit.name.startswith("promise-")
+def is_stale(edit):
+    return seen_refused().get(f"{edit.crate}/{edit.name}") != state_of(edit)
 
 
 def wanted(given):
-    """The mutants that are asked for; of the stale ones the oldest first."""
-    edits = []
+    """The mutants that are asked for, of the crates or by the names that are given."""
     for word in given.mutants or all_crates():
         crate, _, name = word.partition("/")
-        edits += [it for it in (beside(crate) if given.stale else edits_of(crate)) if name in ("", it.name)]
-    if not given.stale:
-        return edits
-    seen = seen_refused()
-    ages = {name: age for age, name in enumerate(seen)}
-    stale = [it for it in edits if is_promise(it) or seen.get(f"{it.crate}/{it.name}") != state_of(it)]
-    return sorted(stale, key=lambda it: ages.get(f"{it.crate}/{it.name}", -1))
+        for edit in edits_of(crate) if not (given.stale or given.promises) else beside(crate):
+            if name in ("", edit.name) and (not given.promises or edit.name.startswith("promise-")):
+                if not given.stale or is_stale(edit):
+                    yield edit
 
 
 def main():
     options = argparse.ArgumentParser(description=__doc__, formatter_class=argparse.RawDescriptionHelpFormatter)
+    options.add_argument("--promises", action="store_true")
     options.add_argument("--stale", action="store_true")
-    options.add_argument("--minutes", type=float, default=1e6)
     options.add_argument("mutants", nargs="*", metavar="CRATE[/NAME]")
     given = options.parse_args()
     uses = uses_of()
     with open(f"{TOP}/crates.txt", encoding="utf-8") as rows:
         static = {row.split()[0] for row in rows if " staticlib:" in row}
-    edits = wanted(given)
+    edits = list(wanted(given))
     words = {crate: words_for(crate, uses, crate in static) for crate in {it.crate for it in edits}}
-    refused, left, failed = {}, 0, 0
+    refused = {}
     with concurrent.futures.ThreadPoolExecutor(len(os.sched_getaffinity(0))) as pool:
-        promises, others = [[it for it in edits if is_promise(it) == is_one] for is_one in (True, False)]
-        first = [*pool.map(lambda it: tried(it, words[it.crate]), promises)]
-        until = time.time() + 60 * given.minutes
-        then = pool.map(lambda it: tried(it, words[it.crate]) if time.time() < until else None, others)
-        for edit, answer in zip(promises + others, itertools.chain(first, then)):
-            name = f"{edit.crate}/{edit.name}"
-            if answer is None:
-                left += 1
-                continue
-            if answer[0]:
-                refused[name] = state_of(edit)
-            failed += not answer[0]
-            print(f"{name}: {'refused' if answer[0] else 'NOT REFUSED'}: {answer[1]}", flush=True)
+        groups = together(edits)
+        for group, answers in zip(groups, pool.map(lambda it: tried_together(it, words[it[0].crate]), groups)):
+            for edit, (is_refused, why) in zip(group, answers):
+                if is_refused:
+                    refused[f"{edit.crate}/{edit.name}"] = state_of(edit)
+                print(f"{edit.crate}/{edit.name}: {'refused' if is_refused else 'NOT REFUSED'}: {why}", flush=True)
     note_refused(refused)
-    print(f"{len(refused)} mutants refused, {failed} not, {left} left for the next time")
-    if left and "NOT_RUN" in os.environ:  # of the gate, which ends with what it didn't run
+    print(f"{len(refused)} mutants refused, {len(edits) - len(refused)} not")
+    stale = sum(is_stale(it) for crate in all_crates() for it in beside(crate)) if given.promises else 0
+    if stale and "NOT_RUN" in os.environ:  # of the gate, which ends with what it didn't run
         with open(os.environ["NOT_RUN"], "a", encoding="utf-8") as passed_over:
-            passed_over.write(f"{left} stale mutants: tests/gate/mutants.py --stale\n")
-    return 1 if failed else 0
+            passed_over.write(f"{stale} stale mutants: tests/gate/mutants.py --stale\n")
+    return 1 if len(edits) > len(refused) else 0
 
 
 if __name__ == "__main__":
