@@ -122,7 +122,8 @@ def tried_together(edits, words):
     if len(edits) > 1:
         said, status = check_of(edits, set().union(*(named(it)[0] for it in edits)), words)
         if verdict(said, status):
-            lost = re.findall(r"^fn (\S+): (?!proved)", said, re.M)
+            # A function that calls one that isn't proved isn't proved either, which says nothing of its own mutant.
+            lost = re.findall(r"^fn (\S+): (?!proved|no proof: it calls )", said, re.M)
             found = [[it for it in lost if any(it.endswith(f"::{name}") for name in named(edit)[0])] for edit in edits]
             return [(True, " ".join(it)) if it else tried(edit, words) for edit, it in zip(edits, found)]
     return [tried(it, words) for it in edits]
