@@ -3,9 +3,9 @@
 
 A mutant has to be refused. The functions that it changes are checked alone, in seconds, several at a time, over the
 libraries that `rt ci` left. Those of functions with clauses are made some at a time in one copy of their crate: there a
-function is proved from the clauses of those that it calls, so another mutant can't have it refused. A mutant that its
-functions let through is tried by its file and then by its crate, since a function without clauses is held by those that
-call it.
+function is proved from the clauses of those that it calls. Where it isn't proved since one of these isn't, its mutant is
+tried alone. A mutant that its functions let through is tried by its file and then by its crate, since a function without
+clauses is held by those that call it.
 
 tests/data/mutants/SEEN says of each mutant in which state of its crate it was last seen refused, the oldest first.
 The state is made of the mutant, of its crate, and of the definitions of all crates below: where one changes, the mutant
@@ -122,7 +122,7 @@ def tried_together(edits, words):
     if len(edits) > 1:
         said, status = check_of(edits, set().union(*(named(it)[0] for it in edits)), words)
         if verdict(said, status):
-            # A function that calls one that isn't proved isn't proved either, which says nothing of its own mutant.
+            # What calls one that isn't proved isn't proved either.
             lost = re.findall(r"^fn (\S+): (?!proved|no proof: it calls )", said, re.M)
             found = [[it for it in lost if any(it.endswith(f"::{name}") for name in named(edit)[0])] for edit in edits]
             return [(True, " ".join(it)) if it else tried(edit, words) for edit, it in zip(edits, found)]
