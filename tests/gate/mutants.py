@@ -2,10 +2,10 @@
 """Tries the mutants, each by the functions that it changes: mutants.py [--promises|--stale] [CRATE[/NAME]..]
 
 A mutant has to be refused. The functions that it changes are checked alone, in seconds, several at a time, over the
-libraries that `rt ci` left. Those of functions with clauses are made some at a time in one copy of their crate: there a
-function is proved from the clauses of those that it calls. Where it isn't proved since one of these isn't, its mutant is
-tried alone. A mutant that its functions let through is tried by its file and then by its crate, since a function without
-clauses is held by those that call it.
+libraries that `rt ci` left. Those of functions with clauses are made some at a time in one copy of their crate: there
+a function is proved from the clauses of those that it calls. Where it isn't proved since one of these isn't, its mutant
+is tried alone. A mutant that its functions let through is tried by its file and then by its crate, since a function
+without clauses is held by those that call it.
 
 tests/data/mutants/SEEN says of each mutant in which state of its crate it was last seen refused, the oldest first.
 The state is made of the mutant, of its crate, and of the definitions of all crates below: where one changes, the mutant
