@@ -8,4 +8,3 @@ pub use Rattle.wkt_read.proofs.OnePlacing
 pub use Rattle.wkt_sources.proofs.ByteViews
 pub use Rattle.wkt_sources.proofs.FrontValues
 pub mod Texts
-mod Visiting

@@ -9,7 +9,7 @@ use Rattle.wkt_flat.specs.Equal.{coord_eq}
 use Rattle.wkt_flat.specs.Shape.{flat_shape}
 use Rattle.wkt_flat.specs.declared.coord.Coord.{Coord}
 use Rattle.wkt_flat.specs.declared.geometry.Geometry.{Geometry}
-use Rattle.wkt.specs.Bounds.{IsAtMost}
+use Rattle.wkt_flat.specs.Bounds.{IsAtMost}
 use Rattle.wkt_types.specs.Tree.{tree, members}
 use Rattle.wkt_types.specs.declared.geometry.Wkt.{Wkt}
 use Rattle.wkt_types.specs.Outcome.{Outcome, value}

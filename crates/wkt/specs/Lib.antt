@@ -79,9 +79,9 @@ pub use Rattle.wkt_flat.specs.Shape as FlatShape
 pub use Rattle.wkt_flat.specs.Rings
 pub use Rattle.wkt_flat.specs.declared.coord.Coord as FlatCoord
 -- walks over its coordinates
-pub mod FlatCoords
-pub mod Bounds
-pub mod Mapped
+pub use Rattle.wkt_flat.specs.FlatCoords
+pub use Rattle.wkt_flat.specs.Bounds
+pub use Rattle.wkt_flat.specs.Mapped
 -- conversions between the two
 pub use Rattle.wkt_convert.specs.Flatten
 pub use Rattle.wkt_convert.specs.Kinds as FlatKinds

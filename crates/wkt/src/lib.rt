@@ -72,9 +72,7 @@
 #![tactic(auto)]
 
 mod any_error;
-mod bounds;
 mod canonical;
-mod count;
 mod flat_laws;
 mod from_text;
 mod json;
@@ -82,9 +80,7 @@ pub mod literals;
 #[cfg(test)]
 mod macro_tests;
 mod macros;
-mod map;
 mod same;
-mod visit;
 mod whole;
 
 pub use any_error::AnyError;
@@ -181,10 +177,7 @@ pub mod geo_types_from_wkt {
 /// let rect = bounding_rect(&geometry); // from (0, 1) to (3, 5)
 /// ```
 pub mod walks {
-    pub use crate::bounds::bounding_rect;
-    pub use crate::count::num_coords;
-    pub use crate::map::{Mapper, map_coords};
-    pub use crate::visit::{Visitor, visit_coords};
+    pub use wkt_flat::{Mapper, Visitor, bounding_rect, map_coords, num_coords, visit_coords};
 }
 
 /// Why a geometry isn't written, and one error for whatever a function here returns.
