@@ -21,10 +21,10 @@ use Rattle.wkt_flat.specs.declared.geometry.Geometry.{Geometry}
 use Rattle.wkt_flat.specs.declared.geometry.GeometryCollection.{GeometryCollection}
 use Rattle.wkt_flat.proofs.TreeLemmas.{flat-point}
 use Rattle.wkt_convert.specs.declared.flattened.Flattened.TheVariants.{Collection, RefusedCollection, Other, RefusedMultiPoint}
-use Rattle.wkt_flat_read.specs.declared.tree.FlatEnded.{FlatEnded}
+use Rattle.wkt_values.specs.declared.tree.Ended.{Ended}
 use Rattle.wkt_flat_read.specs.declared.tree.FlatTree.{FlatTree}
 use Rattle.wkt_flat.specs.declared.geometry.Geometry.TheVariants as geometry
-use Rattle.wkt_flat_read.specs.declared.tree.FlatEnded.TheVariants as last
+use Rattle.wkt_values.specs.declared.tree.Ended.TheVariants as last
 
 -- Parts of lists, and tests of them.
 
@@ -209,7 +209,7 @@ module _ {T : Type 0} where
 
 module _ {T : Type 0} (E : Coord T → Coord T → Bool) where
   -- the value that ended has the kind of what ended
-  kinds : (l : FlatEnded) (t : FlatTree T) (o : List (Frame T)) (v : Value T) → FlatHoldsEnded E l t o v → kind_of E v ≡ found_of l
+  kinds : (l : Ended) (t : FlatTree T) (o : List (Frame T)) (v : Value T) → FlatHoldsEnded E l t o v → kind_of E v ≡ found_of l
   kinds last.Point t o v (d, c, is, at, only, are_open) = ap (kind_of E) (sym is)
   kinds last.LineString t o v (d, c, is, only, are_open) = ap (kind_of E) (sym is)
   kinds last.Polygon t o v (d, c, is, only, are_open) = ap (kind_of E) (sym is)
@@ -271,7 +271,7 @@ module _ {T : Type 0} (E : Coord T → Coord T → Bool) where
         let is : plain E (value_of k) ≡ Flat.collection (flat_trees g) = ap (plain E) e ∙ go t.last refl none h.whole in
         (flat_is E k ∙ ap (λ b. unless b (plain E (value_of k))) free ∙ ap value is, collection_is E k kind (flat_trees g) is ∙ ap (λ b. unless b (flat_trees g)) free)
       where
-        go : (l : FlatEnded) → t.last ≡ l → found_of l ≡ None → FlatHoldsEnded E l t [] v → plain E v ≡ Flat.collection (flat_trees g)
+        go : (l : Ended) → t.last ≡ l → found_of l ≡ None → FlatHoldsEnded E l t [] v → plain E v ≡ Flat.collection (flat_trees g)
         go last.Collection same none (f, is, only, are_open) =
             ap (plain E) (sym is) ∙ ap (λ ts. Flat.collection ts) (sym (members-plain E f.members)) ∙ ap (λ ms. Flat.collection (flats_of ms)) (sym (gives.last same f [] are_open).0) ∙ ap (λ ts. Flat.collection ts) (sym are)
         go last.NoMembers same none (d, is, only, are_open) = ap (plain E) (sym is) ∙ ap (λ gs. Flat.collection (flat_members gs)) (sym (gives.none same).0) ∙ ap (λ ts. Flat.collection ts) (sym are)

@@ -14,7 +14,7 @@ use Rattle.wkt_values.specs.Growing.{Frame, Growing, coord, rest, joined, opened
 use Rattle.wkt_machine.specs.declared.part.Part.{Part}
 use Rattle.wkt_machine.specs.declared.part.Part.TheVariants as part
 use Rattle.wkt_flat_read.specs.Trees.{flat_line, flat_area, flat_point, flat_points, plain, is_empty, some_empty, holds_empty, coord_by, coord_of, point_at, members, opened, frames, frames_hold, some_holds, FlatHasOnly, FlatIsLost, FlatHoldsParts, FlatHoldsEnded, FlatHoldsWhole, FlatHoldsBy, FlatHolds, FlatBecomes, FlatGrew, FlatGives, FlatGivesLast, GivesMembers, FlatJoins}
-use Rattle.wkt_flat_read.specs.declared.tree.FlatEnded.TheVariants as last
+use Rattle.wkt_values.specs.declared.tree.Ended.TheVariants as last
 use Rattle.wkt_flat_read.specs.declared.tree.FlatTree.{FlatTree}
 use Rattle.wkt_flat_read.proofs.Ended.{or_false, or_true, or_assoc, unmap-last, none-last, line-append, points-append, empty-last, holds-last, members-hold, members-plain, hand_line, hand_point, hand_empty}
 use Rattle.wkt_machine.specs.declared.part.Axis.{Axis}

@@ -19,13 +19,13 @@ use Rattle.wkt_convert.specs.declared.flattened.Flattened.{Flattened}
 use Rattle.wkt_convert.specs.declared.flattened.Found.{Found}
 use Rattle.wkt_machine.specs.Events.{Event}
 use Rattle.wkt_values.specs.Growing.{Frame, Growing, grow_all, joined, members_of, MayAll, grow}
-use Rattle.wkt_flat_read.specs.declared.tree.FlatEnded.{FlatEnded}
+use Rattle.wkt_values.specs.declared.tree.Ended.{Ended}
 use Rattle.wkt_flat_read.specs.declared.tree.FlatTree.{FlatTree}
 use Rattle.wkt_values.specs.Trees.{grow_append}
 use Rattle.wkt_machine.specs.Makers.{Maker}
 use Rattle.wkt_flat_read.specs.declared.flat_builder.FlatBuilder.{FlatBuilder}
 use Rattle.wkt_convert.specs.declared.flattened.Found.TheVariants as found
-use Rattle.wkt_flat_read.specs.declared.tree.FlatEnded.TheVariants as ended
+use Rattle.wkt_values.specs.declared.tree.Ended.TheVariants as ended
 use Rattle.wkt_read.specs.Answered.{IsFront}
 use Rattle.wkt_read.specs.declared.error.ReadError.{ReadError}
 use Rattle.wkt_read.specs.declared.error.ReadError.TheVariants.{Text, Memory}
@@ -120,7 +120,7 @@ point_or_none None = Flat.multi_point []
 point_or_none (Some c) = Flat.point (record { 0 = c })
 
 -- the kind of what ended, if it is no collection
-abbrev pub found_of : FlatEnded → Option Found
+abbrev pub found_of : Ended → Option Found
 found_of ended.Point = Some found.Point
 found_of ended.LineString = Some found.LineString
 found_of ended.Polygon = Some found.Polygon
@@ -178,7 +178,7 @@ module _ {T : Type 0} (E : Coord T → Coord T → Bool) where
     pub open_ones : opened t ≡ frames E w.outer
 
   -- The geometry that ended has this value, its parts are all that is at hand, and these collections are open but for it.
-  abbrev pub FlatHoldsEnded : FlatEnded → FlatTree T → List (Frame T) → Value T → Type 0
+  abbrev pub FlatHoldsEnded : Ended → FlatTree T → List (Frame T) → Value T → Type 0
   FlatHoldsEnded ended.Point t o v = (d : Dimension) × (c : Option (List T)) × (Value.point d c ≡ v) × (point_at (coord_of t) ≡ flat_point c) × FlatHasOnly t [] [] [] [] × (opened t ≡ frames E o)
   FlatHoldsEnded ended.LineString t o v = (d : Dimension) × (cs : List (List T)) × (Value.line_string d cs ≡ v) × FlatHasOnly t (flat_line cs) [] [] [] × (opened t ≡ frames E o)
   FlatHoldsEnded ended.Polygon t o v = (d : Dimension) × (ls : List (List (List T))) × (Value.polygon d ls ≡ v) × FlatHasOnly t [] [] (map flat_line ls) [] × (opened t ≡ frames E o)

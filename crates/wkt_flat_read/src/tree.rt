@@ -1,5 +1,5 @@
 //! Flat values, made as the parts of a geometry come.
-ghost use Rattle.std.specs.Prelude.{◌≡◌, ◌++◌, ◌∷◌, [], if◌then◌else◌, IfOk, IfSome, None};
+ghost use Rattle.std.specs.Prelude.{◌≡◌, [], IfOk, IfSome, None};
 ghost use Rattle.wkt_flat.specs.Equal.{coord_eq};
 ghost use Rattle.wkt_flat.specs.Tree.{Flat, flat_tree};
 ghost use Rattle.wkt_convert.specs.Flatten.{first_outside};
@@ -8,7 +8,6 @@ ghost use Rattle.wkt_machine.specs.declared.part.Part.TheVariants as kind;
 ghost use Rattle.wkt_flat_read.specs.Trees.{FlatBecomes, FlatGives, GivesCollection, GivesFlat, FlatGivesLast, GivesMembers, GivesOther, FlatHolds, FlatJoins, IsLone, coord_of, found_of, point_or_none};
 
 use std::alloc::{AllocError, Global};
-use std::mem;
 use wkt_convert::{Flattened, Found};
 use wkt_flat::{
     Coord, Geometry, GeometryCollection, LineString, MultiLineString, MultiPoint, MultiPolygon,
@@ -16,21 +15,8 @@ use wkt_flat::{
 };
 use wkt_machine::{Axis, Part};
 use wkt_num::WktNum;
-
-/// A geometry that ended, by where its parts are kept.
-#[derive(Clone, Copy)]
-enum FlatEnded {
-    Point,
-    LineString,
-    Polygon,
-    MultiPoint,
-    MultiLineString,
-    MultiPolygon,
-    /// The collection that was opened last.
-    Collection,
-    /// A collection that wasn't opened, since it has no members.
-    NoMembers,
-}
+use wkt_values::Ended;
+use wkt_values::adding::{add, add_one, taken};
 
 /// What was made of the parts so far. Those of a geometry stay here until it is known where it goes: a member that
 /// another follows is put into its collection as one of several, the last one with room for itself alone.
@@ -38,7 +24,7 @@ enum FlatEnded {
 pub struct FlatTree<T> {
     alloc: Global,
     // The geometry that ended last.
-    last: FlatEnded,
+    last: Ended,
     // Whether something was lost, for want of memory.
     is_lost: bool,
     // Whether an empty point came as a member of a multipoint. It isn't kept, since it isn't flat.
@@ -52,49 +38,6 @@ pub struct FlatTree<T> {
     areas: Vec<Polygon<T>>,
     // The members of the collections that are open.
     outer: Vec<Vec<Geometry<T>>>,
-}
-
-/// The list, in whose place a new one stands.
-#[inline(always)]
-fn taken<V>(list: &mut Vec<V>, alloc: Global) -> Vec<V>
-    ensures value { result ≡ list.old }
-    ensures after { list.new.items ≡ [] }
-{
-    mem::replace(list, Vec::new(alloc))
-}
-
-/// Adds an item; or there was no memory for it.
-#[inline(always)]
-fn add<V: Drop>(list: &mut Vec<V>, item: V) -> bool
-    ensures { list.new.items ≡ (if result then list.old.items ++ item ∷ [] else list.old.items) }
-{
-    match list.push(item) {
-        Ok(()) => true,
-        Err(_) => false,
-    }
-}
-
-/// Adds an item, with room for it alone; or there was no memory for it.
-#[inline(always)]
-fn add_last<V: Drop>(list: &mut Vec<V>, item: V) -> bool
-    ensures { list.new.items ≡ (if result then list.old.items ++ item ∷ [] else list.old.items) }
-{
-    match list.reserve_exact(1) {
-        Ok(()) => add(list, item),
-        Err(_) => false,
-    }
-}
-
-/// Adds an item to those before it, the last one with room for itself alone.
-#[inline(always)]
-fn add_one<V: Drop>(list: &mut Vec<V>, item: V, is_last: bool) -> bool
-    ensures { list.new.items ≡ (if result then list.old.items ++ item ∷ [] else list.old.items) }
-{
-    if is_last {
-        add_last(list, item)
-    } else {
-        add(list, item)
-    }
 }
 
 /// The polygon of the rings, each of them closed. The first is the exterior.
@@ -117,7 +60,7 @@ impl<T: WktNum> FlatTree<T> {
     {
         FlatTree {
             alloc,
-            last: FlatEnded::Point,
+            last: Ended::Point,
             is_lost: false,
             is_refused: false,
             x: None,
@@ -246,7 +189,7 @@ impl<T: WktNum> FlatTree<T> {
         ensures { GivesMembers (coord_eq T.eq) self.old result self.new }
     {
         match self.last {
-            FlatEnded::Collection => self.last_members(),
+            Ended::Collection => self.last_members(),
             _ => Vec::new(self.alloc),
         }
     }
@@ -282,21 +225,21 @@ impl<T: WktNum> FlatTree<T> {
     {
         let alloc = self.alloc;
         match self.last {
-            FlatEnded::Point => Some(self.whole_point()),
-            FlatEnded::LineString => {
+            Ended::Point => Some(self.whole_point()),
+            Ended::LineString => {
                 Some(Geometry::LineString(LineString::new(taken(&mut self.coords, alloc))))
             }
-            FlatEnded::Polygon => self.whole_polygon(),
-            FlatEnded::MultiPoint => {
+            Ended::Polygon => self.whole_polygon(),
+            Ended::MultiPoint => {
                 Some(Geometry::MultiPoint(MultiPoint::new(taken(&mut self.points, alloc))))
             }
-            FlatEnded::MultiLineString => {
+            Ended::MultiLineString => {
                 Some(Geometry::MultiLineString(MultiLineString::new(taken(&mut self.lines, alloc))))
             }
-            FlatEnded::MultiPolygon => {
+            Ended::MultiPolygon => {
                 Some(Geometry::MultiPolygon(MultiPolygon::new(taken(&mut self.areas, alloc))))
             }
-            FlatEnded::Collection | FlatEnded::NoMembers => {
+            Ended::Collection | Ended::NoMembers => {
                 Some(Geometry::GeometryCollection(GeometryCollection::new_from(self.members())))
             }
         }
@@ -308,13 +251,13 @@ impl<T: WktNum> FlatTree<T> {
         ensures { result ≡ found_of self.now.last }
     {
         match self.last {
-            FlatEnded::Point => Some(Found::Point),
-            FlatEnded::LineString => Some(Found::LineString),
-            FlatEnded::Polygon => Some(Found::Polygon),
-            FlatEnded::MultiPoint => Some(Found::MultiPoint),
-            FlatEnded::MultiLineString => Some(Found::MultiLineString),
-            FlatEnded::MultiPolygon => Some(Found::MultiPolygon),
-            FlatEnded::Collection | FlatEnded::NoMembers => None,
+            Ended::Point => Some(Found::Point),
+            Ended::LineString => Some(Found::LineString),
+            Ended::Polygon => Some(Found::Polygon),
+            Ended::MultiPoint => Some(Found::MultiPoint),
+            Ended::MultiLineString => Some(Found::MultiLineString),
+            Ended::MultiPolygon => Some(Found::MultiPolygon),
+            Ended::Collection | Ended::NoMembers => None,
         }
     }
 
@@ -359,7 +302,7 @@ impl<T: WktNum> FlatTree<T> {
     pub(crate) fn lone(&self) -> Option<Coord<T>>
         ensures { IfSome result (IsLone self.now) }
     {
-        let is_point = matches!(self.last, FlatEnded::Point) && !self.is_lost && !self.is_refused;
+        let is_point = matches!(self.last, Ended::Point) && !self.is_lost && !self.is_refused;
         if is_point { self.coord() } else { None }
     }
 
@@ -403,7 +346,7 @@ impl<T: WktNum> FlatTree<T> {
 
     /// A whole geometry ends.
     #[inline(always)]
-    fn end_whole(&mut self, last: FlatEnded)
+    fn end_whole(&mut self, last: Ended)
         ensures { self.new ≡ record self.old { last = last } }
     {
         self.last = last;
@@ -415,13 +358,13 @@ impl<T: WktNum> FlatTree<T> {
         ensures { FlatBecomes (coord_eq T.eq) (MayEnd part) (ended part) self.old self.new }
     {
         match part {
-            Part::Point => self.end_whole(FlatEnded::Point),
-            Part::LineString => self.end_whole(FlatEnded::LineString),
-            Part::Polygon => self.end_whole(FlatEnded::Polygon),
-            Part::MultiPoint => self.end_whole(FlatEnded::MultiPoint),
-            Part::MultiLineString => self.end_whole(FlatEnded::MultiLineString),
-            Part::MultiPolygon => self.end_whole(FlatEnded::MultiPolygon),
-            Part::Collection => self.end_whole(FlatEnded::Collection),
+            Part::Point => self.end_whole(Ended::Point),
+            Part::LineString => self.end_whole(Ended::LineString),
+            Part::Polygon => self.end_whole(Ended::Polygon),
+            Part::MultiPoint => self.end_whole(Ended::MultiPoint),
+            Part::MultiLineString => self.end_whole(Ended::MultiLineString),
+            Part::MultiPolygon => self.end_whole(Ended::MultiPolygon),
+            Part::Collection => self.end_whole(Ended::Collection),
             Part::Member | Part::Bare => self.end_point(),
             Part::Ring | Part::Line | Part::AreaRing => self.end_line(),
             Part::Area => self.end_area(),
@@ -435,7 +378,7 @@ impl<T: WktNum> FlatTree<T> {
     {
         self.x = None;
         match part {
-            Part::Collection => self.end_whole(FlatEnded::NoMembers),
+            Part::Collection => self.end_whole(Ended::NoMembers),
             _ => self.end(part),
         }
     }

@@ -8,7 +8,7 @@ use wkt_types::Coord;
 
 /// The list, in whose place a new one stands.
 #[inline(always)]
-pub(crate) fn taken<V>(list: &mut Vec<V>, alloc: Global) -> Vec<V>
+pub fn taken<V>(list: &mut Vec<V>, alloc: Global) -> Vec<V>
     ensures value { result ≡ list.old }
     ensures after { list.new.items ≡ [] }
 {
@@ -17,7 +17,7 @@ pub(crate) fn taken<V>(list: &mut Vec<V>, alloc: Global) -> Vec<V>
 
 /// Adds an item; or there was no memory for it.
 #[inline(always)]
-pub(crate) fn add<V: Drop>(list: &mut Vec<V>, item: V) -> bool
+pub fn add<V: Drop>(list: &mut Vec<V>, item: V) -> bool
     ensures { list.new.items ≡ (if result then list.old.items ++ item ∷ [] else list.old.items) }
 {
     match list.push(item) {
@@ -55,7 +55,7 @@ fn add_last<V: Drop>(list: &mut Vec<V>, item: V) -> bool
 
 /// Adds an item to those before it, the last one with room for itself alone.
 #[inline(always)]
-pub(crate) fn add_one<V: Drop>(list: &mut Vec<V>, item: V, is_last: bool) -> bool
+pub fn add_one<V: Drop>(list: &mut Vec<V>, item: V, is_last: bool) -> bool
     ensures { list.new.items ≡ (if result then list.old.items ++ item ∷ [] else list.old.items) }
 {
     if is_last {

@@ -3,7 +3,7 @@
 //! Below stand `wkt_machine` and `wkt_sources`; above, `wkt`.
 #![tactic(auto)]
 
-mod adding;
+pub mod adding;
 mod from_str;
 pub mod laws;
 mod refused;
@@ -13,4 +13,5 @@ pub mod value;
 
 pub use from_str::FromWktStr;
 pub use text::read_text;
+pub use tree::Ended;
 pub use value::{Unread, read};

@@ -24,7 +24,7 @@ struct OpenCollection<T> {
 
 /// A geometry that ended, by where its parts are kept.
 #[derive(Clone, Copy)]
-enum Ended {
+pub enum Ended {
     Point,
     LineString,
     Polygon,
