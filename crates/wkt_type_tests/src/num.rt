@@ -293,134 +293,119 @@ const NOT_SHOWN: &[&str] = &[
     "\u{0}",
 ];
 
+/// A window shows the number before the text's last byte, printed so; `elsewhere` stands for none.
+fn shows<T: WktNum>(rt: &impl Abort, alloc: Global, text: &str, want: &str) {
+    let mut out = String::new(alloc);
+    match shown::<T>(rt, alloc, text) {
+        Some((number, end)) => {
+            print(&number, &mut out);
+            equal(rt, end, text.len().wrapping_sub(1));
+        }
+        None => out.push_str("elsewhere").expect(rt, "memory"),
+    }
+    equal(rt, out.as_str(), want);
+}
+
 #[test]
 fn what_is_read_elsewhere(rt: HostRuntime) {
+    let alloc = rt.alloc();
     for &text in NOT_SHOWN {
-        equal(&rt, units::<18>(&rt, rt.alloc(), text), None);
+        shows::<Decimal<18>>(&rt, alloc, text, "elsewhere");
     }
-    equal(&rt, units::<6>(&rt, rt.alloc(), "0.1234567,"), None);
-    equal(&rt, units::<0>(&rt, rt.alloc(), "0.5,"), None);
-    equal(&rt, units::<19>(&rt, rt.alloc(), "1,"), None);
+    shows::<Decimal<6>>(&rt, alloc, "0.1234567,", "elsewhere");
+    shows::<Decimal<0>>(&rt, alloc, "0.5,", "elsewhere");
+    shows::<Decimal<19>>(&rt, alloc, "1,", "elsewhere");
 }
 
 #[test]
 fn whole_numbers(rt: HostRuntime) {
     let alloc = rt.alloc();
-    equal(&rt, shown::<i8>(&rt, alloc, "-99,"), Some((-99, 3)));
-    equal(&rt, shown::<i16>(&rt, alloc, "-9999)"), Some((-9999, 5)));
-    equal(
-        &rt,
-        shown::<i32>(&rt, alloc, "999999999 "),
-        Some((999_999_999, 9)),
-    );
-    equal(
-        &rt,
-        shown::<i64>(&rt, alloc, "-1234567890123456,"),
-        Some((-1_234_567_890_123_456, 17)),
-    );
-    equal(&rt, shown::<i128>(&rt, alloc, "-0012,"), Some((-12, 5)));
-    equal(&rt, shown::<u8>(&rt, alloc, "7,"), Some((7, 1)));
-    equal(&rt, shown::<u16>(&rt, alloc, "1234,"), Some((1234, 4)));
-    equal(
-        &rt,
-        shown::<u32>(&rt, alloc, "123456789,"),
-        Some((123_456_789, 9)),
-    );
-    equal(
-        &rt,
-        shown::<u64>(&rt, alloc, "9876543210987654)"),
-        Some((9_876_543_210_987_654, 16)),
-    );
-    equal(
-        &rt,
-        shown::<u128>(&rt, alloc, "12345678,"),
-        Some((12_345_678, 8)),
-    );
+    shows::<i8>(&rt, alloc, "-99,", "-99");
+    shows::<i16>(&rt, alloc, "-9999)", "-9999");
+    shows::<i32>(&rt, alloc, "999999999 ", "999999999");
+    shows::<i64>(&rt, alloc, "-1234567890123456,", "-1234567890123456");
+    shows::<i128>(&rt, alloc, "-0012,", "-12");
+    shows::<u8>(&rt, alloc, "7,", "7");
+    shows::<u16>(&rt, alloc, "1234,", "1234");
+    shows::<u32>(&rt, alloc, "123456789,", "123456789");
+    shows::<u64>(&rt, alloc, "9876543210987654)", "9876543210987654");
+    shows::<u128>(&rt, alloc, "12345678,", "12345678");
 }
 
 #[test]
 fn whole_numbers_that_are_read_elsewhere(rt: HostRuntime) {
     let alloc = rt.alloc();
-    equal(&rt, shown::<i8>(&rt, alloc, "100,"), None);
-    equal(&rt, shown::<i64>(&rt, alloc, "12345678901234567,"), None);
-    equal(&rt, shown::<u64>(&rt, alloc, "-1,"), None);
-    equal(&rt, shown::<i64>(&rt, alloc, "-,"), None);
-    equal(&rt, shown::<i64>(&rt, alloc, "1.0,"), None);
-    equal(&rt, shown::<i64>(&rt, alloc, "1x,"), None);
-    equal(&rt, shown::<u32>(&rt, alloc, "+1,"), None);
+    shows::<i8>(&rt, alloc, "100,", "elsewhere");
+    shows::<i64>(&rt, alloc, "12345678901234567,", "elsewhere");
+    shows::<u64>(&rt, alloc, "-1,", "elsewhere");
+    shows::<i64>(&rt, alloc, "-,", "elsewhere");
+    shows::<i64>(&rt, alloc, "1.0,", "elsewhere");
+    shows::<i64>(&rt, alloc, "1x,", "elsewhere");
+    shows::<u32>(&rt, alloc, "+1,", "elsewhere");
 }
 
-// Which of `i32`, `i64`, `u32` and `u64` read a text.
-const ALL: [bool; 4] = [true, true, true, true];
-
-const SIGNED: [bool; 4] = [true, true, false, false];
-
-const NOT_I32: [bool; 4] = [false, true, true, true];
-
-const WIDE: [bool; 4] = [false, true, false, true];
-
-const I64: [bool; 4] = [false, true, false, false];
-
-const U64: [bool; 4] = [false, false, false, true];
-
-const NONE: [bool; 4] = [false, false, false, false];
-
-// Texts, and what Rust's `FromStr` reads them as at those types; at the others they are refused.
-const WHOLE: &[(&str, &str, [bool; 4])] = &[
-    ("0", "0", ALL),
-    ("7", "7", ALL),
-    ("-0", "0", SIGNED),
-    ("007", "7", ALL),
-    ("-155", "-155", SIGNED),
-    ("+5", "5", ALL),
-    ("", "refused", NONE),
-    ("-", "refused", NONE),
-    ("+", "refused", NONE),
-    ("-+1", "refused", NONE),
-    ("1-", "refused", NONE),
-    ("1.0", "refused", NONE),
-    ("1a", "refused", NONE),
-    ("a1", "refused", NONE),
-    (":", "refused", NONE),
-    ("/5", "refused", NONE),
-    ("99999999", "99999999", ALL),
-    ("999999999", "999999999", ALL),
-    ("1000000000", "1000000000", ALL),
-    ("-99999999", "-99999999", SIGNED),
-    ("-999999999", "-999999999", SIGNED),
-    ("2147483647", "2147483647", ALL),
-    ("2147483648", "2147483648", NOT_I32),
-    ("-2147483648", "-2147483648", SIGNED),
-    ("-2147483649", "-2147483649", I64),
-    ("00000000007", "7", ALL),
-    ("4294967295", "4294967295", NOT_I32),
-    ("4294967296", "4294967296", WIDE),
-    ("99999999999999999", "99999999999999999", WIDE),
-    ("999999999999999999", "999999999999999999", WIDE),
-    ("-99999999999999999", "-99999999999999999", I64),
-    ("-999999999999999999", "-999999999999999999", I64),
-    ("1000000000000000000", "1000000000000000000", WIDE),
-    ("000000000000000000", "0", ALL),
-    ("0000000000000000001", "1", ALL),
-    ("9223372036854775807", "9223372036854775807", WIDE),
-    ("9223372036854775808", "9223372036854775808", U64),
-    ("-9223372036854775808", "-9223372036854775808", I64),
-    ("-9223372036854775809", "refused", NONE),
-    ("18446744073709551615", "18446744073709551615", U64),
-    ("18446744073709551616", "refused", NONE),
-];
+// A text, what Rust's `FromStr` reads it as, and which of `i32`, `i64`, `u32` and `u64` read it; the others refuse it.
+const WHOLE: &str = "\
+0 = 0 by i32 i64 u32 u64
+7 = 7 by i32 i64 u32 u64
+-0 = 0 by i32 i64
+007 = 7 by i32 i64 u32 u64
+-155 = -155 by i32 i64
++5 = 5 by i32 i64 u32 u64
+ = refused by none
+- = refused by none
++ = refused by none
+-+1 = refused by none
+1- = refused by none
+1.0 = refused by none
+1a = refused by none
+a1 = refused by none
+: = refused by none
+/5 = refused by none
+99999999 = 99999999 by i32 i64 u32 u64
+999999999 = 999999999 by i32 i64 u32 u64
+1000000000 = 1000000000 by i32 i64 u32 u64
+-99999999 = -99999999 by i32 i64
+-999999999 = -999999999 by i32 i64
+2147483647 = 2147483647 by i32 i64 u32 u64
+2147483648 = 2147483648 by i64 u32 u64
+-2147483648 = -2147483648 by i32 i64
+-2147483649 = -2147483649 by i64
+00000000007 = 7 by i32 i64 u32 u64
+4294967295 = 4294967295 by i64 u32 u64
+4294967296 = 4294967296 by i64 u64
+99999999999999999 = 99999999999999999 by i64 u64
+999999999999999999 = 999999999999999999 by i64 u64
+-99999999999999999 = -99999999999999999 by i64
+-999999999999999999 = -999999999999999999 by i64
+1000000000000000000 = 1000000000000000000 by i64 u64
+000000000000000000 = 0 by i32 i64 u32 u64
+0000000000000000001 = 1 by i32 i64 u32 u64
+9223372036854775807 = 9223372036854775807 by i64 u64
+9223372036854775808 = 9223372036854775808 by u64
+-9223372036854775808 = -9223372036854775808 by i64
+-9223372036854775809 = refused by none
+18446744073709551615 = 18446744073709551615 by u64
+18446744073709551616 = refused by none
+";
 
 fn or_refused(read: bool, value: &str) -> &str {
     if read { value } else { "refused" }
 }
 
+/// The four types read the text of the row or refuse it.
+fn is_whole(rt: &impl Abort, alloc: Global, row: &str) {
+    let (text, rest) = row.split_once(" = ").expect(rt, row);
+    let (value, by) = rest.split_once(" by ").expect(rt, row);
+    prints::<i32>(rt, alloc, text, or_refused(by.contains("i32"), value));
+    prints::<i64>(rt, alloc, text, or_refused(by.contains("i64"), value));
+    prints::<u32>(rt, alloc, text, or_refused(by.contains("u32"), value));
+    prints::<u64>(rt, alloc, text, or_refused(by.contains("u64"), value));
+}
+
 #[test]
 fn whole_texts(rt: HostRuntime) {
-    let alloc = rt.alloc();
-    for &(text, value, [i, l, u, w]) in WHOLE {
-        prints::<i32>(&rt, alloc, text, or_refused(i, value));
-        prints::<i64>(&rt, alloc, text, or_refused(l, value));
-        prints::<u32>(&rt, alloc, text, or_refused(u, value));
-        prints::<u64>(&rt, alloc, text, or_refused(w, value));
+    for row in WHOLE.lines() {
+        is_whole(&rt, rt.alloc(), row);
     }
 }
