@@ -15,115 +15,64 @@ use wkt_examples::refusal::{Answer, answer_to};
 
 type Number = Decimal<6>;
 
-/// The caller, of some another text, the text, and what it gives. Numbers have six places, but for `tidy_halves`,
-/// whose numbers are 0, .5 and 1.
-const ROWS: [(&str, &str, &str, &str); 26] = [
-    // The key, if it is read as the very geometry.
-    ("flat_key", "", "point m (1 2.50 3)", "POINT(1 2.5)"),
-    (
-        "flat_key",
-        "",
-        "POLYGON((0 0,4 0,2 4))",
-        "POLYGON((0 0,4 0,2 4,0 0))",
-    ),
-    (
-        "flat_key",
-        "",
-        "MULTIPOINT(1 2,3 4)",
-        "MULTIPOINT((1 2),(3 4))",
-    ),
-    (
-        "flat_key",
-        "",
-        "GEOMETRYCOLLECTION(POINT Z(1 2 3),LINESTRING EMPTY)",
-        "GEOMETRYCOLLECTION(POINT(1 2),LINESTRING EMPTY)",
-    ),
-    ("same_place", "POINT (1 2)", "point(1.0 +2.)", "true"),
-    (
-        "same_place",
-        "MULTIPOINT (1 2)",
-        "MULTIPOINT ((1 2))",
-        "true",
-    ),
-    ("same_place", "LINEARRING (1 2)", "LINESTRING (1 2)", "true"),
-    ("same_place", "POINT (1 2)", "POINT (2 1)", "false"),
-    ("same_place", "POINT Z EMPTY", "POINT EMPTY", "false"),
-    (
-        "tidy_halves",
-        "",
-        "linestring (0 .5, 1 +1)",
-        "LINESTRING(0 .5,1 1)",
-    ),
-    (
-        "tidy_halves",
-        "",
-        "POINT (0 0.5)",
-        "Unable to parse input number as the desired output type",
-    ),
-    (
-        "tidy",
-        "",
-        "linestring z (1 2 3, 4 5.50 6)",
-        "LINESTRING Z(1 2 3,4 5.5 6)",
-    ),
-    ("tidy", "", "CIRCLE (1 2)", "Invalid type encountered"),
-    (
-        "tidy_pair",
-        "POINT (1 2)",
-        "LINESTRING EMPTY",
-        "GEOMETRYCOLLECTION(POINT(1 2),LINESTRING EMPTY)",
-    ),
-    ("tidy_if_any", "", "POINT (1 2)", "POINT(1 2)"),
-    ("tidy_if_any", "", "LINESTRING (1 2)", "LINESTRING(1 2)"),
-    ("tidy_if_any", "", "POINT (1)", "none"),
-    ("tidy_if_any", "", "LINESTRING (1 2", "none"),
-    // The canonical text, or the bytes of the lexeme that is too much and what was expected there.
-    ("answer_to", "", "point ( 1 2.50 )", "POINT(1 2.5)"),
-    ("answer_to", "", "linestring (1 2.50)", "LINESTRING(1 2.5)"),
-    ("answer_to", "", "POINT(1)", "7..8 Y"),
-    // Whether a part of the front is EMPTY.
-    ("has_empty", "", "POINT ZM EMPTY", "true"),
-    ("has_empty", "", "MULTIPOINT(1 2,EMPTY)", "true"),
-    (
-        "has_empty",
-        "",
-        "GEOMETRYCOLLECTION(POINT(1 2),MULTIPOLYGON(((0 0,4 0,2 4,0 0),EMPTY)))",
-        "true",
-    ),
-    ("has_empty", "", "MULTIPOINT(1 2,(3 4)) EMPTY", "false"),
-    ("has_empty", "", "MULTIPOINT(EMPTY,1 2", "none"),
-];
+/// The caller, the text that it is given or two with ` & ` between them, and what it gives. Numbers have six places, but for
+/// `tidy_halves`, whose numbers are 0, .5 and 1. `flat_key` gives the key, if it is read as the very geometry, `answer_to`
+/// the canonical text, or the bytes of the lexeme that is too much and what was expected there, and `has_empty` whether a
+/// part of the front is EMPTY.
+const ROWS: &str = "\
+flat_key | point m (1 2.50 3) | POINT(1 2.5)
+flat_key | POLYGON((0 0,4 0,2 4)) | POLYGON((0 0,4 0,2 4,0 0))
+flat_key | MULTIPOINT(1 2,3 4) | MULTIPOINT((1 2),(3 4))
+flat_key | GEOMETRYCOLLECTION(POINT Z(1 2 3),LINESTRING EMPTY) | GEOMETRYCOLLECTION(POINT(1 2),LINESTRING EMPTY)
+same_place | POINT (1 2) & point(1.0 +2.) | true
+same_place | MULTIPOINT (1 2) & MULTIPOINT ((1 2)) | true
+same_place | LINEARRING (1 2) & LINESTRING (1 2) | true
+same_place | POINT (1 2) & POINT (2 1) | false
+same_place | POINT Z EMPTY & POINT EMPTY | false
+tidy_halves | linestring (0 .5, 1 +1) | LINESTRING(0 .5,1 1)
+tidy_halves | POINT (0 0.5) | Unable to parse input number as the desired output type
+tidy | linestring z (1 2 3, 4 5.50 6) | LINESTRING Z(1 2 3,4 5.5 6)
+tidy | CIRCLE (1 2) | Invalid type encountered
+tidy_pair | POINT (1 2) & LINESTRING EMPTY | GEOMETRYCOLLECTION(POINT(1 2),LINESTRING EMPTY)
+tidy_if_any | POINT (1 2) | POINT(1 2)
+tidy_if_any | LINESTRING (1 2) | LINESTRING(1 2)
+tidy_if_any | POINT (1) | none
+tidy_if_any | LINESTRING (1 2 | none
+answer_to | point ( 1 2.50 ) | POINT(1 2.5)
+answer_to | linestring (1 2.50) | LINESTRING(1 2.5)
+answer_to | POINT(1) | 7..8 Y
+has_empty | POINT ZM EMPTY | true
+has_empty | MULTIPOINT(1 2,EMPTY) | true
+has_empty | GEOMETRYCOLLECTION(POINT(1 2),MULTIPOLYGON(((0 0,4 0,2 4,0 0),EMPTY))) | true
+has_empty | MULTIPOINT(1 2,(3 4)) EMPTY | false
+has_empty | MULTIPOINT(EMPTY,1 2 | none
+";
 
 #[test]
 fn rows(rt: HostRuntime) -> Result<(), Fail> {
-    let alloc = rt.alloc();
-    for (call, of, text, want) in ROWS {
-        is_given(&rt, alloc, call, of, text, want)?;
+    for row in ROWS.lines() {
+        is_given(&rt, rt.alloc(), row)?;
     }
     Ok(())
 }
 
-fn is_given(
-    rt: &impl Abort,
-    alloc: Global,
-    call: &str,
-    of: &str,
-    text: &str,
-    want: &str,
-) -> Result<(), AllocError> {
-    let given = given(alloc, call, of, text)?;
-    equal(rt, given.as_str(), want);
+fn is_given(rt: &impl Abort, alloc: Global, row: &str) -> Result<(), AllocError> {
+    let (call, rest) = row.split_once(" | ").expect(rt, row);
+    let (texts, want) = rest.split_once(" | ").expect(rt, row);
+    let given = given(alloc, call, texts)?;
+    equal(rt, (row, given.as_str()), (row, want));
     Ok(())
 }
 
-/// What the caller of that name gives of a text; `of` is the other text that it is asked for.
-fn given(alloc: Global, call: &str, of: &str, text: &str) -> Result<String, AllocError> {
+/// What the caller of that name gives of a text, or of two.
+fn given(alloc: Global, call: &str, texts: &str) -> Result<String, AllocError> {
+    let (text, other) = texts.split_once(" & ").unwrap_or((texts, ""));
     match call {
         "flat_key" => words(alloc, key_of(alloc, text)),
-        "same_place" => words(alloc, same_place::<Number>(alloc, of, text)),
+        "same_place" => words(alloc, same_place::<Number>(alloc, text, other)),
         "tidy" => words(alloc, tidy::<Number>(alloc, text)),
         "tidy_halves" => words(alloc, tidy::<Half>(alloc, text)),
-        "tidy_pair" => words(alloc, tidy_pair::<Number>(alloc, of, text)),
+        "tidy_pair" => words(alloc, tidy_pair::<Number>(alloc, text, other)),
         "tidy_if_any" => tidy_or_none(alloc, text),
         "answer_to" => answered(alloc, text),
         "has_empty" => empty_or_none(alloc, text),

@@ -231,39 +231,39 @@ fn is_one_bad_number(text: &str) -> bool {
     }
 }
 
-// Of these, a long run is a number that no type reads.
-const BAD_NUMBERS: [&str; 5] = ["+", "-", ".", "1", "9"];
+// So many of that character.
+fn long_run(alloc: Global, of: char) -> Result<String, AllocError> {
+    let mut text = String::new(alloc);
+    for _ in 0..100000 {
+        text.push(of)?;
+    }
+    Ok(text)
+}
 
-const CLASSES: [(&str, usize); 17] = [
-    (" ", 0),
-    ("\n", 0),
-    ("\r", 0),
-    ("\t", 0),
-    ("\0", 0),
-    ("0", 1),
-    ("1", 1),
-    ("9", 1),
-    ("+", 1),
-    ("-", 1),
-    (".", 1),
-    ("A", 1),
-    ("z", 1),
-    ("¾", 1),
-    ("(", 100000),
-    (")", 100000),
-    (",", 100000),
-];
+// A long run of each of those characters has so many lexemes.
+fn runs_have(
+    rt: &impl Abort,
+    alloc: Global,
+    characters: &str,
+    lexemes: usize,
+) -> Result<(), AllocError> {
+    for of in characters.chars() {
+        let text = long_run(alloc, of)?;
+        assert!(rt; has_lexemes(&text, lexemes), "of {of}");
+    }
+    Ok(())
+}
 
 #[test]
 fn long_runs_of_each_class(rt: HostRuntime) -> Result<(), Fail> {
     let alloc = rt.alloc();
-    for (piece, lexemes) in CLASSES {
-        let text = piece.repeat(alloc, 100000)?;
-        assert!(rt; has_lexemes(&text, lexemes), "of {piece}");
-    }
-    for piece in BAD_NUMBERS {
-        let text = piece.repeat(alloc, 100000)?;
-        assert!(rt; is_one_bad_number(&text), "a number of {piece}");
+    runs_have(&rt, alloc, " \n\r\t\0", 0)?;
+    runs_have(&rt, alloc, "019+-.Az¾", 1)?;
+    runs_have(&rt, alloc, "(),", 100000)?;
+    // Of these, a long run is a number that no type reads.
+    for of in "+-.19".chars() {
+        let text = long_run(alloc, of)?;
+        assert!(rt; is_one_bad_number(&text), "a number of {of}");
     }
     Ok(())
 }
