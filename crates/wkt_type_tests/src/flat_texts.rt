@@ -5,7 +5,7 @@ use std::alloc::{AllocError, Global};
 use std::io;
 use std::io::ErrorKind;
 use std::process::Abort;
-use wkt_access::Error as WriteError;
+use wkt_access::{Error as WriteError, GeometryTrait};
 use wkt_bytes::{Counted, WriterWrapper};
 use wkt_convert::{ToWkt, ToWktError};
 use wkt_flat::{
@@ -102,43 +102,47 @@ fn write_by_kind<W: TextSink>(sink: &mut W, value: &Geometry<i32>) -> Result<(),
     }
 }
 
-/// The value is written so by the writers of its kind and of any.
-fn writers_give(rt: &impl Abort, alloc: Global, value: &Geometry<i32>, want: &str) {
+/// The value is written so by the writer of its kind.
+fn writer_gives(rt: &impl Abort, alloc: Global, value: &Geometry<i32>, want: &str) {
     let mut text = String::new(alloc);
     write_by_kind(&mut CountedText::new(&mut text), value).expect(rt, "written");
     equal(rt, text.as_str(), want);
-    text.clear();
+}
+
+/// A geometry is written so by the writer of any.
+fn geometry_gives<G: GeometryTrait>(rt: &impl Abort, alloc: Global, value: &G, want: &str) {
+    let mut text = String::new(alloc);
     write_geometry(&mut CountedText::new(&mut text), value).expect(rt, "written");
     equal(rt, text.as_str(), want);
 }
 
 /// The value, its copy and what it is are written so, by every call.
-fn is_written(rt: &impl Abort, alloc: Global, value: &Geometry<i32>, want: &str) {
-    gives(rt, alloc, value, want);
-    gives_by_kind(rt, alloc, value, want);
+fn is_written(rt: &impl Abort, alloc: Global, value: Geometry<i32>, want: &str) {
+    gives(rt, alloc, &value, want);
+    gives_by_kind(rt, alloc, &value, want);
     let copy = value.try_clone(alloc).expect(rt, "memory");
-    assert!(rt; copy == *value);
-    writers_give(rt, alloc, &copy, want);
+    assert!(rt; copy == value);
+    writer_gives(rt, alloc, &copy, want);
+    geometry_gives(rt, alloc, &copy, want);
 }
 
 #[test]
 fn single_values(rt: HostRuntime) {
     let alloc = rt.alloc();
-    let point = Geometry::from(Point::new(1, 2));
-    is_written(&rt, alloc, &point, "POINT(1 2)");
+    is_written(&rt, alloc, Geometry::from(Point::new(1, 2)), "POINT(1 2)");
     let line = Geometry::from(Line::new(at(1, 2), at(3, 4)));
-    is_written(&rt, alloc, &line, "LINESTRING(1 2,3 4)");
+    is_written(&rt, alloc, line, "LINESTRING(1 2,3 4)");
 }
 
 /// The value and its polygon are written so.
 fn both_give(
     rt: &impl Abort,
     alloc: Global,
-    polygon: &Polygon<i32>,
-    value: &Geometry<i32>,
+    polygon: Polygon<i32>,
+    value: Geometry<i32>,
     want: &str,
 ) {
-    gives(rt, alloc, polygon, want);
+    gives(rt, alloc, &polygon, want);
     is_written(rt, alloc, value, want);
 }
 
@@ -147,7 +151,7 @@ fn rectangles(rt: HostRuntime) {
     let rect = Rect::new(at(8, 1), at(4, 6));
     let polygon = rect.to_polygon(rt.alloc()).expect(&rt, "memory");
     let want = "POLYGON((8 1,8 6,4 6,4 1,8 1))";
-    both_give(&rt, rt.alloc(), &polygon, &Geometry::from(rect), want);
+    both_give(&rt, rt.alloc(), polygon, Geometry::from(rect), want);
 }
 
 #[test]
@@ -155,7 +159,7 @@ fn triangles(rt: HostRuntime) {
     let triangle = Triangle::new(at(0, 0), at(4, 0), at(2, 4));
     let polygon = triangle.to_polygon(rt.alloc()).expect(&rt, "memory");
     let want = "POLYGON((0 0,4 0,2 4,0 0))";
-    both_give(&rt, rt.alloc(), &polygon, &Geometry::from(triangle), want);
+    both_give(&rt, rt.alloc(), polygon, Geometry::from(triangle), want);
 }
 
 // An exterior, an interior, and the text of their polygon.
@@ -178,7 +182,7 @@ const POLYGONS: &[(&[(i32, i32)], &[(i32, i32)], &str)] = &[
 fn polygons(rt: HostRuntime) {
     for &(exterior, interior, want) in POLYGONS {
         let polygon = holed(&rt, rt.alloc(), exterior, interior);
-        is_written(&rt, rt.alloc(), &Geometry::from(polygon), want);
+        is_written(&rt, rt.alloc(), Geometry::from(polygon), want);
     }
 }
 
@@ -193,10 +197,10 @@ fn a_polygon_without_exterior(rt: HostRuntime) {
 fn lists_of_points(rt: HostRuntime) {
     let alloc = rt.alloc();
     let line = Geometry::from(line_string(&rt, alloc, &[(10, -20), (0, 5)]));
-    is_written(&rt, alloc, &line, "LINESTRING(10 -20,0 5)");
+    is_written(&rt, alloc, line, "LINESTRING(10 -20,0 5)");
     let points = vec![in alloc; Point::new(8, 4), Point::new(4, 0)].expect(&rt, "memory");
     let points = Geometry::from(MultiPoint::new(points));
-    is_written(&rt, alloc, &points, "MULTIPOINT((8 4),(4 0))");
+    is_written(&rt, alloc, points, "MULTIPOINT((8 4),(4 0))");
 }
 
 #[test]
@@ -205,7 +209,7 @@ fn lists_of_line_strings(rt: HostRuntime) {
     let one = line_string(&rt, alloc, &[(8, 4), (-3, 0)]);
     let lines = vec![in alloc; one, line_string(&rt, alloc, &[])].expect(&rt, "memory");
     let lines = Geometry::from(MultiLineString::new(lines));
-    is_written(&rt, alloc, &lines, "MULTILINESTRING((8 4,-3 0),EMPTY)");
+    is_written(&rt, alloc, lines, "MULTILINESTRING((8 4,-3 0),EMPTY)");
 }
 
 #[test]
@@ -215,7 +219,7 @@ fn lists_of_polygons(rt: HostRuntime) {
     let polygons = vec![in alloc; one, holed(&rt, alloc, &TRIANGLE, &[])].expect(&rt, "memory");
     let polygons = Geometry::from(MultiPolygon::new(polygons));
     let want = "MULTIPOLYGON(EMPTY,((0 0,4 0,2 4,0 0),EMPTY))";
-    is_written(&rt, alloc, &polygons, want);
+    is_written(&rt, alloc, polygons, want);
 }
 
 #[test]
@@ -226,27 +230,27 @@ fn collections(rt: HostRuntime) {
     let members = vec![in alloc; rect, line].expect(&rt, "memory");
     let all = Geometry::from(GeometryCollection::new_from(members));
     let want = "GEOMETRYCOLLECTION(POLYGON((8 4,8 8,4 8,4 4,8 4)),LINESTRING(1 2,3 4))";
-    is_written(&rt, alloc, &all, want);
+    is_written(&rt, alloc, all, want);
 }
 
 #[test]
 fn empty_lists(rt: HostRuntime) {
     let alloc = rt.alloc();
     let line = Geometry::from(line_string(&rt, alloc, &[]));
-    is_written(&rt, alloc, &line, "LINESTRING EMPTY");
+    is_written(&rt, alloc, line, "LINESTRING EMPTY");
     let points = Geometry::from(MultiPoint::new(Vec::new(alloc)));
-    is_written(&rt, alloc, &points, "MULTIPOINT EMPTY");
+    is_written(&rt, alloc, points, "MULTIPOINT EMPTY");
     let lines = Geometry::from(MultiLineString::new(Vec::new(alloc)));
-    is_written(&rt, alloc, &lines, "MULTILINESTRING EMPTY");
+    is_written(&rt, alloc, lines, "MULTILINESTRING EMPTY");
 }
 
 #[test]
 fn empty_lists_of_parts(rt: HostRuntime) {
     let alloc = rt.alloc();
     let polygons = Geometry::from(MultiPolygon::new(Vec::new(alloc)));
-    is_written(&rt, alloc, &polygons, "MULTIPOLYGON EMPTY");
+    is_written(&rt, alloc, polygons, "MULTIPOLYGON EMPTY");
     let all = Geometry::from(GeometryCollection::new_from(Vec::new(alloc)));
-    is_written(&rt, alloc, &all, "GEOMETRYCOLLECTION EMPTY");
+    is_written(&rt, alloc, all, "GEOMETRYCOLLECTION EMPTY");
 }
 
 /// A point that has no coordinate has no flat value.

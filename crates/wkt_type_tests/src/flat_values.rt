@@ -3,6 +3,7 @@ use crate::asserts::{equal, holds};
 use crate::flat_texts::{TRIANGLE, at, holed, line_string};
 use std::alloc::Global;
 use std::process::Abort;
+use wkt_access::GeometryTrait;
 use wkt_flat::{
     Geometry, GeometryCollection, Line, LineString, MultiLineString, MultiPoint, MultiPolygon,
     Point, Polygon, Rect, Triangle,
@@ -108,7 +109,7 @@ fn nested(rt: &impl Abort, alloc: Global, depth: u32) -> Geometry<i32> {
 }
 
 /// The length of its text.
-fn text_length(rt: &impl Abort, alloc: Global, geometry: &Geometry<i32>) -> usize {
+fn text_length<G: GeometryTrait>(rt: &impl Abort, alloc: Global, geometry: &G) -> usize {
     let mut text = String::new(alloc);
     push_geometry(&mut text, geometry).expect(rt, "written");
     text.len()
