@@ -1,5 +1,5 @@
 //! The other callers and examples, each called.
-use crate::equal;
+use crate::{equal, holds};
 use serde_json::Value;
 use std::alloc::Global;
 use std::process::Abort;
@@ -48,8 +48,8 @@ fn finds_members(rt: HostRuntime) {
     let members = vec![in alloc; inner].expect(&rt, "memory");
     let group = Figure::Group(Dimensions::Xy, members);
     let member = first_member(&group).expect(&rt, "a member");
-    assert!(rt; matches!(member.dim(), Dimensions::Xyz));
-    assert!(rt; first_member(member).is_none());
+    holds(&rt, matches!(member.dim(), Dimensions::Xyz));
+    holds(&rt, first_member(member).is_none());
 }
 
 #[test]
@@ -67,7 +67,7 @@ fn reads_all_of_a_stream(rt: HostRuntime) {
     equal(&rt, all.expect(&rt, "read").len(), 2);
     let mut tokens = PeekableTokens::new(Tokens::from_str("POINT(1 2) x"));
     let all = every_geometry_of_stream::<i32>(rt.alloc(), &mut tokens);
-    assert!(rt; all.is_err());
+    holds(&rt, all.is_err());
 }
 
 /// A page with room for so many bytes.
@@ -93,10 +93,10 @@ fn copy(alloc: Global, text: &[u8], page: &mut Page) -> Result<(), CopyError> {
 fn copies(rt: HostRuntime) {
     let mut page = page(rt.alloc(), 100);
     let text = b"POLYGON Z ((0 0 1, 4 0 2, 2 4 3))";
-    assert!(rt; copy(rt.alloc(), text, &mut page).is_ok());
+    holds(&rt, copy(rt.alloc(), text, &mut page).is_ok());
     let want = b"POLYGON((0 0,4 0,2 4,0 0))".as_slice();
     equal(&rt, page.text.as_slice(), want);
-    assert!(rt; copy(rt.alloc(), b"POINT (1 2)", &mut page).is_err());
+    holds(&rt, copy(rt.alloc(), b"POINT (1 2)", &mut page).is_err());
 }
 
 /// The text of the geometry in a field is that one, or a mark of why there is none.
@@ -136,20 +136,18 @@ fn keys(rt: HostRuntime) {
     equal(&rt, text.as_str(), "LINESTRING(3 4,5 6)");
 }
 
-const FLAT_KEYS: &[(&str, &str)] = &[
-    ("point m (1 2.50 3)", "POINT(1 2.5)"),
-    ("POLYGON((0 0,4 0,2 4))", "POLYGON((0 0,4 0,2 4,0 0))"),
-    ("MULTIPOINT(1 2,3 4)", "MULTIPOINT((1 2),(3 4))"),
-    (
-        "GEOMETRYCOLLECTION(POINT Z(1 2 3),LINESTRING EMPTY)",
-        "GEOMETRYCOLLECTION(POINT(1 2),LINESTRING EMPTY)",
-    ),
-];
+// A text, and its key.
+const FLAT_KEYS: &str = "\
+point m (1 2.50 3) | POINT(1 2.5)
+POLYGON((0 0,4 0,2 4)) | POLYGON((0 0,4 0,2 4,0 0))
+MULTIPOINT(1 2,3 4) | MULTIPOINT((1 2),(3 4))
+GEOMETRYCOLLECTION(POINT Z(1 2 3),LINESTRING EMPTY) | GEOMETRYCOLLECTION(POINT(1 2),LINESTRING EMPTY)
+";
 
 /// The text reads back as the geometry.
 fn reads_back(rt: &impl Abort, alloc: Global, text: &[u8], geometry: &Geometry<Decimal<6>>) {
     let read = Geometry::<Decimal<6>>::try_from_wkt_reader(alloc, &mut piecewise(text));
-    assert!(rt; read.expect(rt, "read") == *geometry);
+    holds(rt, read.expect(rt, "read") == *geometry);
 }
 
 /// A page with room for the key has it, and it reads back.
@@ -170,9 +168,9 @@ fn is_full(
 ) {
     let mut page = page(alloc, room);
     let answer = write_flat_key(alloc, geometry, &mut page);
-    assert!(rt; matches!(answer, Err(ToWktError::Io(_))));
+    holds(rt, matches!(answer, Err(ToWktError::Io(_))));
     equal(rt, page.text.len(), room);
-    assert!(rt; want.as_bytes().starts_with(page.text.as_slice()));
+    holds(rt, want.as_bytes().starts_with(page.text.as_slice()));
     equal(rt, page.failures, 1);
 }
 
@@ -185,7 +183,8 @@ fn has_key(rt: &impl Abort, alloc: Global, geometry: &Geometry<Decimal<6>>, want
 
 #[test]
 fn flat_keys_to_sinks(rt: HostRuntime) {
-    for &(text, want) in FLAT_KEYS {
+    for row in FLAT_KEYS.lines() {
+        let (text, want) = row.split_once(" | ").expect(&rt, row);
         let geometry = Geometry::<Decimal<6>>::try_from_wkt_str(rt.alloc(), text);
         has_key(&rt, rt.alloc(), &geometry.expect(&rt, "read"), want);
     }
@@ -198,7 +197,7 @@ fn runs(rt: HostRuntime) {
     let want = b"POINT(10 -20.5)\nrefused\n".as_slice();
     equal(&rt, text.as_slice(), want);
     let answer = answers(rt.alloc(), input, 23);
-    assert!(rt; matches!(answer, Err(RunError::Write(_))));
+    holds(&rt, matches!(answer, Err(RunError::Write(_))));
 }
 
 const SERVED: &[u8] =
@@ -218,7 +217,7 @@ fn serves_to(rt: &impl Abort, alloc: Global, room: usize, failures: u64) {
         (failures == 0, failures == 1),
     );
     equal(rt, (page.text.len(), page.failures), (room, failures));
-    assert!(rt; SERVICE.starts_with(page.text.as_slice()));
+    holds(rt, SERVICE.starts_with(page.text.as_slice()));
 }
 
 #[test]

@@ -24,3 +24,9 @@ use std::process::Abort;
 pub(crate) fn equal<T: PartialEq + Debug + Drop>(rt: &impl Abort, given: T, want: T) {
     assert_eq!(rt; given, want);
 }
+
+/// It is true.
+#[cfg(test)]
+pub(crate) fn holds(rt: &impl Abort, fact: bool) {
+    assert!(rt; fact);
+}

@@ -1,5 +1,5 @@
 //! The custom representation of `my_map`, written by all eleven writers.
-use crate::equal;
+use crate::{equal, holds};
 use std::alloc::Global;
 use std::process::Abort;
 use wkt::error::Error;
@@ -212,7 +212,7 @@ fn fault_of(rt: &impl Abort, alloc: Global, figure: &Figure) -> Error {
 fn refuses_few_numbers(rt: HostRuntime) {
     let short = Figure::Point(dot(&rt, rt.alloc(), Dimensions::Xyzm, &[3]));
     let fault = fault_of(&rt, rt.alloc(), &short);
-    assert!(rt; matches!(fault, Error::TooFewNumbers));
+    holds(&rt, matches!(fault, Error::TooFewNumbers));
 }
 
 #[test]
@@ -221,7 +221,7 @@ fn refuses_an_unknown_dimension(rt: HostRuntime) {
     for &spots in &[one, none] {
         let line = track(&rt, rt.alloc(), Dimensions::Unknown(5), spots);
         let fault = fault_of(&rt, rt.alloc(), &Figure::Line(line));
-        assert!(rt; matches!(fault, Error::UnknownDimension));
+        holds(&rt, matches!(fault, Error::UnknownDimension));
     }
 }
 
@@ -229,7 +229,7 @@ fn refuses_an_unknown_dimension(rt: HostRuntime) {
 fn refuses_a_rectangle_with_z(rt: HostRuntime) {
     let rect = corners(&rt, rt.alloc(), Dimensions::Xyz, &[7]);
     let fault = fault_of(&rt, rt.alloc(), &Figure::Rect(rect));
-    assert!(rt; matches!(fault, Error::RectUnsupportedDimension));
+    holds(&rt, matches!(fault, Error::RectUnsupportedDimension));
 }
 
 #[test]
@@ -248,9 +248,12 @@ fn drops_spare_numbers(rt: HostRuntime) {
 /// A paper with so little left takes a beginning of the group, and fails once.
 fn fails_at(rt: &impl Abort, alloc: Global, group: &Figure, left: usize) {
     let mut paper = Paper::new(alloc, left);
-    assert!(rt; matches!(write_geometry(&mut paper, group), Err(Error::FmtError(_))));
-    assert!(rt; ALL.as_bytes().starts_with(paper.bytes.as_slice()));
-    assert!(rt; paper.bytes.len() < ALL.len());
+    holds(
+        rt,
+        matches!(write_geometry(&mut paper, group), Err(Error::FmtError(_))),
+    );
+    holds(rt, ALL.as_bytes().starts_with(paper.bytes.as_slice()));
+    holds(rt, paper.bytes.len() < ALL.len());
     equal(rt, paper.failures, 1);
 }
 

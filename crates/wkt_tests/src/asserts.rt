@@ -10,9 +10,9 @@ pub(crate) fn equal<T: PartialEq + Debug + Drop>(rt: &impl Abort, given: T, want
     assert_eq!(rt; given, want);
 }
 
-/// The two are equal, at that row.
-pub(crate) fn equal_at<T: PartialEq + Debug + Drop>(rt: &impl Abort, row: &str, given: T, want: T) {
-    assert_eq!(rt; given, want, "at {row}");
+/// It is true.
+pub(crate) fn holds(rt: &impl Abort, fact: bool) {
+    assert!(rt; fact);
 }
 
 /// How a run ends: well, by its source, by its sink or without memory, and the kind of the error that it was given.

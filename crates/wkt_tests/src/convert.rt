@@ -1,5 +1,5 @@
 //! A custom type that has `to_wkt` alone: its text comes by the default bodies of `ToWkt`.
-use crate::asserts::equal;
+use crate::asserts::{equal, holds};
 use std::alloc::{AllocError, Global};
 use std::io::ErrorKind;
 use std::process::Abort;
@@ -95,9 +95,9 @@ fn with_short(rt: &impl Abort, alloc: Global, dimension: Dimension) -> Wkt<i32> 
 /// A short point is refused, and so is a collection that has one.
 fn refuses_short(rt: &impl Abort, alloc: Global, dimension: Dimension) {
     let shown = short(dimension);
-    assert!(rt; is_refused(alloc, &Drawing { shown }));
+    holds(rt, is_refused(alloc, &Drawing { shown }));
     let shown = with_short(rt, alloc, dimension);
-    assert!(rt; is_refused(alloc, &Drawing { shown }));
+    holds(rt, is_refused(alloc, &Drawing { shown }));
 }
 
 #[test]
@@ -106,7 +106,7 @@ fn refuses(rt: HostRuntime) {
     refuses_short(&rt, rt.alloc(), Dimension::XYM);
     refuses_short(&rt, rt.alloc(), Dimension::XYZM);
     let shown = short(Dimension::XY);
-    assert!(rt; !is_refused(rt.alloc(), &Drawing { shown }));
+    holds(&rt, !is_refused(rt.alloc(), &Drawing { shown }));
 }
 
 /// The writer fails so, once it has taken that.

@@ -1,5 +1,5 @@
 //! Texts that are deep or long.
-use crate::asserts::{LISTS, equal};
+use crate::asserts::{LISTS, equal, holds};
 use std::alloc::{AllocError, Global};
 use std::process::Abort;
 use std::test::Fail;
@@ -36,7 +36,7 @@ fn depth(rt: HostRuntime) -> Result<(), Fail> {
     let alloc = rt.alloc();
     let text = nested(alloc, 300, 300)?;
     equal(&rt, text.len(), 6010);
-    assert!(rt; gives(alloc, &text)?.as_str() == text.as_str());
+    holds(&rt, gives(alloc, &text)?.as_str() == text.as_str());
     let open = nested(alloc, 300, 299)?;
     equal(&rt, gives(alloc, &open)?.as_str(), NO_CLOSING);
     for text in [text.as_str(), open.as_str()] {
@@ -100,14 +100,14 @@ fn turned(alloc: Global, geometry: &Geometry<i32>) -> Result<String, Fail> {
 fn great_depth(rt: HostRuntime) -> Result<(), Fail> {
     let alloc = rt.alloc();
     let text = nested(alloc, 10000, 10000)?;
-    assert!(rt; copied(alloc, &text)?.as_str() == text.as_str());
-    assert!(rt; converted(alloc, &text)?.as_str() == text.as_str());
+    holds(&rt, copied(alloc, &text)?.as_str() == text.as_str());
+    holds(&rt, converted(alloc, &text)?.as_str() == text.as_str());
     let (coordinates, turned) = walked(alloc, &text)?;
     equal(&rt, coordinates, 1);
     equal(&rt, turned.len(), text.len());
-    assert!(rt; turned.contains("POINT(2 1)"));
+    holds(&rt, turned.contains("POINT(2 1)"));
     let open = nested(alloc, 10000, 9999)?;
-    assert!(rt; Wkt::<Decimal<6>>::from_str(alloc, &open).is_err());
+    holds(&rt, Wkt::<Decimal<6>>::from_str(alloc, &open).is_err());
     Ok(())
 }
 
@@ -159,10 +159,9 @@ fn gives_itself(
     n: usize,
     of: &str,
 ) -> Result<(), Fail> {
-    let given = gives(alloc, text)?;
-    assert!(rt; given.as_str() == text, "{n} of {of}");
-    let flat = converted(alloc, text)?;
-    assert!(rt; flat.as_str() == text, "{n} of {of} without z and m");
+    let is_given = gives(alloc, text)?.as_str() == text;
+    let is_converted = converted(alloc, text)?.as_str() == text;
+    equal(rt, (n, of, is_given, is_converted), (n, of, true, true));
     Ok(())
 }
 
@@ -249,7 +248,7 @@ fn runs_have(
 ) -> Result<(), AllocError> {
     for of in characters.chars() {
         let text = long_run(alloc, of)?;
-        assert!(rt; has_lexemes(&text, lexemes), "of {of}");
+        equal(rt, (of, has_lexemes(&text, lexemes)), (of, true));
     }
     Ok(())
 }
@@ -263,7 +262,7 @@ fn long_runs_of_each_class(rt: HostRuntime) -> Result<(), Fail> {
     // Of these, a long run is a number that no type reads.
     for of in "+-.19".chars() {
         let text = long_run(alloc, of)?;
-        assert!(rt; is_one_bad_number(&text), "a number of {of}");
+        equal(&rt, (of, is_one_bad_number(&text)), (of, true));
     }
     Ok(())
 }

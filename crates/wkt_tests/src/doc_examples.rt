@@ -1,5 +1,5 @@
 //! The examples of the doc comments that are no rows of `wkt_tables`, line for line, with what they give.
-use crate::asserts::equal;
+use crate::asserts::{equal, holds};
 use std::alloc::Global;
 use std::process::Abort;
 use wkt::events::NoRoom;
@@ -26,9 +26,9 @@ fn writes_it_into_a_buffer(rt: HostRuntime) {
 fn has_no_room_or_no_front(rt: HostRuntime) {
     let mut short = room(&rt, rt.alloc(), 110);
     let none = canonical_into::<Decimal<6>>("point (1.50 2) and more", short.as_mut_slice());
-    assert!(rt; matches!(none, Err(NoRoom)));
+    holds(&rt, matches!(none, Err(NoRoom)));
     let refused = canonical_into::<Decimal<6>>("POINT(1)", short.as_mut_slice());
-    assert!(rt; matches!(refused, Ok(None)));
+    holds(&rt, matches!(refused, Ok(None)));
 }
 
 const SQUARE: &str = "POLYGON((8 4,8 8,4 8,4 4,8 4))";
@@ -53,7 +53,10 @@ fn writes(rt: HostRuntime) {
 #[test]
 fn each_error_under_one(rt: HostRuntime) {
     let mut out = String::new(rt.alloc());
-    assert!(rt; pushed(rt.alloc(), &mut out).is_ok() && out.as_str() == "POINT(1 2)");
+    holds(
+        &rt,
+        pushed(rt.alloc(), &mut out).is_ok() && out.as_str() == "POINT(1 2)",
+    );
 }
 
 // Each call with an error of its own under one `?`.

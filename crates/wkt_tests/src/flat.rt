@@ -1,6 +1,6 @@
 //! The two-dimensional types: flat values from readers that are slow or fail, and their coordinates mapped.
 //! `wkt_type_tests` has what needs no reading.
-use crate::asserts::equal;
+use crate::asserts::{equal, holds};
 use std::alloc::Global;
 use std::io::ErrorKind;
 use std::process::Abort;
@@ -39,7 +39,7 @@ fn reads_past_the_front(rt: HostRuntime) {
 fn reader_fails(rt: HostRuntime) {
     let mut reader = source(b"POINT(10 20)", 1, 2);
     match Point::<Number>::try_from_wkt_reader(rt.alloc(), &mut reader) {
-        Err(Error::Reader(e)) => assert!(rt; e.kind() == ErrorKind::Interrupted),
+        Err(Error::Reader(e)) => holds(&rt, e.kind() == ErrorKind::Interrupted),
         _ => panic!(rt; "a reader that failed was answered otherwise"),
     }
     equal(&rt, reader.failures, 1);
@@ -57,10 +57,10 @@ fn is_no_point(alloc: Global, mut reader: Pieces<'_>) -> bool {
 
 /// Bytes are no text, however many of them come at once.
 fn are_no_text(rt: &impl Abort, alloc: Global, bytes: &[u8]) {
-    assert!(rt; is_no_geometry(alloc, source(bytes, 1, 100)));
-    assert!(rt; is_no_point(alloc, source(bytes, 1, 100)));
-    assert!(rt; is_no_geometry(alloc, source(bytes, 1000, 100)));
-    assert!(rt; is_no_point(alloc, source(bytes, 1000, 100)));
+    holds(rt, is_no_geometry(alloc, source(bytes, 1, 100)));
+    holds(rt, is_no_point(alloc, source(bytes, 1, 100)));
+    holds(rt, is_no_geometry(alloc, source(bytes, 1000, 100)));
+    holds(rt, is_no_point(alloc, source(bytes, 1000, 100)));
 }
 
 #[test]
@@ -111,7 +111,10 @@ fn at(x: i64, y: i64) -> Coord<i64> {
 
 /// The geometry is the other one, with x for y.
 fn is_swapped(rt: &impl Abort, alloc: Global, geometry: &Geometry<i64>, want: &Geometry<i64>) {
-    assert!(rt; map_coords(alloc, geometry, &Swapped).expect(rt, "memory") == *want);
+    holds(
+        rt,
+        map_coords(alloc, geometry, &Swapped).expect(rt, "memory") == *want,
+    );
 }
 
 #[test]

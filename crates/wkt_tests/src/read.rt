@@ -1,5 +1,5 @@
 //! What is read, and what of the text was taken; and headers of each length.
-use crate::asserts::equal;
+use crate::asserts::{equal, holds};
 use std::alloc::Global;
 use std::process::Abort;
 use wkt_read::{PeekableTokens, ReadError, Token, Tokens, infer_type};
@@ -56,9 +56,9 @@ fn reads_one_front_after_the_other(rt: HostRuntime) {
     let text = "point ( +1 2 ) Linestring z empty MULTIPOINT((1 2),3 4)";
     let want = "POINT(1 2);LINESTRING Z EMPTY;MULTIPOINT((1 2),(3 4));";
     let mut out = String::new(alloc);
-    assert!(rt; rewrite(alloc, &mut out, text).is_ok());
+    holds(&rt, rewrite(alloc, &mut out, text).is_ok());
     equal(&rt, out.as_str(), want);
-    assert!(rt; rewrite(alloc, &mut out, "POINT(1 2) x").is_err());
+    holds(&rt, rewrite(alloc, &mut out, "POINT(1 2) x").is_err());
 }
 
 /// The next geometry is refused with that message.
@@ -69,14 +69,18 @@ fn refuses(rt: &impl Abort, alloc: Global, tokens: &mut PeekableTokens<'_, i32>,
     }
 }
 
+/// The next geometry is read, and ends there.
+fn ends_at(rt: &impl Abort, alloc: Global, tokens: &mut PeekableTokens<'_, i32>, want: usize) {
+    holds(rt, Wkt::<i32>::read_tokens(alloc, tokens).is_ok());
+    equal(rt, tokens.end(), want);
+}
+
 #[test]
 fn goes_on_after_a_geometry(rt: HostRuntime) {
     let alloc = rt.alloc();
     let mut tokens = PeekableTokens::new(Tokens::from_str("POINT(1 2)LINESTRING EMPTY x"));
-    assert!(rt; Wkt::<i32>::read_tokens(alloc, &mut tokens).is_ok());
-    equal(&rt, tokens.end(), 10);
-    assert!(rt; Wkt::<i32>::read_tokens(alloc, &mut tokens).is_ok());
-    equal(&rt, tokens.end(), 26);
+    ends_at(&rt, alloc, &mut tokens, 10);
+    ends_at(&rt, alloc, &mut tokens, 26);
     refuses(&rt, alloc, &mut tokens, "Invalid type encountered");
     refuses(&rt, alloc, &mut tokens, "Invalid WKT format");
 }

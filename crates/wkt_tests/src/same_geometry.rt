@@ -1,5 +1,5 @@
 //! Geometries that are one, in whatever way they are put together.
-use crate::asserts::equal;
+use crate::asserts::{equal, holds};
 use std::alloc::Global;
 use std::process::Abort;
 use wkt::types::{Coord, Dimension, GeometryCollection, LineString};
@@ -98,5 +98,5 @@ fn nested_collections(rt: HostRuntime) {
 #[test]
 fn a_nested_collection_is_made_canonical(rt: HostRuntime) {
     let one = nested(&rt, rt.alloc(), "POLYGON(EMPTY)", 300).into_canonical();
-    assert!(rt; one == nested(&rt, rt.alloc(), "POLYGON EMPTY", 300));
+    holds(&rt, one == nested(&rt, rt.alloc(), "POLYGON EMPTY", 300));
 }

@@ -2,7 +2,7 @@
 
 mod reference;
 
-use crate::asserts::{equal, equal_at};
+use crate::asserts::equal;
 use reference::{ReferenceLexeme, front, lexemes, whole};
 use std::alloc::{AllocError, Global};
 use std::test::Fail;
@@ -216,7 +216,7 @@ fn plain_program(rt: HostRuntime) -> Result<(), Fail> {
             Some(given) => given,
             None => String::from_str(alloc, "none")?,
         };
-        equal_at(&rt, text, given.as_str(), wanted);
+        equal(&rt, (text, given.as_str()), (text, wanted));
     }
     Ok(())
 }

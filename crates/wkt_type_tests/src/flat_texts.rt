@@ -1,6 +1,6 @@
 //! The text of a value of each two-dimensional type, by each call that writes it, also to writers that are slow or
 //! fail, and the texts of the errors.
-use crate::asserts::{equal, says};
+use crate::asserts::{equal, holds, says};
 use std::alloc::{AllocError, Global};
 use std::io;
 use std::io::ErrorKind;
@@ -121,7 +121,7 @@ fn is_written(rt: &impl Abort, alloc: Global, value: Geometry<i32>, want: &str) 
     gives(rt, alloc, &value, want);
     gives_by_kind(rt, alloc, &value, want);
     let copy = value.try_clone(alloc).expect(rt, "memory");
-    assert!(rt; copy == value);
+    holds(rt, copy == value);
     writer_gives(rt, alloc, &copy, want);
     geometry_gives(rt, alloc, &copy, want);
 }
@@ -257,7 +257,10 @@ fn empty_lists_of_parts(rt: HostRuntime) {
 #[test]
 fn an_empty_point_is_refused(rt: HostRuntime) {
     let empty = WktPoint::<Decimal<6>>::empty(Dimension::XYZ);
-    assert!(rt; matches!(Point::try_from(empty), Err(Error::PointConversionError)));
+    holds(
+        &rt,
+        matches!(Point::try_from(empty), Err(Error::PointConversionError)),
+    );
 }
 
 #[test]
@@ -377,9 +380,9 @@ fn gathers_pieces(rt: HostRuntime) {
     let piece = "POINT Z ".repeat(rt.alloc(), 16).expect(&rt, "memory");
     let mut writer = Slow::new(1000, 100);
     let mut wrapper = WriterWrapper::new(&mut writer);
-    assert!(rt; wrapper.write_str(&piece).is_ok());
-    assert!(rt; wrapper.write_str(&piece).is_ok());
-    assert!(rt; wrapper.finish().is_ok());
+    holds(&rt, wrapper.write_str(&piece).is_ok());
+    holds(&rt, wrapper.write_str(&piece).is_ok());
+    holds(&rt, wrapper.finish().is_ok());
     wrapper.into_writer();
     equal(&rt, (writer.len, writer.calls), (256, 99));
 }

@@ -46,31 +46,28 @@ fn copies_of_collections(rt: HostRuntime) {
 
 const ONE: [(i32, i32); 1] = [(1, 2)];
 
+fn add(rt: &impl Abort, all: &mut Vec<Geometry<i32>>, geometry: Geometry<i32>) {
+    all.push(geometry).expect(rt, "memory");
+}
+
 fn push_plain(rt: &impl Abort, alloc: Global, all: &mut Vec<Geometry<i32>>) {
+    add(rt, all, Geometry::from(Point::new(1, 2)));
+    add(rt, all, Geometry::from(Line::new(at(1, 2), at(3, 4))));
+    add(rt, all, Geometry::from(Rect::new(at(1, 2), at(3, 4))));
     let triangle = Triangle::new(at(1, 2), at(3, 4), at(5, 6));
-    all.push(Geometry::from(Point::new(1, 2)))
-        .expect(rt, "memory");
-    all.push(Geometry::from(Line::new(at(1, 2), at(3, 4))))
-        .expect(rt, "memory");
-    all.push(Geometry::from(Rect::new(at(1, 2), at(3, 4))))
-        .expect(rt, "memory");
-    all.push(Geometry::from(triangle)).expect(rt, "memory");
-    all.push(Geometry::from(line_string(rt, alloc, &ONE)))
-        .expect(rt, "memory");
+    add(rt, all, Geometry::from(triangle));
+    add(rt, all, Geometry::from(line_string(rt, alloc, &ONE)));
 }
 
 fn push_lists(rt: &impl Abort, alloc: Global, all: &mut Vec<Geometry<i32>>) {
     let points = vec![in alloc; Point::new(1, 2)].expect(rt, "memory");
-    all.push(Geometry::from(MultiPoint::new(points)))
-        .expect(rt, "memory");
+    add(rt, all, Geometry::from(MultiPoint::new(points)));
     let lines = vec![in alloc; line_string(rt, alloc, &ONE)].expect(rt, "memory");
-    all.push(Geometry::from(MultiLineString::new(lines)))
-        .expect(rt, "memory");
+    add(rt, all, Geometry::from(MultiLineString::new(lines)));
     let polygons = vec![in alloc; holed(rt, alloc, &ONE, &TRIANGLE)].expect(rt, "memory");
-    all.push(Geometry::from(MultiPolygon::new(polygons)))
-        .expect(rt, "memory");
-    all.push(Geometry::from(holed(rt, alloc, &ONE, &TRIANGLE)))
-        .expect(rt, "memory");
+    add(rt, all, Geometry::from(MultiPolygon::new(polygons)));
+    let polygon = holed(rt, alloc, &ONE, &TRIANGLE);
+    add(rt, all, Geometry::from(polygon));
 }
 
 /// A geometry of each of nine kinds, a collection aside.

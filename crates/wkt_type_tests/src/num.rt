@@ -4,7 +4,7 @@ ghost use Rattle.std.specs.Prelude.{IfOk, ◌≡◌};
 ghost use Rattle.std.specs.String.{string_bytes};
 ghost use Rattle.wkt_num.specs.Decimal.{decimal_text};
 
-use crate::asserts::equal;
+use crate::asserts::{equal, holds};
 use std::alloc::{AllocError, Global};
 use std::fmt;
 use std::process::Abort;
@@ -113,8 +113,8 @@ fn long_texts(rt: HostRuntime) {
 fn compared(rt: HostRuntime) {
     let d = Decimal::<6>::read_number("-12.5").expect(&rt, "refused");
     equal(&rt, d.units(), -12500000);
-    assert!(rt; d == Decimal::from_units(-12500000));
-    assert!(rt; d < Decimal::from_units(-12499999));
+    holds(&rt, d == Decimal::from_units(-12500000));
+    holds(&rt, d < Decimal::from_units(-12499999));
 }
 
 #[test]

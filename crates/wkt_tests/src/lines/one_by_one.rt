@@ -1,7 +1,7 @@
 //! Lines read one by one, and answered by custom answers.
 ghost use Rattle.std.specs.Prelude.{◌≡◌};
 
-use crate::asserts::{BROKEN_PIPE, End, INTERRUPTED, WELL, ended, equal};
+use crate::asserts::{BROKEN_PIPE, End, INTERRUPTED, WELL, ended, equal, holds};
 use std::alloc::{AllocError, Global};
 use std::io;
 use std::io::ErrorKind;
@@ -137,7 +137,7 @@ fn finds_line(rt: &impl Abort, lines: &mut Lines<Halting<'_>>) -> bool {
         match lines.advance() {
             Ok(found) => return found,
             Err(error) => {
-                assert!(rt; is_interrupted(error));
+                holds(rt, is_interrupted(error));
                 equal(rt, lines.line().len(), 0);
             }
         }
@@ -154,10 +154,10 @@ fn goes_on(rt: &impl Abort, alloc: Global, rest: &[u8], want: &[&[u8]]) {
     };
     let mut lines = Lines::new(alloc, source);
     for line in want {
-        assert!(rt; finds_line(rt, &mut lines));
+        holds(rt, finds_line(rt, &mut lines));
         equal(rt, lines.line(), *line);
     }
-    assert!(rt; !finds_line(rt, &mut lines));
+    holds(rt, !finds_line(rt, &mut lines));
 }
 
 #[test]
@@ -172,7 +172,7 @@ fn gives_line_of(rt: &impl Abort, alloc: Global, input: &[u8], size: usize, step
     let mut lines = Lines::new(alloc, source(input, step.max(1), 1000));
     equal(rt, lines.advance().ok(), Some(true));
     equal(rt, lines.line().len(), size);
-    assert!(rt; input.starts_with(lines.line()));
+    holds(rt, input.starts_with(lines.line()));
     gives(rt, &mut lines, b"");
     gives(rt, &mut lines, b"b");
     ends(rt, &mut lines);
