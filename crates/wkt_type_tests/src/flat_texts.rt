@@ -5,7 +5,7 @@ use std::alloc::{AllocError, Global};
 use std::io;
 use std::io::ErrorKind;
 use std::process::Abort;
-use wkt_access::{Error as WriteError, GeometryTrait};
+use wkt_access::Error as WriteError;
 use wkt_bytes::{Counted, WriterWrapper};
 use wkt_convert::{ToWkt, ToWktError};
 use wkt_flat::{
@@ -102,16 +102,12 @@ fn write_by_kind<W: TextSink>(sink: &mut W, value: &Geometry<i32>) -> Result<(),
     }
 }
 
-/// The value is written so by the writer of its kind.
-fn writer_gives(rt: &impl Abort, alloc: Global, value: &Geometry<i32>, want: &str) {
+/// The value is written so by the writers of its kind and of any.
+fn writers_give(rt: &impl Abort, alloc: Global, value: &Geometry<i32>, want: &str) {
     let mut text = String::new(alloc);
     write_by_kind(&mut CountedText::new(&mut text), value).expect(rt, "written");
     equal(rt, text.as_str(), want);
-}
-
-/// A geometry is written so by the writer of any.
-fn geometry_gives<G: GeometryTrait>(rt: &impl Abort, alloc: Global, value: &G, want: &str) {
-    let mut text = String::new(alloc);
+    text.clear();
     write_geometry(&mut CountedText::new(&mut text), value).expect(rt, "written");
     equal(rt, text.as_str(), want);
 }
@@ -122,8 +118,7 @@ fn is_written(rt: &impl Abort, alloc: Global, value: Geometry<i32>, want: &str) 
     gives_by_kind(rt, alloc, &value, want);
     let copy = value.try_clone(alloc).expect(rt, "memory");
     holds(rt, copy == value);
-    writer_gives(rt, alloc, &copy, want);
-    geometry_gives(rt, alloc, &copy, want);
+    writers_give(rt, alloc, &copy, want);
 }
 
 #[test]
