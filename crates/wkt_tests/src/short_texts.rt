@@ -5,6 +5,7 @@ mod reference;
 use crate::asserts::equal;
 use reference::{ReferenceLexeme, front, lexemes, whole};
 use std::alloc::{AllocError, Global};
+use std::process::Abort;
 use std::test::Fail;
 use wkt::tokenizer::{Token, Tokens};
 use wkt::{FromWktStr, ReadError, Wkt, infer_type};
@@ -167,15 +168,15 @@ fn note(wrong: &mut String, what: &str, text: &str) -> Result<(), AllocError> {
     Ok(())
 }
 
-// The texts that go on from a first word with at most so many of the words, and at which a reader
-// and the plain program differ.
-fn differences(
+// The readers and the plain program agree on the texts that go on from a first word with at most so many of the words.
+fn agree(
+    rt: &impl Abort,
     alloc: Global,
     first: &str,
     words: &[&str],
     between: &str,
     longest: usize,
-) -> Result<String, AllocError> {
+) -> Result<(), AllocError> {
     let mut wrong = String::new(alloc);
     for n in 0..lists(words.len(), longest) {
         let text = nth(alloc, first, words, between, longest, n)?;
@@ -189,7 +190,8 @@ fn differences(
             note(&mut wrong, "header", &text)?;
         }
     }
-    Ok(wrong)
+    equal(rt, wrong.as_str(), "");
+    Ok(())
 }
 
 const PROGRAM_ROWS: [(&str, &str); 7] = [
@@ -237,8 +239,7 @@ fn short_lists(rt: HostRuntime) -> Result<(), Fail> {
     equal(&rt, lists(9, 5), 66430);
     for kind in LISTS_OF_NUMBERS {
         let words = [kind, "point", "m", "empty", "(", ")", ",", "1", "1x"];
-        let wrong = differences(alloc, "", &words, " ", 5)?;
-        equal(&rt, wrong.as_str(), "");
+        agree(&rt, alloc, "", &words, " ", 5)?;
     }
     Ok(())
 }
@@ -256,8 +257,14 @@ const BEGINNINGS: [&str; 6] = [
 fn longer_lists(rt: HostRuntime) -> Result<(), Fail> {
     let alloc = rt.alloc();
     for first in BEGINNINGS {
-        let wrong = differences(alloc, first, &["(", ")", ",", "1 +-2", "empty"], " ", 6)?;
-        equal(&rt, wrong.as_str(), "");
+        agree(
+            &rt,
+            alloc,
+            first,
+            &["(", ")", ",", "1 +-2", "empty"],
+            " ",
+            6,
+        )?;
     }
     Ok(())
 }
@@ -266,12 +273,10 @@ fn longer_lists(rt: HostRuntime) -> Result<(), Fail> {
 fn short_texts(rt: HostRuntime) -> Result<(), Fail> {
     let alloc = rt.alloc();
     let characters = ["1", "+", "-", ".", "a", "(", " ", "\0", "¾"];
-    let wrong = differences(alloc, "", &characters, "", 5)?;
-    equal(&rt, wrong.as_str(), "");
+    agree(&rt, alloc, "", &characters, "", 5)?;
     let pieces = ["Z", "m", "EMPTY", "(", " ", "\t", "empt", "\0", "\n"];
     for first in ["", " point", "LINEARRING", "MultiPolygonZ"] {
-        let wrong = differences(alloc, first, &pieces, "", 4)?;
-        equal(&rt, wrong.as_str(), "");
+        agree(&rt, alloc, first, &pieces, "", 4)?;
     }
     Ok(())
 }

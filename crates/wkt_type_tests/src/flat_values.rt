@@ -3,12 +3,11 @@ use crate::asserts::{equal, holds};
 use crate::flat_texts::{TRIANGLE, at, holed, line_string};
 use std::alloc::Global;
 use std::process::Abort;
-use wkt_access::GeometryTrait;
+use wkt_convert::ToWkt;
 use wkt_flat::{
     Geometry, GeometryCollection, Line, LineString, MultiLineString, MultiPoint, MultiPolygon,
     Point, Polygon, Rect, Triangle,
 };
-use wkt_write::push_geometry;
 
 /// The rectangle from 4 4 to 8 8, and the line from 1 2 to 3 4.
 fn rect_and_line(rt: &impl Abort, alloc: Global) -> GeometryCollection<i32> {
@@ -105,18 +104,12 @@ fn nested(rt: &impl Abort, alloc: Global, depth: u32) -> Geometry<i32> {
     all
 }
 
-/// The length of its text.
-fn text_length<G: GeometryTrait>(rt: &impl Abort, alloc: Global, geometry: &G) -> usize {
-    let mut text = String::new(alloc);
-    push_geometry(&mut text, geometry).expect(rt, "written");
-    text.len()
-}
-
 /// It is a point in 300 collections, and not in 299.
 fn is_deep(rt: &impl Abort, alloc: Global, geometry: &Geometry<i32>) {
     holds(rt, *geometry == nested(rt, alloc, 300));
     holds(rt, *geometry != nested(rt, alloc, 299));
-    equal(rt, text_length(rt, alloc, geometry), 300 * 20 + 10);
+    let text = geometry.wkt_string(alloc).expect(rt, "written");
+    equal(rt, text.len(), 300 * 20 + 10);
 }
 
 #[test]
