@@ -1,5 +1,4 @@
 //! Values that are read, beside the same made by hand.
-use crate::made_by_hand::{coord, line};
 use std::alloc::{AllocError, Global};
 use std::process::Abort;
 use wkt_read::{PeekableTokens, ReadError, Tokens};
@@ -42,8 +41,24 @@ fn is_read(rt: &impl Abort, alloc: Global, text: &str, want: Made) -> Result<(),
     Ok(())
 }
 
+fn coord(x: i32, y: i32, z: Option<i32>, m: Option<i32>) -> Coord<i32> {
+    Coord { x, y, z, m }
+}
+
 fn xy(x: i32, y: i32) -> Coord<i32> {
     coord(x, y, None, None)
+}
+
+fn line(
+    alloc: Global,
+    coords: &[Coord<i32>],
+    dim: Dimension,
+) -> Result<LineString<i32>, AllocError> {
+    let mut all = Vec::new(alloc);
+    for coord in coords {
+        all.push(*coord)?;
+    }
+    Ok(LineString::new(all, dim))
 }
 
 fn lines(
@@ -102,31 +117,6 @@ fn collection(first: Made, second: Made, alloc: Global, dim: Dimension) -> Made 
 
 fn no_members(alloc: Global, dim: Dimension) -> Wkt<i32> {
     Wkt::from(GeometryCollection::empty(alloc, dim))
-}
-
-#[test]
-fn points_of_each_dimension(rt: HostRuntime) -> Result<(), AllocError> {
-    let alloc = rt.alloc();
-    let xyzm = Some(coord(1, 2, Some(3), Some(4)));
-    for (text, coord, dim) in [
-        ("POINT(1 2)", Some(xy(1, 2)), Dimension::XY),
-        (
-            "point z(1 2 3)",
-            Some(coord(1, 2, Some(3), None)),
-            Dimension::XYZ,
-        ),
-        (
-            "POINTM(1 2 3)",
-            Some(coord(1, 2, None, Some(3))),
-            Dimension::XYM,
-        ),
-        ("POINT ZM (1 2 3 4)", xyzm, Dimension::XYZM),
-        ("POINT EMPTY", None, Dimension::XY),
-        ("POINT ZM EMPTY", None, Dimension::XYZM),
-    ] {
-        is_read(&rt, alloc, text, Ok(point(coord, dim)))?;
-    }
-    Ok(())
 }
 
 #[test]
@@ -263,22 +253,4 @@ fn nested_collections(rt: HostRuntime) -> Result<(), AllocError> {
         text,
         collection(remaining, right, alloc, Dimension::XY),
     )
-}
-
-#[test]
-fn refused(rt: HostRuntime) -> Result<(), AllocError> {
-    for text in [
-        "",
-        "POINT",
-        "POINT(1)",
-        "LINESTRING(1 2,3)",
-        "GEOMETRYCOLLECTION(POINT(1 2)",
-    ] {
-        assert!(&rt; value(rt.alloc(), text)? == None, "{text}");
-        assert!(&rt;
-            value_by_bytes(rt.alloc(), text)? == None,
-            "{text}, by bytes"
-        );
-    }
-    Ok(())
 }

@@ -1,15 +1,19 @@
 //! The calls of the rows, by their names, and what they give, in words.
+use crate::dialects::in_dialects;
 use crate::flat_calls::{becomes, converted, flat_of};
 use crate::json_calls::json_given;
 use crate::made::{built, canonical, lines, pushed, turned};
 use crate::numbers::{answer_of, number_of};
 use crate::parts::{flat_of_whole, held, lexemes, message, place};
+use crate::table::said;
 use std::alloc::{AllocError, Global};
 use std::fmt::Display;
 use wkt::{
-    AnyError, Decimal, FromWktStr, ToWkt, Wkt, canonical_text, explain, front_end, infer_type,
-    read_whole, same_geometry,
+    AnyError, Decimal, FromWktStr, ReadError, ToWkt, Wkt, canonical_into, canonical_text, explain,
+    front_end, infer_type, read_whole, same_geometry,
 };
+use wkt_sources::front_end_by_tokens;
+use wkt_values::read_text;
 
 /// The number type of the rows that name none.
 pub(crate) type Number = Decimal<6>;
@@ -25,6 +29,7 @@ pub(crate) fn given(alloc: Global, call: &str, of: &str, text: &str) -> Result<S
         "same_geometry" => same(alloc, of, text),
         "try_from_wkt_str" => flat_of(alloc, of, text),
         "push" => pushed(alloc, of, text),
+        "in_dialects" => in_dialects(alloc, of, text),
         "wkt_from_value" | "deserialize_geometry" | "deserialize_wkt" | "deserialize_point" => {
             json_given(alloc, call, of, text)
         }
@@ -38,8 +43,8 @@ fn of_text(alloc: Global, call: &str, text: &str) -> Result<String, AnyError> {
         "read_front" => front(alloc, text),
         "read_whole" => shown(alloc, read_whole::<Number>(alloc, text)),
         "flat_of_whole" => flat_of_whole(alloc, text),
-        "canonical_text" => shown(alloc, canonical_text::<Number>(alloc, text)),
-        "front_end" => shown_if_any(alloc, front_end::<Number>(text)),
+        "canonical_text" => canonical_by_each(alloc, text),
+        "front_end" => end_by_each(alloc, text),
         "held" => held(alloc, text),
         "lexemes" => Ok(lexemes(alloc, text)?),
         "infer_type" => header(alloc, text),
@@ -60,6 +65,57 @@ fn of_text(alloc: Global, call: &str, text: &str) -> Result<String, AnyError> {
 fn front(alloc: Global, text: &str) -> Result<String, AnyError> {
     let (geometry, end) = Wkt::<Number>::read_front(alloc, text)?;
     Ok(format!(in alloc; "{geometry} {end}")?)
+}
+
+/// The canonical text of the front of a text, or the message, if a buffer gets the same, or nothing.
+fn canonical_by_each(alloc: Global, text: &str) -> Result<String, AnyError> {
+    let made = canonical_text::<Number>(alloc, text);
+    let mut buffer = [0u8; 400];
+    let written = canonical_into::<Number>(text, &mut buffer);
+    let agree = match (&made, &written) {
+        (Ok(made), Ok(Some(written))) => {
+            front_end::<Number>(text) == Some(written.end)
+                && buffer.get(..written.len) == Some(made.as_bytes())
+        }
+        (Err(ReadError::Text(_)), Ok(None)) | (Err(ReadError::Memory(_)), _) => true,
+        _ => false,
+    };
+    if agree {
+        shown(alloc, made)
+    } else {
+        differ(alloc)
+    }
+}
+
+/// Where the front of a text ends, or none, if it does by its bytes, by its tokens and by its value.
+fn end_by_each(alloc: Global, text: &str) -> Result<String, AnyError> {
+    let by_value = match read_text::<Number>(alloc, text) {
+        Ok((_, end)) => Some(end),
+        Err(ReadError::Text(_)) => None,
+        Err(ReadError::Memory(error)) => return Err(AnyError::Memory(error)),
+    };
+    let end = front_end::<Number>(text);
+    if front_end_by_tokens::<Number>(text) == end && by_value == end {
+        shown_if_any(alloc, end)
+    } else {
+        differ(alloc)
+    }
+}
+
+/// What two calls gave, if they gave the same.
+pub(crate) fn agreed(
+    alloc: Global,
+    one: Result<String, AnyError>,
+    other: Result<String, AnyError>,
+) -> Result<String, AnyError> {
+    let one = said(alloc, one)?;
+    let other = said(alloc, other)?;
+    if one == other { Ok(one) } else { differ(alloc) }
+}
+
+/// What is given where calls that must agree don't: no row wants it.
+fn differ(alloc: Global) -> Result<String, AnyError> {
+    Ok(String::from_str(alloc, "the calls differ")?)
 }
 
 /// The kind and the dimension that the header of a text names.

@@ -1,5 +1,5 @@
 //! Calls over the two-dimensional types, by their names.
-use crate::calls::{Number, flat_or_words, flat_shown};
+use crate::calls::{Number, agreed, flat_shown};
 use std::alloc::Global;
 use wkt::geo_types::{
     Geometry, GeometryCollection, Line, LineString, MultiLineString, MultiPoint, MultiPolygon,
@@ -89,23 +89,7 @@ fn both<G: ToWkt<Number> + Drop>(
     one: Result<Geometry<Number>, Error>,
     other: Result<G, Error>,
 ) -> Result<String, AnyError> {
-    let one = words(alloc, one)?;
-    if words(alloc, other)?.as_str() == one.as_str() {
-        Ok(one)
-    } else {
-        Ok(String::from_str(alloc, "two answers")?)
-    }
-}
-
-/// The text of the flat value, or the words of the error; out of memory is an error by itself.
-fn words<G: ToWkt<Number> + Drop>(
-    alloc: Global,
-    answer: Result<G, Error>,
-) -> Result<String, AnyError> {
-    match answer {
-        Err(Error::Memory(e)) => Err(AnyError::Memory(e)),
-        answer => flat_or_words(alloc, answer),
-    }
+    agreed(alloc, flat_shown(alloc, one), flat_shown(alloc, other))
 }
 
 /// The types, but for Geometry itself.

@@ -1,7 +1,7 @@
 //! The tables of texts, which this program checks.
 //!
-//! Below stand `wkt`, `wkt_lines`, `wkt_all_calls`, which asks all calls for a text, and `wkt_test_support`, which has odd
-//! number types.
+//! Below stand `wkt`, the crates that read, `wkt_lines`, `wkt_all_calls`, which asks all calls for a text, and
+//! `wkt_test_support`, which has odd number types.
 //!
 //! Each line of standard input is a text, a tab, and what reading the text over decimals of eighteen
 //! places gives: the text of its geometry, or the message. The table that stands beside the sources
@@ -13,6 +13,7 @@
 #![tactic(auto)]
 
 mod calls;
+mod dialects;
 mod flat_calls;
 mod json_calls;
 mod made;

@@ -1,14 +1,25 @@
 //! What is read of a text, part by part, and where and why a text is refused.
-use crate::calls::{Number, flat_shown};
+use crate::calls::{Number, agreed, flat_shown};
 use std::alloc::{AllocError, Global};
 use wkt::geo_types::Geometry;
 use wkt::geo_types_from_wkt::ConvertFrom;
 use wkt::tokenizer::Tokens;
 use wkt::{AnyError, FromWktStr, Wkt, explain, read_whole};
+use wkt_values::read_text;
 
-/// The geometry of a text over whole numbers, with each number where it is held, as Debug shows it.
+/// The geometry of a text over whole numbers, with each number where it is held, as Debug shows it, if it is read so by
+/// its tokens and by its bytes.
 pub(crate) fn held(alloc: Global, text: &str) -> Result<String, AnyError> {
+    agreed(alloc, by_tokens(alloc, text), by_bytes(alloc, text))
+}
+
+fn by_tokens(alloc: Global, text: &str) -> Result<String, AnyError> {
     let geometry = Wkt::<i32>::from_str(alloc, text)?;
+    Ok(format!(in alloc; "{geometry:?}")?)
+}
+
+fn by_bytes(alloc: Global, text: &str) -> Result<String, AnyError> {
+    let (geometry, _) = read_text::<i32>(alloc, text)?;
     Ok(format!(in alloc; "{geometry:?}")?)
 }
 

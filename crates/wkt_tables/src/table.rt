@@ -196,14 +196,25 @@ fn made(alloc: Global, answer: Result<String, AnyError>, want: &str) -> Result<R
     ensures given { IfOk answer (λ text. IfOk result (λ row. row.given ≡ text)) }
     ensures want { IfOk result (λ row. string_bytes row.want ≡ want.now) }
 {
-    let given = match answer {
+    let given = said(alloc, answer)?;
+    let want = String::from_str(alloc, want)?;
+    Ok(Row { given, want })
+}
+
+/// What a call answered: its text, or that of its error.
+///
+/// # Errors
+/// Out of memory, here or in the call.
+pub(crate) fn said(alloc: Global, answer: Result<String, AnyError>) -> Result<String, AllocError>
+    ensures { IfOk answer (λ text. IfOk result (λ said. said ≡ text)) }
+{
+    let said = match answer {
         Ok(given) => given,
         Err(error) => error.to_string(alloc)?,
     };
     // No text of a geometry, and no other error, is this.
-    if given.as_str() == "out of memory" {
+    if said.as_str() == "out of memory" {
         return Err(AllocError);
     }
-    let want = String::from_str(alloc, want)?;
-    Ok(Row { given, want })
+    Ok(said)
 }
