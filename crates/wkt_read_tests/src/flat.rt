@@ -63,9 +63,9 @@ fn is_same<G: FromAny<T = i32> + PartialEq + Drop>(
     }
 }
 
-/// Each of the eleven types answers the same.
-fn are_same(rt: &impl Abort, alloc: Global, texts: &[&str]) -> Result<(), AllocError> {
-    for text in texts {
+/// Each of the eleven types answers the same of the text of each line.
+fn are_same(rt: &impl Abort, alloc: Global, texts: &str) -> Result<(), AllocError> {
+    for text in texts.lines() {
         is_same::<Geometry<i32>>(rt, alloc, text)?;
         is_same::<GeometryCollection<i32>>(rt, alloc, text)?;
         is_same::<Point<i32>>(rt, alloc, text)?;
@@ -83,69 +83,57 @@ fn are_same(rt: &impl Abort, alloc: Global, texts: &[&str]) -> Result<(), AllocE
 
 #[test]
 fn each_kind(rt: HostRuntime) -> Result<(), AllocError> {
-    are_same(
-        &rt,
-        rt.alloc(),
-        &[
-            "POINT(1 2)",
-            "POINT Z(1 2 3)",
-            "point m ( -1 2 3 )",
-            "POINTZM(1 2 3 4)",
-            "LINESTRING(1 2,3 4,1 2)",
-            "LINESTRING ZM(1 2 3 4,5 6 7 8)",
-            "POLYGON((8 4,4 0,0 4,8 4),(7 3,4 1,1 4,7 3))",
-            "POLYGON M((8 4 1,4 0 2,0 4 3),(1 2 3),(7 3 4,4 1 5))",
-            "MULTIPOINT(8 4,(4 0))",
-            "MULTIPOINT Z((8 4 1),4 0 2)",
-            "MULTILINESTRING((1 2,3 4),(5 6))",
-            "MULTIPOLYGON(((8 4,4 0,0 4),(1 1)),((3 4,5 6,3 4)))",
-            "GEOMETRYCOLLECTION Z(POINT(1 2),LINESTRING M(1 2 3),POLYGON((1 2,3 4)),MULTIPOINT(1 2))",
-            "GEOMETRYCOLLECTION(MULTILINESTRING((1 2)),GEOMETRYCOLLECTION(MULTIPOLYGON(((1 2,3 4)))),POINT(5 6))",
-        ],
-    )
+    let texts = "\
+POINT(1 2)
+POINT Z(1 2 3)
+point m ( -1 2 3 )
+POINTZM(1 2 3 4)
+LINESTRING(1 2,3 4,1 2)
+LINESTRING ZM(1 2 3 4,5 6 7 8)
+POLYGON((8 4,4 0,0 4,8 4),(7 3,4 1,1 4,7 3))
+POLYGON M((8 4 1,4 0 2,0 4 3),(1 2 3),(7 3 4,4 1 5))
+MULTIPOINT(8 4,(4 0))
+MULTIPOINT Z((8 4 1),4 0 2)
+MULTILINESTRING((1 2,3 4),(5 6))
+MULTIPOLYGON(((8 4,4 0,0 4),(1 1)),((3 4,5 6,3 4)))
+GEOMETRYCOLLECTION Z(POINT(1 2),LINESTRING M(1 2 3),POLYGON((1 2,3 4)),MULTIPOINT(1 2))
+GEOMETRYCOLLECTION(MULTILINESTRING((1 2)),GEOMETRYCOLLECTION(MULTIPOLYGON(((1 2,3 4)))),POINT(5 6))";
+    are_same(&rt, rt.alloc(), texts)
 }
 
 #[test]
 fn parts_without_items(rt: HostRuntime) -> Result<(), AllocError> {
-    are_same(
-        &rt,
-        rt.alloc(),
-        &[
-            "POINT EMPTY",
-            "LINESTRING Z EMPTY",
-            "POLYGON EMPTY",
-            "POLYGON(EMPTY,(1 2,3 4),EMPTY)",
-            "MULTIPOINT EMPTY",
-            "MULTIPOINT(EMPTY)",
-            "MULTIPOINT(1 2,EMPTY,3 4)",
-            "MULTILINESTRING(EMPTY,(1 2))",
-            "MULTIPOLYGON(EMPTY,((1 2),EMPTY))",
-            "MULTIPOLYGON EMPTY",
-            "GEOMETRYCOLLECTION EMPTY",
-            "GEOMETRYCOLLECTION(POINT EMPTY,GEOMETRYCOLLECTION EMPTY,POINT(1 2))",
-            "GEOMETRYCOLLECTION(GEOMETRYCOLLECTION(MULTIPOINT(EMPTY)),LINESTRING(1 2))",
-            "GEOMETRYCOLLECTION(MULTIPOINT EMPTY,MULTIPOINT(1 2))",
-        ],
-    )
+    let texts = "\
+POINT EMPTY
+LINESTRING Z EMPTY
+POLYGON EMPTY
+POLYGON(EMPTY,(1 2,3 4),EMPTY)
+MULTIPOINT EMPTY
+MULTIPOINT(EMPTY)
+MULTIPOINT(1 2,EMPTY,3 4)
+MULTILINESTRING(EMPTY,(1 2))
+MULTIPOLYGON(EMPTY,((1 2),EMPTY))
+MULTIPOLYGON EMPTY
+GEOMETRYCOLLECTION EMPTY
+GEOMETRYCOLLECTION(POINT EMPTY,GEOMETRYCOLLECTION EMPTY,POINT(1 2))
+GEOMETRYCOLLECTION(GEOMETRYCOLLECTION(MULTIPOINT(EMPTY)),LINESTRING(1 2))
+GEOMETRYCOLLECTION(MULTIPOINT EMPTY,MULTIPOINT(1 2))";
+    are_same(&rt, rt.alloc(), texts)
 }
 
 #[test]
 fn refused_texts(rt: HostRuntime) -> Result<(), AllocError> {
-    are_same(
-        &rt,
-        rt.alloc(),
-        &[
-            "",
-            "POINT(1)",
-            "POINT Z(1 2)",
-            "POINT M(1 2 x)",
-            "POINT Z(1 2 2147483648)",
-            "LINESTRING(1 2,3 4",
-            "MULTIPOINT(EMPTY",
-            "MULTIPOINT(EMPTY,(1 2)",
-            "GEOMETRYCOLLECTION(MULTIPOINT(EMPTY),POINT(1))",
-            "GEOMETRYCOLLECTION(POINT(1 2),CIRCLE(1))",
-            "POINT(1 2) and more",
-        ],
-    )
+    let texts = "\
+POINT(1)
+
+POINT Z(1 2)
+POINT M(1 2 x)
+POINT Z(1 2 2147483648)
+LINESTRING(1 2,3 4
+MULTIPOINT(EMPTY
+MULTIPOINT(EMPTY,(1 2)
+GEOMETRYCOLLECTION(MULTIPOINT(EMPTY),POINT(1))
+GEOMETRYCOLLECTION(POINT(1 2),CIRCLE(1))
+POINT(1 2) and more";
+    are_same(&rt, rt.alloc(), texts)
 }

@@ -3,41 +3,27 @@ use std::process::Abort;
 use wkt_lines::{answer_line, write_whole_lines};
 use wkt_num::{Decimal, OfType};
 
-// What lines are answered with: a canonical text, or `refused` for `None`.
-const LINES: [(&[u8], Option<&str>); 17] = [
-    (b"POINT(1 2)", Some("POINT(1 2)")),
-    (b"point ( 1.50\t-0 ) and more", Some("POINT(1.5 0)")),
-    (b"POINT EMPTY", Some("POINT EMPTY")),
-    (b"POINT(+1 ++2)", Some("POINT(1 2)")),
-    (
-        b"linestring zm(1 2 3 4,5 6 7 8)",
-        Some("LINESTRING ZM(1 2 3 4,5 6 7 8)"),
-    ),
-    (
-        b"LINESTRING(0000000000000000000000000000000000000000001 2,3 4.0000000000000000000000000000000)",
-        Some("LINESTRING(1 2,3 4)"),
-    ),
-    (b"POLYGON(EMPTY,(0 0,1 0))", Some("POLYGON EMPTY")),
-    (
-        b"MULTIPOINT(1 2,(3 4),EMPTY)",
-        Some("MULTIPOINT((1 2),(3 4),EMPTY)"),
-    ),
-    (
-        b"GEOMETRYCOLLECTION(POLYGON(EMPTY),POINT(1 2))",
-        Some("GEOMETRYCOLLECTION(POLYGON EMPTY,POINT(1 2))"),
-    ),
-    (b"", None),
-    (b" ", None),
-    (b"POINT", None),
-    (b"POINT(1 2", None),
-    (b"POINT(1.1234567 2)", None),
-    (b"POINT(\xc3\xa9 2)", None),
-    (b"point(1 2.0)  ", Some("POINT(1 2)")),
-    (b"point(1 2.0) \xff", None),
-];
+// Lines, each with what it is answered with.
+const LINES: &str = "\
+POINT(1 2)|POINT(1 2)
+point ( 1.50\t-0 ) and more|POINT(1.5 0)
+POINT EMPTY|POINT EMPTY
+POINT(+1 ++2)|POINT(1 2)
+linestring zm(1 2 3 4,5 6 7 8)|LINESTRING ZM(1 2 3 4,5 6 7 8)
+LINESTRING(0000000000000000000000000000000000000000001 2,3 4.0000000000000000000000000000000)|LINESTRING(1 2,3 4)
+POLYGON(EMPTY,(0 0,1 0))|POLYGON EMPTY
+MULTIPOINT(1 2,(3 4),EMPTY)|MULTIPOINT((1 2),(3 4),EMPTY)
+GEOMETRYCOLLECTION(POLYGON(EMPTY),POINT(1 2))|GEOMETRYCOLLECTION(POLYGON EMPTY,POINT(1 2))
+|refused
+ |refused
+POINT|refused
+POINT(1 2|refused
+POINT(1.1234567 2)|refused
+POINT(\u{e9} 2)|refused
+point(1 2.0)  |POINT(1 2)";
 
 /// The first line is answered so, behind three bytes.
-fn is_answered(rt: &impl Abort, rest: &[u8], taken: usize, want: Option<&str>) {
+fn is_answered(rt: &impl Abort, rest: &[u8], taken: usize, want: &str) {
     assert!(rt; rest.len() <= 301);
     let mut out = [7u8; 800];
     match answer_line::<Decimal<6>>(rest, &mut out, 3) {
@@ -46,25 +32,31 @@ fn is_answered(rt: &impl Abort, rest: &[u8], taken: usize, want: Option<&str>) {
             assert!(rt; out[..3] == [7; 3]);
             assert!(rt; 4 <= answer.len && answer.len <= 800);
             let given = str::from_utf8(&out[3..answer.len - 1]).ok();
-            assert!(rt; given == Some(want.unwrap_or("refused")), "{given:?}");
+            assert!(rt; given == Some(want), "{given:?}");
             assert!(rt; out[answer.len - 1] == b'\n');
         }
         Err(_) => panic!(rt; "no room"),
     }
 }
 
+/// A line is answered so, last and with another behind it, which isn't looked at.
+fn line_is_answered(rt: &impl Abort, line: &[u8], want: &str) {
+    let n = line.len();
+    assert!(rt; n < 200);
+    is_answered(rt, line, n + 1, want);
+    let mut two = [b'x'; 300];
+    two[..n].copy_from_slice(line);
+    two[n] = b'\n';
+    is_answered(rt, &two, n + 1, want);
+}
+
 #[test]
 fn lines(rt: HostRuntime) {
-    for (line, want) in LINES {
-        let n = line.len();
-        assert!(&rt; n < 200);
-        is_answered(&rt, line, n + 1, want);
-        // With another line behind it, which isn't looked at.
-        let mut two = [b'x'; 300];
-        two[..n].copy_from_slice(line);
-        two[n] = b'\n';
-        is_answered(&rt, &two, n + 1, want);
+    for row in LINES.lines() {
+        let (line, want) = row.split_once('|').unwrap_or((row, ""));
+        line_is_answered(&rt, line.as_bytes(), want);
     }
+    line_is_answered(&rt, b"point(1 2.0) \xff", "refused");
 }
 
 // Bytes, whether the fronts of their lines alone count, how many first lines are answered then, and how.
