@@ -58,11 +58,11 @@ fn event(word: Option<&str>) -> usize {
     (1 << 63) + kind + dimension
 }
 
-/// The number of a word, or what nothing was written to.
+/// The number of a word, or what nothing was written to: 7 in each half.
 fn number(word: Option<&str>) -> i128 {
     match word {
         Some(word) => word.parse::<i128>().unwrap_or(99),
-        None => 7 * (1 << 64) + 7,
+        None => 129_127_208_515_966_861_319,
     }
 }
 
@@ -131,14 +131,16 @@ fn what_has_no_room_is_counted(rt: HostRuntime) {
 
 #[test]
 fn a_text_without_a_geometry_has_no_events(rt: HostRuntime) {
-    let mut room = EventRoom {
-        events: &mut [],
-        numbers: &mut [],
-    };
-    assert!(&rt; write_events(Places::new(0), b"POINT(1)", &mut room).is_none());
-    assert!(&rt; write_events(Places::new(0), b"", &mut room).is_none());
-    assert!(&rt;
-        write_events(Places::new(0), b"GEOMETRYCOLLECTION(POINT(1 2)", &mut room).is_none()
-    );
-    assert!(&rt; write_events(Places::new(0), b"POINT(0.5 1)", &mut room).is_none());
+    for text in [
+        "POINT(1)",
+        "",
+        "GEOMETRYCOLLECTION(POINT(1 2)",
+        "POINT(0.5 1)",
+    ] {
+        let mut room = EventRoom {
+            events: &mut [],
+            numbers: &mut [],
+        };
+        assert!(&rt; write_events(Places::new(0), text.as_bytes(), &mut room).is_none());
+    }
 }
