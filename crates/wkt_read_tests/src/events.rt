@@ -2,7 +2,7 @@
 
 use std::process::Abort;
 use wkt_fill::{EventRoom, WktUnits, write_events};
-use wkt_num::Places;
+use wkt_num::{Places, WktNum};
 
 // In each line how many places numbers have, a text, its events and its numbers. An event is the header of a geometry or its
 // end, or how many coordinates come.
@@ -61,7 +61,7 @@ fn event(word: Option<&str>) -> usize {
 /// The number of a word, or what nothing was written to: 7 in each half.
 fn number(word: Option<&str>) -> i128 {
     match word {
-        Some(word) => word.parse::<i128>().unwrap_or(99),
+        Some(word) => i128::read_number(word).unwrap_or(99),
         None => 129_127_208_515_966_861_319,
     }
 }
