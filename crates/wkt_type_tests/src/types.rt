@@ -3,7 +3,7 @@ use crate::asserts::{equal, holds, says};
 use std::alloc::{AllocError, Global};
 use std::fmt;
 use std::process::Abort;
-use wkt_access::{Error, GeometryTrait};
+use wkt_access::Error;
 use wkt_num::Decimal;
 use wkt_types::{
     Coord, Dimension, GeometryCollection, LineString, MultiLineString, MultiPoint, MultiPolygon,
@@ -62,7 +62,7 @@ fn spare_and_missing_numbers(rt: HostRuntime) {
 }
 
 /// The geometry isn't written, since a coordinate has fewer numbers than its dimension.
-fn has_too_few<G: GeometryTrait>(rt: &impl Abort, alloc: Global, wkt: &G) {
+fn has_too_few(rt: &impl Abort, alloc: Global, wkt: &Wkt<i32>) {
     let mut text = String::from_str(alloc, "at: ").expect(rt, "memory");
     let written = push_geometry(&mut text, wkt);
     holds(rt, matches!(written, Err(Error::TooFewNumbers)));
