@@ -9,7 +9,7 @@ use Rattle.wkt_read.specs.Table.{stays}
 use Rattle.wkt_machine.specs.Action.{Action}
 use Rattle.wkt_machine.specs.Goes.{IsStuck, Stays, MakesOneNumber, IsUnread, Goes, Refuses, EndsPoint, closes}
 use Rattle.wkt_machine.specs.Machine.{at, move, moved, number_step, numbers_after, said, bare_step, last_place, last_step, step_at, made, State, is_over, over_at}
-use Rattle.wkt_machine.specs.Machines.{state_of, place_of, after_third, state_for, next_after, HasNext, IsSound}
+use Rattle.wkt_machine.specs.Machines.{state_of, place_of, after_third, next_after, HasNext, IsSound}
 use Rattle.wkt_machine.specs.Machine as place
 use Rattle.wkt_machine.specs.declared.machine.Machine.{Machine}
 use Rattle.wkt_machine.specs.declared.part.Part.TheVariants as part
@@ -29,9 +29,9 @@ use Rattle.wkt_machine.specs.declared.part.Axis.TheVariants as axis
 
 -- The last number of a coordinate.
 abbrev IsLast : Axis → Dimension → Part → Type 0
-IsLast a d p = (place_of (state_for a) p d ≡ place.Number p d 0) × (axis_of d 0 ≡ a)
+IsLast a d p = (place_of (next.Number a) p d ≡ place.Number p d 0) × (axis_of d 0 ≡ a)
 
-at_last : (a : Axis) (d : Dimension) (p : Part) → HasNext (state_for a) d → next_after a d ≡ next.Item → IsLast a d p
+at_last : (a : Axis) (d : Dimension) (p : Part) → HasNext (next.Number a) d → next_after a d ≡ next.Item → IsLast a d p
 at_last axis.X d p h i = let never : ⊥ = cc in absurd never
 at_last axis.Y XY p h i = (refl, refl)
 at_last axis.Y XYZ p h i = let never : ⊥ = cc in absurd never
@@ -48,9 +48,9 @@ at_last axis.M XYZM p h i = (refl, refl)
 
 -- Another.
 abbrev IsInner : Axis → Dimension → Part → Type 0
-IsInner a d p = (k : ℕ) × (place_of (state_for a) p d ≡ place.Number p d (suc k)) × (axis_of d (suc k) ≡ a) × (place_of (next_after a d) p d ≡ place.Number p d k) × HasNext (next_after a d) d
+IsInner a d p = (k : ℕ) × (place_of (next.Number a) p d ≡ place.Number p d (suc k)) × (axis_of d (suc k) ≡ a) × (place_of (next_after a d) p d ≡ place.Number p d k) × HasNext (next_after a d) d
 
-at_inner : (a : Axis) (d : Dimension) (p : Part) → HasNext (state_for a) d → (next_after a d ≡ next.Item → ⊥) → IsInner a d p
+at_inner : (a : Axis) (d : Dimension) (p : Part) → HasNext (next.Number a) d → (next_after a d ≡ next.Item → ⊥) → IsInner a d p
 at_inner axis.X XY p h never = (0, refl, refl, refl, tt)
 at_inner axis.X XYZ p h never = (1, refl, refl, refl, tt)
 at_inner axis.X XYM p h never = (1, refl, refl, refl, tt)
@@ -116,20 +116,20 @@ module _ {N S B : Type 0} (read : List ℕ → Option N) (view : View N S) (make
     stuck = λ j k. subst (IsStuck read m) (sym stays.remaining) (unread_stuck m (view.remaining s) sees (never j k));
   }
 
-  pub over_number : (m : Machine) (a : Axis) → m.state ≡ state_for a → is_over (state_of m) ≡ false
+  pub over_number : (m : Machine) (a : Axis) → m.state ≡ next.Number a → is_over (state_of m) ≡ false
   over_number m a e = ap (λ s. over_at (place_of s m.part m.dim) m.depth) e ∙ open_for a
     where
-      open_for : (a : Axis) → over_at (place_of (state_for a) m.part m.dim) m.depth ≡ false
+      open_for : (a : Axis) → over_at (place_of (next.Number a) m.part m.dim) m.depth ≡ false
       open_for axis.X = refl
       open_for axis.Y = refl
       open_for axis.Z = refl
       open_for axis.M = refl
 
-  module _ (m : Machine) (s t : S) (b c : B) (a : Axis) (at_a : m.state ≡ state_for a) (sound : IsSound m) (h : MakesOneNumber read view maker s b a t c) where
-    has : HasNext (state_for a) m.dim
+  module _ (m : Machine) (s t : S) (b c : B) (a : Axis) (at_a : m.state ≡ next.Number a) (sound : IsSound m) (h : MakesOneNumber read view maker s b a t c) where
+    has : HasNext (next.Number a) m.dim
     has = subst (λ s. HasNext s m.dim) at_a sound
 
-    moves_at : (more : ℕ) → place_of (state_for a) m.part m.dim ≡ place.Number m.part m.dim more
+    moves_at : (more : ℕ) → place_of (next.Number a) m.part m.dim ≡ place.Number m.part m.dim more
         → move read (state_of m) (Num h.run) ≡ Some ((number_step m.part m.dim more m.depth).0, made (number_step m.part m.dim more m.depth).1 (Some h.number))
     moves_at more e =
         ap (λ p. moved read (step_at p m.depth (Num h.run)) (said read (read h.run))) (ap (λ s. place_of s m.part m.dim) at_a ∙ e)
@@ -160,7 +160,7 @@ module _ {N S B : Type 0} (read : List ℕ → Option N) (view : View N S) (make
     no_err (Ok to) k = tt
 
   -- The first number of a point without parentheses.
-  pub bare_number : (m n : Machine) (s t : S) (b o c : B) → m.state ≡ next.Opening → m.part ≡ part.Member → n ≡ record { state = next.Y; part = part.Bare; dim = m.dim; depth = m.depth }
+  pub bare_number : (m n : Machine) (s t : S) (b o c : B) → m.state ≡ next.Opening → m.part ≡ part.Member → n ≡ record { state = next.Number axis.Y; part = part.Bare; dim = m.dim; depth = m.depth }
       → maker.makes b (Event.Open part.Member ∷ []) o → MakesOneNumber read view maker s o axis.X t c → Goes read view maker m s b (record { source = t; machine = n; builder = c })
   bare_number m n s t b o c opens member e makes h =
       let here : place_of m.state m.part m.dim ≡ place.Opening part.Member m.dim = ap (λ s. place_of s m.part m.dim) opens ∙ ap (λ p. place.Opening p m.dim) member in
@@ -172,7 +172,7 @@ module _ {N S B : Type 0} (read : List ℕ → Option N) (view : View N S) (make
       (maker.more b o c (Event.Open part.Member ∷ []) (Event.Number axis.X h.number ∷ []) makes h.makes) (subst IsSound (sym e) tt)
 
 -- where a number comes next, nothing else does
-pub other_none : (a : Axis) (p : Part) (d : Dimension) (n : ℕ) (k : LexemeKind) → (k ≡ seen.Number → ⊥) → seen_at (place_of (state_for a) p d) n k ≡ None
+pub other_none : (a : Axis) (p : Part) (d : Dimension) (n : ℕ) (k : LexemeKind) → (k ≡ seen.Number → ⊥) → seen_at (place_of (next.Number a) p d) n k ≡ None
 other_none axis.X p d n k other = number_none p d (numbers_after d) n k other
 other_none axis.Y p d n k other = number_none p d (numbers_after d - 1) n k other
 other_none axis.Z p d n k other = number_none p d (after_third d) n k other

@@ -343,8 +343,8 @@ module _ {N S B : Type 0} (view : View N S) (maker : Maker N B) where
   pub kind_room : (m : Machine) (s : S) (b : B) → m.state ≡ next.Kind → HasRoom view maker 0 s b → HasRoom view maker (owed (state_of m)) s b
   kind_room m s b e h = owed_room m next.Kind s b e h
 
-  pub x_room : (m : Machine) (s : S) (b : B) → m.state ≡ next.X → HasRoom view maker 0 s b → HasRoom view maker (owed (state_of m)) s b
-  x_room m s b e h = owed_room m next.X s b e h
+  pub x_room : (m : Machine) (s : S) (b : B) → m.state ≡ next.Number axis.X → HasRoom view maker 0 s b → HasRoom view maker (owed (state_of m)) s b
+  x_room m s b e h = owed_room m (next.Number axis.X) s b e h
 
   -- what makes no use of room
   pub free_room : (s : S) (b : B) → ((n : ℕ) → maker.fits b n) → ((c : B) (x : N) → maker.takes c x ≡ 0) → (view.by_value → (c : B) → maker.reads c ≡ view.number) → HasRoom view maker 0 s b

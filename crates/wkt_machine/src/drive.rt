@@ -9,6 +9,7 @@ ghost use Rattle.wkt_machine.specs.Steps.{MayStep, Steps};
 use crate::builder::Builder;
 use crate::machine::{Machine, State};
 use crate::marks::marks;
+use crate::part::Axis;
 use crate::source::{FastSource, Progress, StepResult};
 use wkt_num::WktNum;
 
@@ -24,7 +25,7 @@ fn step_many<T: WktNum, S: FastSource<T>, B: Builder<T>>(
 {
     match machine.state {
         State::Kind => source.header(machine, builder),
-        State::X => source.coordinates(machine, builder),
+        State::Number(Axis::X) => source.coordinates(machine, builder),
         State::Opening | State::Item | State::Geometry => marks(machine, source, builder),
         _ => machine.step(source, builder),
     }

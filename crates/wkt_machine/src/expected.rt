@@ -4,7 +4,7 @@ ghost use Rattle.wkt_machine.specs.Machines.{state_of};
 ghost use Rattle.wkt_machine.specs.Refusing.{outer_parens, expected_at, item_expected, last_number, opening_expected, open_parens, takes_number};
 
 use crate::machine::{Machine, State};
-use crate::part::Part;
+use crate::part::{Axis, Part};
 use wkt_access::Dimension;
 use wkt_read::Expected;
 
@@ -57,13 +57,13 @@ impl Machine {
             State::Kind => Expected::Member,
             State::Dimension => Expected::Dimension,
             State::Opening => opening_expected(self.part),
-            State::X => Expected::X,
-            State::Y => Expected::Y,
-            State::Z => match self.dim {
+            State::Number(Axis::X) => Expected::X,
+            State::Number(Axis::Y) => Expected::Y,
+            State::Number(Axis::Z) => match self.dim {
                 Dimension::XYZM => Expected::Z,
                 dim => last_number(dim),
             },
-            State::M => last_number(self.dim),
+            State::Number(Axis::M) => last_number(self.dim),
             State::Item => item_expected(self.part),
             State::Geometry => Expected::More,
         }
@@ -76,7 +76,7 @@ impl Machine {
         match self.state {
             State::Kind | State::Dimension | State::Geometry => 0,
             State::Opening => outer_parens(self.part),
-            State::X | State::Y | State::Z | State::M | State::Item => outer_parens(self.part) + 1,
+            State::Number(_) | State::Item => outer_parens(self.part) + 1,
         }
     }
 }
@@ -87,7 +87,7 @@ pub fn takes_number(machine: Machine) -> bool
     ensures { result ≡ takes_number (state_of machine).place }
 {
     match machine.state {
-        State::X | State::Y | State::Z | State::M => true,
+        State::Number(_) => true,
         State::Opening => matches!(machine.part, Part::Member),
         _ => false,
     }

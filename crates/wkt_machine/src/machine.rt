@@ -37,10 +37,7 @@ pub enum State {
     /// The parenthesis of a part, or EMPTY; of a point of a multipoint a number too.
     Opening,
     /// A number of a coordinate.
-    X,
-    Y,
-    Z,
-    M,
+    Number(Axis),
     /// What follows an item of a part.
     Item,
     /// What follows a geometry.
@@ -48,6 +45,8 @@ pub enum State {
 }
 
 /// A place in the text of a geometry: what comes next, of which part in which dimension, and in how many collections.
+// `Number(Axis)` has two bytes, so the tags have four and the padding four. Where four variants of one byte were in its
+// place, LLVM copied five bytes of padding through memory, and `from_str` took a sixth more.
 #[derive(Clone, Copy)]
 pub struct Machine {
     pub state: State,
@@ -104,10 +103,10 @@ pub(crate) fn after(axis: Axis, dim: Dimension) -> State
     ensures { result ≡ next_after axis dim }
 {
     match (axis, dim) {
-        (Axis::X, _) => State::Y,
-        (Axis::Y, Dimension::XYZ | Dimension::XYZM) => State::Z,
-        (Axis::Y, Dimension::XYM) => State::M,
-        (Axis::Z, Dimension::XYZM) => State::M,
+        (Axis::X, _) => State::Number(Axis::Y),
+        (Axis::Y, Dimension::XYZ | Dimension::XYZM) => State::Number(Axis::Z),
+        (Axis::Y, Dimension::XYM) => State::Number(Axis::M),
+        (Axis::Z, Dimension::XYZM) => State::Number(Axis::M),
         _ => State::Item,
     }
 }
@@ -174,7 +173,7 @@ impl Machine {
             Part::MultiLineString => (State::Opening, Part::Line),
             Part::MultiPolygon => (State::Opening, Part::Area),
             Part::Area => (State::Opening, Part::AreaRing),
-            part => (State::X, part),
+            part => (State::Number(Axis::X), part),
         };
         let depth = if let Part::Collection = self.part {
             self.depth + 1

@@ -31,8 +31,7 @@ pub(crate) fn marks<T: WktNum, S: Source<T>, B: Builder<T>>(
             machine: next,
             builder: made,
         } = mark(machine, seen, looked, builder)?;
-        // Rebuilt, so padding isn't copied.
-        (source, machine, builder) = (behind, Machine { ..next }, made);
+        (source, machine, builder) = (behind, next, made);
         if !has_mark(machine) {
             return Ok(Progress {
                 source,
@@ -78,7 +77,7 @@ fn mark<T: WktNum, S: Source<T>, B: Builder<T>>(
             // The second number of a point without parentheses. Not another round of the loop, which saves some 20
             // instructions a point of MULTIPOINT(1 2,3 4) of capi/bench/calls.sh.
             match next.state {
-                State::Y => {
+                State::Number(Axis::Y) => {
                     let (seen, looked) = behind.look();
                     next.at_number(Axis::Y, seen, looked, made)
                 }

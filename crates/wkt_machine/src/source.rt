@@ -6,6 +6,7 @@ ghost use Rattle.wkt_machine.specs.Steps.{MayStep, Steps};
 ghost use Rattle.wkt_machine.specs.View.{sight, View};
 ghost use Rattle.wkt_machine.specs.declared.machine.LexemeKind.TheVariants as seen;
 ghost use Rattle.wkt_machine.specs.declared.machine.State.TheVariants as next;
+ghost use Rattle.wkt_machine.specs.declared.part.Axis.TheVariants as axis;
 
 use crate::builder::Builder;
 use crate::machine::{LexemeKind, Machine};
@@ -83,7 +84,7 @@ pub trait FastSource<T: WktNum>: Source<T> {
 
     /// After one lexeme or more: a coordinate begins here.
     fn coordinates<B: Builder<T>>(self, machine: Machine, builder: B) -> StepResult<Self, B>
-        requires state { machine.state ≡ next.X }
+        requires state { machine.state ≡ next.Number axis.X }
         requires may { MayStep Self.view B.maker machine self builder }
         ensures { Steps Self.view B.maker machine self builder result };
 }

@@ -1,7 +1,6 @@
 //! The step of the machine.
 ghost use Rattle.std.specs.Prelude.{◌≡◌, ◌<◌, IfOk, Ok, Err};
 ghost use Rattle.wkt_machine.specs.Goes.{EndsPoint};
-ghost use Rattle.wkt_machine.specs.Machines.{state_for};
 ghost use Rattle.wkt_machine.specs.Room.{HasRoom, RoomAt};
 ghost use Rattle.wkt_machine.specs.Steps.{MayStep, MayTake, Steps};
 ghost use Rattle.wkt_machine.specs.declared.machine.LexemeKind.TheVariants as sees;
@@ -45,10 +44,7 @@ impl Machine {
             State::Kind => self.at_kind(seen, source, builder),
             State::Dimension => self.at_dimension(seen, source, builder),
             State::Opening => self.at_opening(seen, source, builder),
-            State::X => self.at_number(Axis::X, seen, source, builder),
-            State::Y => self.at_number(Axis::Y, seen, source, builder),
-            State::Z => self.at_number(Axis::Z, seen, source, builder),
-            State::M => self.at_number(Axis::M, seen, source, builder),
+            State::Number(axis) => self.at_number(axis, seen, source, builder),
             State::Item => self.at_item(seen, source, builder),
             State::Geometry => self.at_geometry(seen, source, builder),
         }
@@ -155,7 +151,7 @@ impl Machine {
             Part::Member => match source.bare(builder) {
                 Ok((behind, made)) => on(
                     behind,
-                    self.with_part(State::Y, Part::Bare, self.dim),
+                    self.with_part(State::Number(Axis::Y), Part::Bare, self.dim),
                     made,
                 ),
                 Err((before, made)) => refused(before, self, made),
@@ -173,7 +169,7 @@ impl Machine {
         source: S,
         builder: B,
     ) -> StepResult<S, B>
-        requires axis { self.state ≡ state_for axis }
+        requires axis { self.state ≡ next.Number axis }
         requires may { MayTake S.view B.maker self seen source builder }
         ensures { Steps S.view B.maker self source builder result }
     {

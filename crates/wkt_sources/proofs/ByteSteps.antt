@@ -13,7 +13,7 @@ use Rattle.wkt_sources.specs.Views.{bytes_view, has_coordinates}
 use Rattle.wkt_machine.specs.Events.{Event}
 use Rattle.wkt_machine.specs.Goes.{Stays, MakesOneNumber, IsUnread, IsStuck, Goes, Refuses, closes}
 use Rattle.wkt_machine.specs.Machine.{at, numbers_after, inside, outside, last_place, number_step, said, moved, move, kind_step, joined_step, part_of, State}
-use Rattle.wkt_machine.specs.Machines.{state_of, place_of, after_third, state_for, next_after, is_single, HasNext, IsSound}
+use Rattle.wkt_machine.specs.Machines.{state_of, place_of, after_third, next_after, is_single, HasNext, IsSound}
 use Rattle.wkt_machine.specs.Makers.{Maker}
 use Rattle.wkt_machine.specs.Machine as place
 use Rattle.wkt_sources.specs.declared.bytes.ByteCursor.{ByteCursor}
@@ -78,7 +78,7 @@ more_of axis.Y d = numbers_after d - 1
 more_of axis.Z d = after_third d
 more_of axis.M d = 0
 
-number_place : (a : Axis) (p : Part) (d : Dimension) → place_of (state_for a) p d ≡ place.Number p d (more_of a d)
+number_place : (a : Axis) (p : Part) (d : Dimension) → place_of (next.Number a) p d ≡ place.Number p d (more_of a d)
 number_place axis.X p d = refl
 number_place axis.Y p d = refl
 number_place axis.Z p d = refl
@@ -96,7 +96,7 @@ abbrev before_member : Machine → Machine
 before_member m = record { state = next.Opening; part = part.Member; dim = m.dim; depth = m.depth }
 
 abbrev before_number : Machine → Machine
-before_number m = record { state = next.X; part = part.Member; dim = m.dim; depth = m.depth }
+before_number m = record { state = next.Number axis.X; part = part.Member; dim = m.dim; depth = m.depth }
 
 module _ {N : Type 0} (read : List ℕ → Option N) where
   stuck_number : (s : State) (p : Part) (d : Dimension) (more n : ℕ) → s ≡ at n (place.Number p d more) → (x : Spanned) (ps : List Spanned) → IsUnread read (x ∷ ps) → (l : Lexeme) → x.lexeme ≡ l → move read s l ≡ None
@@ -108,13 +108,13 @@ module _ {N : Type 0} (read : List ℕ → Option N) where
       let none : read run ≡ None = h run x.end ps (ap (λ l. record { lexeme = l; end = x.end } ∷ ps) e) in
       ap (λ s. move read s (Num run)) q ∙ ap (λ o. moved read (Some (number_step p d more n)) (said read o)) none
 
-  unread_stuck : (m : Machine) (a : Axis) → m.state ≡ state_for a → (ps : List Spanned) → IsUnread read ps → IsStuck read m ps
+  unread_stuck : (m : Machine) (a : Axis) → m.state ≡ next.Number a → (ps : List Spanned) → IsUnread read ps → IsStuck read m ps
   unread_stuck m a e [] h = tt
   unread_stuck m a e (x ∷ ps) h = stuck_number (state_of m) m.part m.dim (more_of a m.dim) m.depth (ap (at m.depth) (ap (λ s. place_of s m.part m.dim) e ∙ number_place a m.part m.dim)) x ps h x.lexeme refl
 
 module _ {N B : Type 0} (read : List ℕ → Option N) (maker : Maker N B) {n : ℕ} (feed : Bool) where
   -- a number is taken
-  pub number_goes : (m k : Machine) (s t : ByteCursor n) (b c : B) (a : Axis) → m.state ≡ state_for a → IsSound m → has_coordinates m.part ≡ true → MakesOneNumber read (bytes_view feed) maker s b a t c
+  pub number_goes : (m k : Machine) (s t : ByteCursor n) (b c : B) (a : Axis) → m.state ≡ next.Number a → IsSound m → has_coordinates m.part ≡ true → MakesOneNumber read (bytes_view feed) maker s b a t c
       → k ≡ record { state = next_after a m.dim; part = m.part; dim = m.dim; depth = m.depth } → Goes read (bytes_view feed) maker m s b (record { source = t; machine = k; builder = c })
   number_goes m k s t b c a at_a sound has h is = go (next_after a m.dim) refl
     where
@@ -131,14 +131,14 @@ module _ {N B : Type 0} (read : List ℕ → Option N) (maker : Maker N B) {n : 
       go next.Kind e = inner (λ i. let clash : next.Kind ≡ next.Item = sym e ∙ i in cc)
       go next.Dimension e = inner (λ i. let clash : next.Dimension ≡ next.Item = sym e ∙ i in cc)
       go next.Opening e = inner (λ i. let clash : next.Opening ≡ next.Item = sym e ∙ i in cc)
-      go next.X e = inner (λ i. let clash : next.X ≡ next.Item = sym e ∙ i in cc)
-      go next.Y e = inner (λ i. let clash : next.Y ≡ next.Item = sym e ∙ i in cc)
-      go next.Z e = inner (λ i. let clash : next.Z ≡ next.Item = sym e ∙ i in cc)
-      go next.M e = inner (λ i. let clash : next.M ≡ next.Item = sym e ∙ i in cc)
+      go (next.Number axis.X) e = inner (λ i. let clash : next.Number axis.X ≡ next.Item = sym e ∙ i in cc)
+      go (next.Number axis.Y) e = inner (λ i. let clash : next.Number axis.Y ≡ next.Item = sym e ∙ i in cc)
+      go (next.Number axis.Z) e = inner (λ i. let clash : next.Number axis.Z ≡ next.Item = sym e ∙ i in cc)
+      go (next.Number axis.M) e = inner (λ i. let clash : next.Number axis.M ≡ next.Item = sym e ∙ i in cc)
       go next.Geometry e = inner (λ i. let clash : next.Geometry ≡ next.Item = sym e ∙ i in cc)
 
   -- none is
-  pub number_stays : (m : Machine) (s t : ByteCursor n) (b c : B) (a : Axis) → m.state ≡ state_for a → Stays {N = N} (bytes_view feed) s t → IsDark feed t.text.now t.at → NoNumber read t.text.now t.at → maker.makes b [] c
+  pub number_stays : (m : Machine) (s t : ByteCursor n) (b c : B) (a : Axis) → m.state ≡ next.Number a → Stays {N = N} (bytes_view feed) s t → IsDark feed t.text.now t.at → NoNumber read t.text.now t.at → maker.makes b [] c
       → Refuses read (bytes_view feed) maker m s b (record { source = t; machine = m; builder = c })
   number_stays m s t b c a at_a stays dark none nothing = record {
     taken = [];
@@ -153,7 +153,7 @@ module _ {N B : Type 0} (read : List ℕ → Option N) (maker : Maker N B) {n : 
   }
 
   -- the same, past white space
-  pub number_stays_at : (m : Machine) (s t : ByteCursor n) (b c : B) (a : Axis) (start : ℕ) → m.state ≡ state_for a → IsBetween feed s.text.now s.at start
+  pub number_stays_at : (m : Machine) (s t : ByteCursor n) (b c : B) (a : Axis) (start : ℕ) → m.state ≡ next.Number a → IsBetween feed s.text.now s.at start
       → (Legible feed s.text.now s.at → Legible feed s.text.now start) → IsDark feed s.text.now start → NoNumber read s.text.now start → t.text ≡ s.text → t.at ≡ start → maker.makes b [] c
       → Refuses read (bytes_view feed) maker m s b (record { source = t; machine = m; builder = c })
   number_stays_at m s t b c a start at_a between further dark none text at nothing =
@@ -167,7 +167,7 @@ module _ {N B : Type 0} (read : List ℕ → Option N) (maker : Maker N B) {n : 
   sees_mark s l mark = (bytes.sees_mark feed s.text.now s.at (get_or s.text.now s.at 0) l (seen_of l) refl mark refl).sees
 
   -- a comma, and then a coordinate
-  pub comma_goes : (m : Machine) (s t : ByteCursor n) (b c : B) → m.state ≡ next.X → has_coordinates m.part ≡ true → is_single m.part ≡ false → class_of (get_or s.text.now s.at 0) ≡ Mark Comma → t.text ≡ s.text → t.at ≡ s.at + 1
+  pub comma_goes : (m : Machine) (s t : ByteCursor n) (b c : B) → m.state ≡ next.Number axis.X → has_coordinates m.part ≡ true → is_single m.part ≡ false → class_of (get_or s.text.now s.at 0) ≡ Mark Comma → t.text ≡ s.text → t.at ≡ s.at + 1
       → maker.makes b (Event.Comma m.part ∷ []) c → Goes read (bytes_view feed) maker (behind_item m) s b (record { source = t; machine = m; builder = c })
   comma_goes m s t b c at_x has more mark text to makes =
       let there : inside m.part m.dim m.depth ≡ state_of m = (holds m.part has).0 m.dim m.depth ∙ ap (λ x. at m.depth (place_of x m.part m.dim)) (sym at_x) in
@@ -186,7 +186,7 @@ module _ {N B : Type 0} (read : List ℕ → Option N) (maker : Maker N B) {n : 
   from_item m a to is h = subst (λ x. Goes read (bytes_view feed) maker x a.source a.builder to) (sym is) h
 
   -- a coordinate and the comma behind it
-  pub turn_goes : (m : Machine) (s t : ByteCursor n) (b d : B) (a : Progress (ByteCursor n) B) → Goes read (bytes_view feed) maker m s b a → a.machine ≡ behind_item m → m.state ≡ next.X → has_coordinates m.part ≡ true → is_single m.part ≡ false
+  pub turn_goes : (m : Machine) (s t : ByteCursor n) (b d : B) (a : Progress (ByteCursor n) B) → Goes read (bytes_view feed) maker m s b a → a.machine ≡ behind_item m → m.state ≡ next.Number axis.X → has_coordinates m.part ≡ true → is_single m.part ≡ false
       → get_or a.source.text.now a.source.at 0 ≡ 44 → t.text ≡ a.source.text → t.at ≡ a.source.at + 1 → maker.makes a.builder (Event.Comma m.part ∷ []) d → Goes read (bytes_view feed) maker m s b (record { source = t; machine = m; builder = d })
   turn_goes m s t b d a way item at_x has more byte text to makes =
       goes_on_to read (bytes_view feed) maker m s b a (record { source = t; machine = m; builder = d }) way
@@ -201,7 +201,7 @@ module _ {N B : Type 0} (read : List ℕ → Option N) (maker : Maker N B) {n : 
       (from_item m a (record { source = t; machine = k; builder = d }) item (close_goes m k a.source t a.builder d (ap class_of byte ∙ bytes.close_mark) text to there sound makes))
 
   -- behind a point of a multipoint: its parenthesis, and the comma and the parenthesis before the next point
-  pub member_goes : (m : Machine) (s t : ByteCursor n) (b c d e : B) (a : Progress (ByteCursor n) B) → Goes read (bytes_view feed) maker m s b a → a.machine ≡ behind_item m → m.state ≡ next.X → m.part ≡ part.Member → get_or a.source.text.now a.source.at 0 ≡ 41
+  pub member_goes : (m : Machine) (s t : ByteCursor n) (b c d e : B) (a : Progress (ByteCursor n) B) → Goes read (bytes_view feed) maker m s b a → a.machine ≡ behind_item m → m.state ≡ next.Number axis.X → m.part ≡ part.Member → get_or a.source.text.now a.source.at 0 ≡ 41
       → get_or a.source.text.now (a.source.at + 1) 0 ≡ 44 → get_or a.source.text.now (a.source.at + 1 + 1) 0 ≡ 40 → t.text ≡ a.source.text → t.at ≡ a.source.at + 1 + 1 + 1
       → maker.makes a.builder (Event.Close m.part ∷ []) c → maker.makes c (Event.Comma part.MultiPoint ∷ []) d → maker.makes d (Event.Open part.Member ∷ []) e → Goes read (bytes_view feed) maker m s b (record { source = t; machine = m; builder = e })
   member_goes m s t b c d e a way item at_x member close comma opens text to closed parted opened =

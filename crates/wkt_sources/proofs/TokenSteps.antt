@@ -15,6 +15,7 @@ use Rattle.wkt_machine.specs.declared.part.Axis.{Axis}
 use Rattle.wkt_sources.specs.declared.tokens.TokenSource.{TokenSource}
 use Rattle.wkt_machine.specs.declared.machine.LexemeKind.TheVariants as seen
 use Rattle.wkt_machine.specs.declared.machine.State.TheVariants as next
+use Rattle.wkt_machine.specs.declared.part.Axis.TheVariants as axis
 use Rattle.wkt_access.specs.declared.dimensions.Dimension.{Dimension}
 use Rattle.wkt_machine.specs.declared.part.Part.{Part}
 use Rattle.wkt_access.specs.declared.dimensions.Dimension.TheVariants.{XY}
@@ -29,10 +30,10 @@ pub kind_sound : (m : Machine) → m.state ≡ next.Kind → IsSound m
 kind_sound m e = subst (λ k. HasNext k m.dim) (sym e) tt
 
 -- nor is it before a coordinate
-pub x_open : (m : Machine) → m.state ≡ next.X → is_over (state_of m) ≡ false
+pub x_open : (m : Machine) → m.state ≡ next.Number axis.X → is_over (state_of m) ≡ false
 x_open m e = ap (λ k. is_over (at m.depth (place_of k m.part m.dim))) e
 
-pub x_sound : (m : Machine) → m.state ≡ next.X → IsSound m
+pub x_sound : (m : Machine) → m.state ≡ next.Number axis.X → IsSound m
 x_sound m e = subst (λ k. HasNext k m.dim) (sym e) tt
 
 -- what comes first is what is seen

@@ -3,7 +3,7 @@ ghost use Rattle.std.specs.Prelude.{◌≡◌, ◌≢◌, ◌≤◌, ◌+◌, ge
 ghost use Rattle.std.specs.Bool.{OnTrue, OnFalse};
 ghost use Rattle.wkt_sources.specs.Views.{bytes_view, has_coordinates};
 ghost use Rattle.wkt_machine.specs.Goes.{Goes, Refuses, reached, standing};
-ghost use Rattle.wkt_machine.specs.Machines.{state_for, next_after, HasNext};
+ghost use Rattle.wkt_machine.specs.Machines.{next_after, HasNext};
 ghost use Rattle.wkt_machine.specs.Room.{HasRoom};
 ghost use Rattle.wkt_machine.specs.Steps.{Steps};
 ghost use Rattle.wkt_machine.specs.declared.machine.State.TheVariants as next;
@@ -37,7 +37,7 @@ pub(crate) fn coordinates<'a, T: WktNum, B: Builder<T>, const LF_ENDS: bool>(
     source: ByteCursor<'a, LF_ENDS>,
     builder: B,
 ) -> StepResult<ByteCursor<'a, LF_ENDS>, B>
-    requires state { machine.state ≡ next.X }
+    requires state { machine.state ≡ next.Number axis.X }
     requires part { has_coordinates machine.part ≡ true }
     requires inside { source.at ≤ length source.text.now }
     requires room { HasRoom (bytes_view LF_ENDS) B.maker 0 source builder }
@@ -56,7 +56,7 @@ fn coordinates_of<'a, T: WktNum, B: Builder<T>, const LF_ENDS: bool, const IS_FL
     source: ByteCursor<'a, LF_ENDS>,
     builder: B,
 ) -> StepResult<ByteCursor<'a, LF_ENDS>, B>
-    requires state { machine.state ≡ next.X }
+    requires state { machine.state ≡ next.Number axis.X }
     requires part { has_coordinates machine.part ≡ true }
     requires flat { OnTrue IS_FLAT (machine.dim ≡ dim_of.XY) }
     requires more { OnFalse IS_FLAT (machine.dim ≢ dim_of.XY) }
@@ -111,7 +111,7 @@ fn deep_coordinates<'a, T: WktNum, B: Builder<T>, const LF_ENDS: bool>(
     source: ByteCursor<'a, LF_ENDS>,
     builder: B,
 ) -> StepResult<ByteCursor<'a, LF_ENDS>, B>
-    requires state { machine.state ≡ next.X }
+    requires state { machine.state ≡ next.Number axis.X }
     requires part { has_coordinates machine.part ≡ true }
     requires more { machine.dim ≢ dim_of.XY }
     requires inside { source.at ≤ length source.text.now }
@@ -127,7 +127,7 @@ fn deep_coordinates_outlined<'a, T: WktNum, B: Builder<T>, const LF_ENDS: bool>(
     source: ByteCursor<'a, LF_ENDS>,
     builder: B,
 ) -> StepResult<ByteCursor<'a, LF_ENDS>, B>
-    requires state { machine.state ≡ next.X }
+    requires state { machine.state ≡ next.Number axis.X }
     requires part { has_coordinates machine.part ≡ true }
     requires more { machine.dim ≢ dim_of.XY }
     requires inside { source.at ≤ length source.text.now }
@@ -146,7 +146,7 @@ fn coordinate<'a, T: WktNum, B: Builder<T>, const LF_ENDS: bool, const IS_FLAT: 
     source: ByteCursor<'a, LF_ENDS>,
     builder: B,
 ) -> (bool, State, ByteCursor<'a, LF_ENDS>, B)
-    requires state { machine.state ≡ next.X }
+    requires state { machine.state ≡ next.Number axis.X }
     requires part { has_coordinates machine.part ≡ true }
     requires flat { OnTrue IS_FLAT (machine.dim ≡ dim_of.XY) }
     requires more { OnFalse IS_FLAT (machine.dim ≢ dim_of.XY) }
@@ -159,11 +159,11 @@ fn coordinate<'a, T: WktNum, B: Builder<T>, const LF_ENDS: bool, const IS_FLAT: 
 {
     let (has_x, source, made) = number::<T, B, LF_ENDS>(Axis::X, machine, source, builder);
     if !has_x {
-        return (false, State::X, source, made);
+        return (false, State::Number(Axis::X), source, made);
     }
     let (has_y, source, made) = number::<T, B, LF_ENDS>(Axis::Y, machine, source, made);
     if !has_y {
-        return (false, State::Y, source, made);
+        return (false, State::Number(Axis::Y), source, made);
     }
     if IS_FLAT {
         return (true, State::Item, source, made);
@@ -192,19 +192,19 @@ fn z_and_m<'a, T: WktNum, B: Builder<T>, const LF_ENDS: bool>(
         Dimension::XY => (true, State::Item, source, builder),
         Dimension::XYZ => {
             let (has_z, source, made) = number::<T, B, LF_ENDS>(Axis::Z, machine, source, builder);
-            (has_z, State::Z, source, made)
+            (has_z, State::Number(Axis::Z), source, made)
         }
         Dimension::XYM => {
             let (has_m, source, made) = number::<T, B, LF_ENDS>(Axis::M, machine, source, builder);
-            (has_m, State::M, source, made)
+            (has_m, State::Number(Axis::M), source, made)
         }
         Dimension::XYZM => {
             let (has_z, source, made) = number::<T, B, LF_ENDS>(Axis::Z, machine, source, builder);
             if !has_z {
-                return (false, State::Z, source, made);
+                return (false, State::Number(Axis::Z), source, made);
             }
             let (has_m, source, made) = number::<T, B, LF_ENDS>(Axis::M, machine, source, made);
-            (has_m, State::M, source, made)
+            (has_m, State::Number(Axis::M), source, made)
         }
     }
 }
@@ -217,14 +217,14 @@ fn number<'a, T: WktNum, B: Builder<T>, const LF_ENDS: bool>(
     source: ByteCursor<'a, LF_ENDS>,
     builder: B,
 ) -> (bool, ByteCursor<'a, LF_ENDS>, B)
-    requires sound { HasNext (state_for axis) machine.dim }
+    requires sound { HasNext (next.Number axis) machine.dim }
     requires part { has_coordinates machine.part ≡ true }
     requires inside { source.at ≤ length source.text.now }
     requires room { HasRoom (bytes_view LF_ENDS) B.maker 0 source builder }
-    ensures on { OnTrue result.0 (Goes (B.maker.reads builder) (bytes_view LF_ENDS) B.maker (standing machine (state_for axis)) source.entry builder (reached machine (next_after axis machine.dim) result.1 result.2)) }
+    ensures on { OnTrue result.0 (Goes (B.maker.reads builder) (bytes_view LF_ENDS) B.maker (standing machine (next.Number axis)) source.entry builder (reached machine (next_after axis machine.dim) result.1 result.2)) }
     ensures inside { OnTrue result.0 (result.1.at ≤ length result.1.text.now) }
     ensures room { OnTrue result.0 (HasRoom (bytes_view LF_ENDS) B.maker 0 result.1 result.2) }
-    ensures refused { OnFalse result.0 (Refuses (B.maker.reads builder) (bytes_view LF_ENDS) B.maker (standing machine (state_for axis)) source.entry builder (reached machine (state_for axis) result.1 result.2)) }
+    ensures refused { OnFalse result.0 (Refuses (B.maker.reads builder) (bytes_view LF_ENDS) B.maker (standing machine (next.Number axis)) source.entry builder (reached machine (next.Number axis) result.1 result.2)) }
 {
     // No effect at run time. What is ensured names the machine.
     let _ = machine;

@@ -20,7 +20,7 @@ use wkt_access::Dimension;
 use wkt_events::{byte_at, is_of_run, skip_white};
 use wkt_machine::machine::part_of;
 use wkt_machine::step::on;
-use wkt_machine::{Builder, Machine, Part, Progress, State, StepResult};
+use wkt_machine::{Axis, Builder, Machine, Part, Progress, State, StepResult};
 use wkt_num::WktNum;
 use wkt_read::words::{dimension_front, is_empty_in, kind_front};
 
@@ -87,7 +87,7 @@ pub(crate) fn take_header<'a, T: WktNum, B: Builder<T>, const LF_ENDS: bool, con
                     builder: made,
                 } = enter::<T, B, LF_ENDS>(head, at, machine, source, builder);
                 return match begun.state {
-                    State::X if has_coordinates(begun.part) => {
+                    State::Number(Axis::X) if has_coordinates(begun.part) => {
                         coordinates::<T, B, LF_ENDS>(begun, behind, made)
                     }
                     _ => on(behind, begun, made),

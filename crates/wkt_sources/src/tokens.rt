@@ -92,7 +92,7 @@ impl<'t, 'a, T: WktNum> Source<T> for TokenSource<'t, 'a, T> {
 /// What begins in tokens is taken lexeme by lexeme: so none is looked at before those in front of it are taken.
 ///
 /// A kind word and what stands behind it, and two numbers, are taken by the steps for these lexemes, which are built into
-/// the loop: `from_str` takes 36 instructions a byte of mixed lines, and 15 more where each goes by a call.
+/// the loop: `from_str` takes 30 instructions a byte of mixed lines, and 15 more where each goes by a call.
 #[tactic(auto, using(wkt_machine::proofs::StepsJoin::looked_at))]
 impl<'t, 'a, T: WktNum> FastSource<T> for TokenSource<'t, 'a, T> {
     #[inline(always)]
@@ -126,7 +126,7 @@ impl<'t, 'a, T: WktNum> FastSource<T> for TokenSource<'t, 'a, T> {
             builder: made,
         } = machine.at_number(Axis::X, seen, source, builder)?;
         match next.state {
-            State::Y => {
+            State::Number(Axis::Y) => {
                 let (seen, source) = behind.look();
                 next.at_number(Axis::Y, seen, source, made)
             }

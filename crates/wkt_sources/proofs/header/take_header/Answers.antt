@@ -6,8 +6,8 @@ use Rattle.wkt_sources.proofs.ByteSteps.{collection_name, linestring_name, multi
 use Rattle.wkt_machine.proofs.StepsJoin.{then_steps}
 use Rattle.wkt_sources.proofs.header.take_header.Goals as goal
 
-pub returns-in-X : goal.returns-in-X
-returns-in-X g c = then_steps c.enter-made.result _ c.enter-made.ensures.on c.coordinates.ensures
+pub returns-in-Number-X : goal.returns-in-Number-X
+returns-in-Number-X g c = then_steps c.enter-made.result _ c.enter-made.ensures.on c.coordinates.ensures
 
 pub plain-requires : goal.plain-requires
 plain-requires g c = (

@@ -1,7 +1,8 @@
 -- A number is taken, or what stands there stays.
 use Rattle.std.proofs.Common.{refl, sym, ap, ◌∙◌, arith}
 use Rattle.wkt_machine.specs.Machine.{at}
-use Rattle.wkt_machine.specs.Machines.{state_of, place_of, state_for}
+use Rattle.wkt_machine.specs.Machines.{state_of, place_of}
+use Rattle.wkt_machine.specs.declared.machine.State.TheVariants as next
 use Rattle.wkt_machine.specs.Room.{owed}
 use Rattle.wkt_machine.proofs.NumberSteps.{closes_number, inner_number, no_err, other_none, unread}
 use Rattle.wkt_machine.proofs.RoomForRest.{after_owes, less_room, number_room, number_after}
@@ -32,7 +33,7 @@ returns-in-Err g c =
 
 pub returns-in_default : goal.returns-in_default
 returns-in_default g c =
-    stuck _ c.requires.may refl (state_for c.args.axis) c.requires.axis c.refused-in_default.ensures (other_none c.args.axis c.args.self.part c.args.self.dim c.args.self.depth c.args.seen c.in_default.not-Number)
+    stuck _ c.requires.may refl (next.Number c.args.axis) c.requires.axis c.refused-in_default.ensures (other_none c.args.axis c.args.self.part c.args.self.dim c.args.self.depth c.args.seen c.in_default.not-Number)
 
 pub number-requires-clause-room : goal.number-requires-clause-room
 number-requires-clause-room g c =
