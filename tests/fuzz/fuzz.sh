@@ -24,7 +24,7 @@ build() {
     echo 'wkt_fuzz: wkt wkt_bytes wkt_lines wkt_calls wkt_c wkt_test_support serde_json' >> "$WORK/wkt/crates.txt"
     # There the functions for C are called like any other.
     sed -i 's/^wkt_c staticlib:/wkt_c:/' "$WORK/wkt/crates.txt"
-    sed -i -E 's/^mod (exports[a-z_]*|sizes);/pub mod \1;/' "$WORK/wkt/crates/wkt_c/src/lib.rt"
+    sed -i -E 's/^mod (exports[a-z_]*);/pub mod \1;/' "$WORK/wkt/crates/wkt_c/src/lib.rt"
     cd "$WORK/wkt/crates/wkt_fuzz"
     nice -n 10 python3 "$here/module.py" "$WORK/module.bc" < /dev/null > "$WORK/try.log" 2>&1 || true
     cd "$WORK"

@@ -16,7 +16,7 @@ HEADER, LISTS, RUST = "include/wkt.h", "capi/functions.h", "rust/src/ffi.rs"
 ENGINE, LINES = "javascript/src/engine.js", "javascript/src/lines.js"
 EXPORTS = [f"crates/wkt_c/src/exports{part}.rt"
            for part in ("", "_arrays", "_explain", "_events", "_dialects", "_short")]
-SIZES = ["crates/wkt_calls/src/sizes.rt", "crates/wkt_c/src/sizes.rt", "crates/wkt_fill/src/units.rt"]
+SIZES = ["crates/wkt_calls/src/sizes.rt", "crates/wkt_fill/src/units.rt"]
 FILES = [HEADER, LISTS, RUST, ENGINE, LINES, *EXPORTS, *SIZES]
 # Types that C has by two names. Offsets are of 64 bits, as sizes are, and one below 0 is refused as too large.
 ALIKE = {"wkt_status": "u32", "uint32_t": "u32", "uint8_t": "u8", "size_t": "64", "int64_t": "64", "int": "c_int",
@@ -185,8 +185,8 @@ CHANGES = [
     (EXPORTS[3], "number_count: &mut usize,", "number_count: &mut u32,"),
     (EXPORTS[4], "    read_room: &mut [u8],\n    numbers_room: &mut [i64],", "    numbers_room: &mut [i64],"),
     (SIZES[0], "pub kind: u32,", "pub kind: usize,"),
-    (SIZES[1], "pub rings: usize,", "pub ring_count: usize,"),
-    (SIZES[2], "pub low: u64,", "pub low: u32,"),
+    (SIZES[0], "offsets of rings.\n    pub rings: usize,", "offsets of rings.\n    pub ring_count: usize,"),
+    (SIZES[1], "pub low: u64,", "pub low: u32,"),
 ]
 
 

@@ -2,8 +2,8 @@
 ghost use Rattle.std.specs.Prelude.{◌≡◌, ◌≤◌, ◌<◌, ◌⊎◌, true, false};
 ghost use Rattle.wkt_calls.specs.Dialects.{AsksDialects, IsReadable, AnswersCanonicalOf, AnswersSameOf, AnswersArraysOf};
 
-use crate::canonical::canonical;
 use crate::exports::{wkt_arrays, wkt_same_ends};
+use wkt_calls::canonical::canonical;
 use wkt_calls::dialects::{AsRead, without_dialects};
 use wkt_calls::sizes::WktSizes;
 use wkt_calls::status::{DONE, NOT_TEXT, NOT_WHOLE, SMALL};

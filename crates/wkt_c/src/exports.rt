@@ -2,24 +2,21 @@
 ghost use Rattle.std.specs.Prelude.{◌≡◌, ◌≤◌, ◌<◌, ◌≢◌, ◌+◌, ◌*◌, ◌⊎◌, ℕ, List, Bool, length};
 ghost use Rattle.wkt_lines.specs.Output.{IsOutput};
 ghost use Rattle.wkt_calls.specs.Answer.{read_at, print_at, places_in, asks_whole, EndsAsAsked, IsCanonicalOf, IsMore, HasMore, Compares, RefusesAt, RefusesOneAt, IsHeaderOf, NamesNone, HasNoPlaces, IsHandedOut, HasNoRoom, same_number};
-ghost use Rattle.wkt_c.specs.Chunks.{AnswersSome, AnswersNone};
-ghost use Rattle.wkt_c.specs.Rows.{items_of};
-ghost use Rattle.wkt_c.specs.Rooms.{LackRooms, LackRoom, LacksLineRoom, text_room};
+ghost use Rattle.wkt_calls.specs.Chunks.{AnswersSome, AnswersNone};
+ghost use Rattle.wkt_calls.specs.Rooms.{LackRooms, LackRoom, LacksLineRoom, text_room};
 ghost use Rattle.wkt_calls.specs.Calls.{ends_here};
-ghost use Rattle.wkt_c.specs.Column.{AreColumnAnswers, IsColumn, IsNoColumn, row_count};
-ghost use Rattle.wkt_c.specs.ColumnArrays.{IsTextOf, IsNoTextAt};
+ghost use Rattle.wkt_calls.specs.Column.{AreColumnAnswers, IsColumn, IsNoColumn, row_count};
+ghost use Rattle.wkt_calls.specs.ColumnArrays.{IsTextOf, IsNoTextAt};
 ghost use Rattle.wkt_calls.specs.Arrays.{IsNotFlat, HasMoreAt, AreHandedOut, HaveNoRoom};
 
-use crate::arrays::{FEW, arrays_long};
-use crate::canonical::canonical;
-use crate::column::{GivenColumn, Rows, answers, is_column};
-use crate::given_text::{GivenArrays, copy_out_text_at};
-use crate::lines::{self, answer_some};
-use wkt_calls::arrays_call::arrays_short;
-use wkt_calls::canonical::SHORT;
-use wkt_calls::fill::{copy_out, copy_whole};
+use wkt_calls::arrays_call::{FEW_ARRAYS, arrays_long, arrays_short};
+use wkt_calls::canonical::{SHORT, canonical};
+use wkt_calls::column::{GivenColumn, answers, copy_out_rows, is_column};
+use wkt_calls::compare;
+use wkt_calls::fill::copy_out;
+use wkt_calls::given_text::{GivenArrays, copy_out_text_at};
 use wkt_calls::infer::infer;
-use wkt_calls::lines::is_last;
+use wkt_calls::lines::{self, answer_some, is_last};
 use wkt_calls::options::{MOST_ASKED, ends_as_asked, has_places};
 use wkt_calls::sizes::WktSizes;
 use wkt_calls::status::{DONE, MEMORY, NO_PLACES, NOT_COLUMN, NOT_WHOLE, SMALL};
@@ -91,7 +88,7 @@ pub extern "C" fn wkt_same_ends(
     if !has_places(places) {
         return NO_PLACES;
     }
-    match crate::canonical::same(one, other, places, room, other_room) {
+    match compare::same(one, other, places, room, other_room) {
         Ok(compared) => {
             *end = compared.end;
             *other_end = compared.other_end;
@@ -231,33 +228,6 @@ pub extern "C" fn wkt_lines_some(
     }
 }
 
-/// Copies out the answers to a column, if there is room for their texts.
-pub(crate) fn copy_out_rows(
-    rows: &Rows<'_>,
-    out: &mut [u8],
-    ends: &mut [usize],
-    statuses: &mut [u32],
-    needed: &mut usize,
-) -> u32
-    requires ends_fit { length (items_of rows.now.texts.ends) ≡ length ends.old }
-    requires statuses_fit { length (items_of rows.now.statuses) ≡ length statuses.old }
-    ensures stands { result ≡ DONE → IsHandedOut (items_of rows.now.texts.items) needed.new out.old out.new }
-    ensures ends_are { result ≡ DONE → ends.new ≡ items_of rows.now.texts.ends }
-    ensures statuses_are { result ≡ DONE → statuses.new ≡ items_of rows.now.statuses }
-    ensures lacks { result ≡ SMALL → HasNoRoom (items_of rows.now.texts.items) needed.new out.old }
-    ensures kept { 1 ≤ result →
-        (out.new ≡ out.old) × (ends.new ≡ ends.old) × (statuses.new ≡ statuses.old) }
-    ensures two { (result ≡ DONE) ⊎ (result ≡ SMALL) }
-{
-    let status = copy_out(rows.texts.items.items(), out, needed);
-    if status != DONE {
-        return status;
-    }
-    copy_whole(rows.texts.ends.items(), ends);
-    copy_whole(rows.statuses.items(), statuses);
-    DONE
-}
-
 /// Writes the canonical texts of a column of texts to the front of `out`, their length to `needed`, where each begins
 /// in `out`, with the end of the last, to `out_offsets`, and of each row to `statuses` why it has none, or 0. Row i is
 /// the bytes of `texts` from offset i to offset i + 1. `valid` has a bit for each row, which is 0 where the row is
@@ -347,7 +317,7 @@ pub extern "C" fn wkt_arrays(
     if !has_places(places) {
         return NO_PLACES;
     }
-    if text.len() <= FEW {
+    if text.len() <= FEW_ARRAYS {
         return arrays_short(text, places, sizes, numbers, rings, polygons);
     }
     arrays_long(

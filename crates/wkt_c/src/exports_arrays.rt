@@ -1,71 +1,14 @@
 //! A column to arrays at once, for C.
 ghost use Rattle.wkt_calls.specs.Answer.{IsHandedOut, HasNoRoom, places_in};
 ghost use Rattle.std.specs.Prelude.{◌≡◌, ◌≤◌, ◌<◌, ◌≢◌, ◌⊎◌, ℕ, List, length};
-ghost use Rattle.wkt_c.specs.ColumnArrays.{ColumnArrays, AreColumnArrays, AreFilled, FillColumn, LackRoom, HasNoArrays, IsTextColumn, IsArrayColumn, AreColumnTexts, HasNoTexts, as_column};
-ghost use Rattle.wkt_c.specs.Rows.{held_arrays, items_of};
+ghost use Rattle.wkt_calls.specs.ColumnArrays.{ColumnArrays, AreColumnArrays, AreFilled, LackRoom, HasNoArrays, IsTextColumn, IsArrayColumn, AreColumnTexts, HasNoTexts, as_column};
 
-use crate::column::{GivenColumn, is_column};
-use crate::column_arrays::{ArrayRows, all_arrays};
-use crate::column_texts::{GivenRows, is_array_column, texts_at};
-use crate::exports::copy_out_rows;
-use crate::sizes::WktColumnSizes;
-use wkt_calls::fill::{copy_to_front, copy_whole};
+use wkt_calls::column::{GivenColumn, copy_out_rows, is_column};
+use wkt_calls::column_arrays::{all_arrays, copy_out_arrays};
+use wkt_calls::column_texts::{GivenRows, is_array_column, texts_at};
 use wkt_calls::options::has_places;
+use wkt_calls::sizes::WktColumnSizes;
 use wkt_calls::status::{DONE, NO_PLACES, NOT_COLUMN, SMALL};
-
-/// Copies out the arrays of a column, if there is room for them.
-fn copy_out_arrays(
-    rows: &ArrayRows<'_>,
-    sizes: &mut WktColumnSizes,
-    kinds: &mut [u32],
-    dimensions: &mut [u32],
-    numbers: &mut [i64],
-    number_offsets: &mut [usize],
-    rings: &mut [usize],
-    ring_offsets: &mut [usize],
-    polygons: &mut [usize],
-    polygon_offsets: &mut [usize],
-    statuses: &mut [u32],
-) -> u32
-    requires number_offsets_fit { length (items_of rows.now.numbers.ends) ≡ length number_offsets.old }
-    requires ring_offsets_fit { length (items_of rows.now.rings.ends) ≡ length ring_offsets.old }
-    requires polygon_offsets_fit { length (items_of rows.now.polygons.ends) ≡ length polygon_offsets.old }
-    requires kinds_fit { length (items_of rows.now.kinds) ≡ length kinds.old }
-    requires dimensions_fit { length (items_of rows.now.dimensions) ≡ length dimensions.old }
-    requires statuses_fit { length (items_of rows.now.statuses) ≡ length statuses.old }
-    ensures stands { result ≡ DONE → FillColumn (held_arrays rows.now) sizes.new numbers.old rings.old polygons.old
-        (as_column kinds.new dimensions.new numbers.new number_offsets.new rings.new ring_offsets.new polygons.new
-        polygon_offsets.new) }
-    ensures statuses_are { result ≡ DONE → statuses.new ≡ items_of rows.now.statuses }
-    ensures lacks { result ≡ SMALL → LackRoom (held_arrays rows.now) sizes.new (as_column kinds.old dimensions.old
-        numbers.old number_offsets.old rings.old ring_offsets.old polygons.old polygon_offsets.old) }
-    ensures kept { 1 ≤ result → (numbers.new ≡ numbers.old) × (rings.new ≡ rings.old) × (polygons.new ≡ polygons.old) }
-    ensures offsets_kept { 1 ≤ result → (number_offsets.new ≡ number_offsets.old)
-        × (ring_offsets.new ≡ ring_offsets.old) × (polygon_offsets.new ≡ polygon_offsets.old) }
-    ensures rows_kept { 1 ≤ result →
-        (kinds.new ≡ kinds.old) × (dimensions.new ≡ dimensions.old) × (statuses.new ≡ statuses.old) }
-    ensures two { (result ≡ DONE) ⊎ (result ≡ SMALL) }
-{
-    sizes.numbers = rows.numbers.items.items().len();
-    sizes.rings = rows.rings.items.items().len();
-    sizes.polygons = rows.polygons.items.items().len();
-    if rows.numbers.items.items().len() > numbers.len()
-        || rows.rings.items.items().len() > rings.len()
-        || rows.polygons.items.items().len() > polygons.len()
-    {
-        return SMALL;
-    }
-    copy_whole(rows.kinds.items(), kinds);
-    copy_whole(rows.dimensions.items(), dimensions);
-    copy_whole(rows.statuses.items(), statuses);
-    copy_to_front(rows.numbers.items.items(), numbers);
-    copy_whole(rows.numbers.ends.items(), number_offsets);
-    copy_to_front(rows.rings.items.items(), rings);
-    copy_whole(rows.rings.ends.items(), ring_offsets);
-    copy_to_front(rows.polygons.items.items(), polygons);
-    copy_whole(rows.polygons.ends.items(), polygon_offsets);
-    DONE
-}
 
 /// Writes the arrays of all texts of a column, each as `wkt_arrays` gives those of one: of each row the kind and the
 /// dimension; the numbers and offsets, one row's after the other's, to the fronts of `numbers`, `rings` and `polygons`,

@@ -6,11 +6,6 @@
 //! more for the rest. Where it isn't 0, the caller's buffers are as they were.
 #![tactic(auto)]
 
-mod arrays;
-mod canonical;
-mod column;
-mod column_arrays;
-mod column_texts;
 mod dialects;
 mod exports;
 mod exports_arrays;
@@ -18,8 +13,3 @@ mod exports_dialects;
 mod exports_events;
 mod exports_explain;
 mod exports_short;
-mod given_text;
-mod joined;
-mod lines;
-mod list;
-mod sizes;

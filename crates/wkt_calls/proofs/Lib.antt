@@ -3,3 +3,5 @@ pub mod Padded
 pub mod Few
 pub mod FewEvents
 pub mod InDialects
+pub mod Columns
+pub mod Telling

@@ -4,3 +4,8 @@ pub mod Calls
 pub mod Arrays
 pub mod Dialects
 pub mod EventCalls
+pub mod Column
+pub mod Chunks
+pub mod ColumnArrays
+pub mod Rooms
+pub mod Rows

@@ -1,6 +1,7 @@
 //! The arrays of one text, for a caller's buffers.
 ghost use Rattle.std.specs.Prelude.{◌≡◌, ◌≤◌, ◌<◌, ◌≢◌, ◌⊎◌, length, false};
 ghost use Rattle.wkt_calls.specs.Answer.{places_in, asks_whole, EndsAsAsked};
+ghost use Rattle.wkt_calls.specs.Rooms.{LackRooms};
 ghost use Rattle.wkt_calls.specs.Arrays.{IsNotFlat, HasMoreAt, HasNoPlaceFor, AnswersArrays, IsFlatPoint, AreHandedOut, HaveNoRoom};
 
 use crate::fill::{copy_to_front, put_two};
@@ -12,7 +13,7 @@ use wkt_fill::Room;
 use wkt_sources::FastPoint;
 
 /// How long a text may be whose arrays are made in a room on the stack.
-const FEW_ARRAYS: usize = 64;
+pub const FEW_ARRAYS: usize = 64;
 /// How long a text may be whose arrays are made in the least room, which is cleared for each call.
 const FEWEST_ARRAYS: usize = 32;
 
@@ -189,6 +190,34 @@ fn arrays_shortest(
         numbers: &mut few_numbers,
         rings: &mut few_rings,
         polygons: &mut few_polygons,
+    };
+    arrays_in(text, places, room, sizes, numbers, rings, polygons)
+}
+
+/// Copies out the arrays of a text that isn't short, which are made in the rooms first.
+#[inline(never)]
+pub fn arrays_long(
+    text: &[u8],
+    places: u32,
+    numbers_room: &mut [i64],
+    words_room: &mut [usize],
+    sizes: &mut WktSizes,
+    numbers: &mut [i64],
+    rings: &mut [usize],
+    polygons: &mut [usize],
+) -> u32
+    requires { places_in places ≤ 36 }
+    ensures { AnswersArrays places text.now (LackRooms (places_in places) text.now (length numbers_room.old)
+        (length words_room.old)) result sizes.old sizes.new numbers.old numbers.new rings.old rings.new polygons.old
+        polygons.new }
+{
+    let Some((ring_room, polygon_room)) = words_room.split_at_mut_checked(text.len() / 4 + 2) else {
+        return MEMORY;
+    };
+    let room = Room {
+        numbers: numbers_room,
+        rings: ring_room,
+        polygons: polygon_room,
     };
     arrays_in(text, places, room, sizes, numbers, rings, polygons)
 }

@@ -1,5 +1,5 @@
 //! The one text of what a text begins with.
-ghost use Rattle.std.specs.Prelude.{◌≡◌, ◌≢◌, ◌+◌, ◌*◌, ◌≤◌, ◌⊎◌, ℕ, IfOk, IfSome, IfNone, IsUtf8, true, false, take, drop, length, slice_index};
+ghost use Rattle.std.specs.Prelude.{◌≡◌, ◌≢◌, ◌+◌, ◌*◌, ◌≤◌, ◌<◌, ◌⊎◌, ℕ, IfOk, IfSome, IfNone, IsUtf8, true, false, take, drop, length, slice_index};
 ghost use Rattle.std.specs.Str.{IsAscii};
 ghost use Rattle.wkt_num.specs.Bytes.{AllWhite};
 ghost use Rattle.wkt_explain.specs.Problems.{IsPaddedFor};
@@ -11,7 +11,7 @@ use crate::options::{ends_as_asked, places_of};
 use crate::status::{DONE, MEMORY, NOT_TEXT, NOT_WHOLE, SMALL};
 use std::simd::prelude::*;
 use wkt_canonical::laws::texts_are_short;
-use wkt_canonical::{NoRoom, TextWritten, canonical_in_room};
+use wkt_canonical::{NoRoom, TextWritten, canonical_in_room, has_room};
 use wkt_num::Places;
 use wkt_read::Message;
 
@@ -281,6 +281,57 @@ fn canonical_cleared<const PADDED: usize, const ROOM: usize>(
                 return NOT_WHOLE;
             }
             copy_out_at_once(&room[..n], out, needed)
+        }
+        Err(status) => status,
+    }
+}
+
+/// Answers a text with the canonical text of what it begins with, which is written in the room first, if the text is long.
+pub fn canonical(
+    text: &[u8],
+    options: u32,
+    room: &mut [u8],
+    out: &mut [u8],
+    needed: &mut usize,
+    end: &mut usize,
+) -> u32
+    requires { places_in options ≤ 36 }
+    ensures answers { AnswersCanonical options text.now result out.old out.new needed.old needed.new end.old end.new }
+    ensures lacks { result ≡ MEMORY → length room.old < 2 * length text.now + 65 }
+{
+    if text.len() > SHORT {
+        return canonical_long(text, options, room, out, needed, end);
+    }
+    canonical_short(text, options, out, needed, end)
+}
+
+/// Answers a text that isn't short with the canonical text of what it begins with.
+///
+/// It isn't inlined, so that the function that chooses between short and long texts needs no stack frame.
+#[inline(never)]
+fn canonical_long(
+    text: &[u8],
+    options: u32,
+    room: &mut [u8],
+    out: &mut [u8],
+    needed: &mut usize,
+    end: &mut usize,
+) -> u32
+    requires places { places_in options ≤ 36 }
+    requires long { SHORT < length text.now }
+    ensures answers { AnswersCanonical options text.now result out.old out.new needed.old needed.new end.old end.new }
+    ensures lacks { result ≡ MEMORY → length room.old < 2 * length text.now + 65 }
+{
+    if !has_room(room.len(), text.len()) {
+        return MEMORY;
+    }
+    let Ok(text) = str::from_utf8(text) else {
+        return NOT_TEXT;
+    };
+    match write_within(text, options, room) {
+        Ok((at, n)) => {
+            *end = at;
+            copy_out_front(text.as_bytes(), at, options, &room[..n], out, needed)
         }
         Err(status) => status,
     }

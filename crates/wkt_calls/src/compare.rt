@@ -1,10 +1,11 @@
 //! Texts compared by the one text of what each begins with.
-ghost use Rattle.std.specs.Prelude.{◌≡◌, ◌+◌, ◌*◌, ◌≤◌, ◌↔◌, ◌⊎◌, ℕ, IsTrue, MatchResult, IsUtf8, length};
+ghost use Rattle.std.specs.Prelude.{◌≡◌, ◌+◌, ◌*◌, ◌≤◌, ◌<◌, ◌↔◌, ◌⊎◌, ℕ, IsTrue, MatchResult, IsUtf8, length};
 ghost use Rattle.wkt_calls.specs.Calls.{AreCompared};
 ghost use Rattle.wkt_calls.specs.Answer.{read_at, print_at, places_in, IsCanonicalOf, Compares, RefusesOne};
 
 use crate::canonical::{SHORT, SHORTER, SHORTEST, is_text, write_short, write_within};
-use crate::status::NOT_TEXT;
+use crate::status::{MEMORY, NOT_TEXT};
+use wkt_canonical::has_room;
 
 /// Whether these two canonical texts are one.
 fn is_one(one: &[u8], other: &[u8]) -> bool
@@ -152,4 +153,53 @@ pub fn same_in(
         end,
         other_end,
     })
+}
+
+/// Whether two texts begin with one geometry: whether their canonical texts are equal, which are written in the rooms, if
+/// one of the texts is long.
+pub fn same(
+    one: &[u8],
+    other: &[u8],
+    options: u32,
+    room: &mut [u8],
+    other_room: &mut [u8],
+) -> Result<Compared, u32>
+    requires places { places_in options ≤ 36 }
+    ensures { MatchResult result (AreCompared options one.now other.now)
+        (λ s. ((s ≡ MEMORY) × (((SHORT < length one.now) ⊎ (SHORT < length other.now))
+        × ((length room.old < 2 * length one.now + 65) ⊎ (length other_room.old < 2 * length other.now + 65))))
+        ⊎ RefusesOne (read_at (places_in options)) one.now other.now s) }
+{
+    if one.len() <= SHORT && other.len() <= SHORT {
+        return same_short(one, other, options);
+    }
+    same_long(one, other, options, room, other_room)
+}
+
+/// The same, of texts of which one at least isn't short.
+///
+/// Apart from the short ones, for which no place of what is needed here is cleared then.
+#[inline(never)]
+fn same_long(
+    one: &[u8],
+    other: &[u8],
+    options: u32,
+    room: &mut [u8],
+    other_room: &mut [u8],
+) -> Result<Compared, u32>
+    requires places { places_in options ≤ 36 }
+    ensures { MatchResult result (AreCompared options one.now other.now)
+        (λ s. ((s ≡ MEMORY) × ((length room.old < 2 * length one.now + 65) ⊎ (length other_room.old < 2 * length other.now + 65)))
+        ⊎ RefusesOne (read_at (places_in options)) one.now other.now s) }
+{
+    if !has_room(room.len(), one.len()) || !has_room(other_room.len(), other.len()) {
+        return Err(MEMORY);
+    }
+    let Ok(one) = str::from_utf8(one) else {
+        return Err(NOT_TEXT);
+    };
+    let Ok(other) = str::from_utf8(other) else {
+        return Err(NOT_TEXT);
+    };
+    same_in(one, other, options, room, other_room)
 }

@@ -8,14 +8,20 @@
 
 pub mod arrays_call;
 pub mod canonical;
+pub mod column;
+pub mod column_arrays;
+pub mod column_texts;
 pub mod compare;
 pub mod dialects;
 pub mod events_call;
 pub mod explain;
 pub mod fill;
 pub mod flat;
+pub mod given_text;
 pub mod infer;
+mod joined;
 pub mod lines;
+mod list;
 pub mod options;
 pub mod sizes;
 pub mod status;
