@@ -14,6 +14,8 @@ dir=$(mktemp -d)
 trap 'rm -rf "$dir"' EXIT
 ../tests/lib/cargo_home.sh "$dir/home" || fail "no crates"
 export CARGO_HOME=$dir/home WKT_LIB_DIR=${WKT_LIB_DIR:-$PWD/../capi/out}
+# All is built once: nothing serves the next build, and nobody debugs it.
+export CARGO_INCREMENTAL=0 CARGO_PROFILE_DEV_DEBUG=0
 
 # run WORDS COMMAND..: says the words, and how many tests passed
 run() {
@@ -45,11 +47,12 @@ objcopy "${renamed[@]}" "$WKT_LIB_DIR/libwkt.a" "$dir/later/libwkt.a" &&
     ar rc "$dir/later/libwkt.a" "$dir/later.o" || fail "later.c"
 run "a later library" env WKT_LIB_DIR="$dir/later" cargo test --offline --test later --target-dir "$dir/found" -- --ignored
 
-# The package that cargo would publish, made and built of portable C; without optimizing, which would take minutes.
-env -u WKT_LIB_DIR CFLAGS=-O0 ./package.sh "$dir/package" > "$dir/said" 2>&1 || { cat "$dir/said"; fail "package.sh"; }
+# The package that cargo would publish, made and built of portable C, where cargo has unpacked it; without optimizing, and with
+# each access to the module's memory by a call, since else it takes minutes.
+portable=(env -u WKT_LIB_DIR CFLAGS='-O0 -Dalways_inline=')
+"${portable[@]}" ./package.sh "$dir/package" > "$dir/said" 2>&1 || { cat "$dir/said"; fail "package.sh"; }
 ! grep 'manifest has no' "$dir/said" || fail "its manifest"
-tar -C "$dir/package" -xzf "$dir"/package/wkt_proved-*.crate
-said=$(cd "$dir"/package/wkt_proved-*/ && env -u WKT_LIB_DIR CFLAGS=-O0 cargo run --offline -q --example show --target-dir "$dir/package/target" -- 'point ( 1 2.50 )') || fail "its package"
+said=$(cd "$dir"/package/target/package/wkt_proved-*/ && "${portable[@]}" cargo run --offline -q --example show --target-dir "$dir/package/target" -- 'point ( 1 2.50 )') || fail "its package"
 [ "$said" = 'POINT(1 2.5)' ] || fail "its package: $said"
 echo "rust: its package is built, and answers"
 
