@@ -1,9 +1,10 @@
 #!/usr/bin/env bash
 # wheel.sh WKT: builds the wheel of the library in the folder WKT (wkt.h, libwkt.so), with the fast module, and the one
-# without it, and runs the same tests over both; without a wheel too, over ctypes alone, and where NumPy isn't. Then the fast module under
-# sanitizers and with assertions, libraries that don't suit, the stored cases of the command by `python -m wkt`, the example, the pages, mypy over
-# the stubs, and how it is built (build.sh). WKT is capi/out where none is named. It needs Python 3.11 or
-# later with its headers, one with assertions, pip, NumPy, pandas, Shapely, tqdm, matplotlib and mypy (tests/needs.sh): what is lacking fails.
+# without it, over ctypes alone, and runs the same tests over both, and over the first where NumPy isn't. (Of the sources, over ctypes
+# where NumPy isn't, tests/gate/c_callers.sh runs them.) Then the fast module under sanitizers and with assertions, libraries that
+# don't suit, the stored cases of the command by `python -m wkt`, the example, the pages, mypy over the stubs, and how it is built
+# (build.sh). WKT is capi/out where none is named. It needs Python 3.11 or later with its headers, one with assertions, pip, NumPy,
+# pandas, Shapely, tqdm, matplotlib and mypy (tests/needs.sh): what is lacking fails.
 # PYTHON names another Python.
 set -eu
 here=$(cd "$(dirname "$0")" && pwd)
@@ -14,24 +15,20 @@ trap 'rm -rf "$work"' EXIT
 export PYTHONDONTWRITEBYTECODE=1
 "$python" -c 'import matplotlib, numpy, pandas, shapely, tqdm' || { echo "wheel.sh: $python lacks what it needs"; exit 1; }
 
-# each NAME FOLDER [VARIABLE=VALUE..]: the tests with the package of that folder. Without the fast module those of Arrow are
+# each NAME FOLDER: the tests with the package of that folder. Without the fast module those of Arrow are
 # skipped; with it those alone that need sanitizers.
 each() {
     local name=$1 folder=$2 skipped
-    shift 2
     skipped='no (fast module|Dask|GDAL that lends)|only under sanitizers|the fast module isn.t tried'
     [ ! -e "$folder/wkt/_fast.abi3.so" ] || skipped='only under sanitizers|no (Dask|GDAL that lends)'
     [ ! -e "$folder/numpy.py" ] || skipped="$skipped|no (NumPy|pandas|Shapely)"
-    (cd "$work" && env "$@" PYTHONPATH="$folder:$here:$work/peer" "$python" -W error -m unittest -v test_wkt test_arguments \
+    (cd "$work" && PYTHONPATH="$folder:$here:$work/peer" "$python" -W error -m unittest -v test_wkt test_arguments \
         test_columns test_interrupts test_table_command test_pandas test_dask test_keys test_words test_dialects test_streams test_geoarrow test_pack \
         test_arrow test_arrow_shared test_arrow_lent test_geoarrow_keys test_interpreters test_producers) > "$work/said" 2>&1 || { cat "$work/said"; echo "$name: the tests fail"; exit 1; }
     ! grep "skipped '" "$work/said" | grep -vE "$skipped" || { echo "$name: a test was skipped"; exit 1; }
     echo "$name: $(grep '^Ran' "$work/said"), $(tail -n 1 "$work/said")"
 }
 
-# Of the sources alone: pip install -e leaves what it compiles beside them.
-mkdir -p "$work/alone/wkt" && cp "$here"/../wkt/*.py "$work/alone/wkt"
-each "over ctypes alone" "$work/alone" WKT_LIB="$WKT/libwkt.so"
 mkdir "$work/peer"
 gcc -Wall -Wextra -Werror -O1 -fPIC -shared -I"$("$python" -c 'import sysconfig; print(sysconfig.get_paths()["include"])')" \
     "$here/arrow_peer.c" -o "$work/peer/arrow_peer.so"

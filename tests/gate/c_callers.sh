@@ -2,35 +2,24 @@
 # Builds the library for C by tests/gate/c_library.sh, which says what that needs, and runs its callers in C, C++ and
 # Python, and compares the keys of tests/data/keys.tsv. With WKT_C_BUILT=1 the library in capi/out is taken as it is.
 #
-# What a machine lacks fails (tests/needs.sh installs it), unless SKIP names it: SKIP=python,numpy tests/gate/c_callers.sh.
-# Names: valgrind, c++, python, numpy. The last line says what was skipped.
+# What a machine lacks fails (tests/needs.sh installs it), unless SKIP names it: SKIP=python,valgrind tests/gate/c_callers.sh.
+# Names: valgrind, c++, python. The last line says what was skipped.
 set -u
 cd "$(dirname "$0")/../.." || exit 1
 fail() { echo "$*"; exit 1; }
 skips() { case ",${SKIP:-}," in *",$1,"*) true ;; *) false ;; esac; }
 # needs NAME COMMAND: the command is there, or SKIP names it
 needs() { skips "$1" || command -v "$2" > /dev/null || fail "no $2: tests/needs.sh installs it, SKIP=$1 passes it over"; }
-# has_numpy PYTHON
-has_numpy() { "$1" -c 'import numpy' 2> /dev/null; }
 
 skip=${SKIP:-}
 for name in ${skip//,/ }; do
-    case $name in valgrind | c++ | python | numpy) ;; *) echo "SKIP: $name is skipped by other scripts, or no name" ;; esac
+    case $name in valgrind | c++ | python) ;; *) echo "SKIP: $name is skipped by other scripts, or no name" ;; esac
 done
 cc=${CC:-$(command -v gcc || command -v clang || command -v cc)}
 [ -n "$cc" ] || fail "no C compiler: tests/needs.sh installs one"
 needs valgrind valgrind
 needs c++ g++
 needs python python3
-# The tests run by python3, and where that has no NumPy, by the system's, if that has it.
-pythons=()
-if ! skips python; then
-    pythons=(python3)
-    if ! skips numpy && ! has_numpy python3; then
-        has_numpy /usr/bin/python3 || fail "no Python with NumPy: tests/needs.sh installs it, SKIP=numpy passes it over"
-        pythons+=(/usr/bin/python3)
-    fi
-fi
 
 dir=$(mktemp -d)
 trap 'rm -rf "$dir"' EXIT
@@ -114,10 +103,11 @@ END
 cmp "$dir/said" "$dir/long" || fail "stream: another answer to a long line"
 echo "a line of 32 MB in pieces: answered in time"
 
-for python in "${pythons[@]}"; do
-    WKT_LIB=$out/libwkt.so PYTHONDONTWRITEBYTECODE=1 PYTHONPATH=python "$python" -W error -m unittest discover -q -s python/tests > "$dir/said" 2>&1 ||
-        { cat "$dir/said"; fail "$python: the tests fail"; }
-    with=$(has_numpy "$python" && echo with || echo without)
-    echo "Python ($python, $with NumPy): $(grep '^Ran' "$dir/said"), $(tail -n 1 "$dir/said")"
-done
+# The package of the sources, over ctypes and where NumPy isn't; with it, and as wheels, python/tests/wheel.sh runs these tests.
+if ! skips python; then
+    mkdir "$dir/lean" && echo 'raise ImportError("no NumPy")' > "$dir/lean/numpy.py"
+    WKT_LIB=$out/libwkt.so PYTHONDONTWRITEBYTECODE=1 PYTHONPATH=python:$dir/lean python3 -W error -m unittest discover -q -s python/tests > "$dir/said" 2>&1 ||
+        { cat "$dir/said"; fail "Python: the tests fail"; }
+    echo "$(python3 --version) without NumPy: $(grep '^Ran' "$dir/said"), $(tail -n 1 "$dir/said")"
+fi
 echo "callers of the library for C: all passed; skipped: ${SKIP:-nothing}"
