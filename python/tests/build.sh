@@ -10,7 +10,8 @@ work=$(mktemp -d)
 trap 'rm -rf "$work"' EXIT
 fail() { echo "build.sh: $*"; exit 1; }
 unset PYTHONPATH WKT_LIB WKT_LIB_DIR WKT_FAST SOURCE_DATE_EPOCH
-export WKT_C_LIB=${WKT_C_LIB:-dist}
+# wheel.sh has tested the fast module as it is compiled without CFLAGS; here it is compiled ten times, and need not be fast.
+export WKT_C_LIB=${WKT_C_LIB:-dist} CFLAGS=-O0
 
 # A clone that has nothing built, with what isn't committed yet.
 mkdir "$work/clone"
@@ -20,7 +21,9 @@ git -C "$work/clone" init -q
 git -C "$work/clone" add -A
 git -C "$work/clone" -c user.name=tests -c user.email=tests@localhost commit -qm all
 
-pip() { "$work/$1/bin/python" -m pip -q --disable-pip-version-check "${@:2}"; }
+# The environments are without a pip, which takes longer to install than the package: that of the Python installs into them.
+venv() { "$python" -m venv --without-pip "$work/$1"; }
+pip() { "$python" -m pip --python "$work/$1" -q --disable-pip-version-check "${@:2}"; }
 # works VENV: the package, its fast module and both ways to call the command, from a folder that has nothing of it
 works() {
     (cd / && "$work/$1/bin/python" -c 'import wkt, wkt._fast; assert wkt.canonical("point(1 2.0)") == "POINT(1 2)"') || fail "$1: import wkt"
@@ -28,7 +31,7 @@ works() {
     [ "$(cd / && echo 'point(1 2.0)' | "$work/$1/bin/python" -m wkt canon)" = 'POINT(1 2)' ] || fail "$1: python -m wkt"
 }
 for name in folder 'folder of two words' repository editable source; do
-    "$python" -m venv "$work/$name"
+    venv "$name"
     case $name in
         folder*) pip "$name" install --no-index "$work/clone/python" ;;
         repository) pip $name install --no-index "git+file://$work/clone#subdirectory=python" ;;
@@ -69,8 +72,8 @@ echo "two wheels, and that of the source package, have the same bytes"
 
 # Where no objects fit, the source package gives a wheel of portable C, without the command.
 mkdir "$work/bare" && tar -xzf "$work"/built/*.tar.gz -C "$work/bare" && rm -r "$work"/bare/wkt_proved-*/native/dist/{x86_64,aarch64}
-(cd "$work"/bare/wkt_proved-*/ && WKT_C_LIB=dist MODULE_FLAGS=-O0 "$python" -m pip wheel -q --no-index --no-deps -w "$work/portable" . > "$work/said" 2>&1) || { cat "$work/said"; fail "no wheel of portable C"; }
-"$python" -m venv "$work/plain" && pip plain install --no-index "$work"/portable/*.whl
+(cd "$work"/bare/wkt_proved-*/ && WKT_C_LIB=dist MODULE_FLAGS="-O0 -Dalways_inline=" "$python" -m pip wheel -q --no-index --no-deps -w "$work/portable" . > "$work/said" 2>&1) || { cat "$work/said"; fail "no wheel of portable C"; }
+venv plain && pip plain install --no-index "$work"/portable/*.whl
 (cd / && "$work/plain/bin/python" -c 'import wkt, wkt._fast; assert wkt.canonical(["point(1 2.0)", None]) == ["POINT(1 2)", None]
 found = wkt.explain("POINT(1 x)")
 assert found.start == 8, found
