@@ -21,9 +21,9 @@ def points(rows):
 
 
 CALLS = {
-    "canonical": lambda: functools.partial(wkt.canonical, [LONG] * 3000),
-    "reads": lambda: functools.partial(wkt.reads, [LONG] * 3000),
-    "same": lambda: functools.partial(wkt.same, [LONG] * 2000, [LONG] * 2000),
+    "canonical": lambda: functools.partial(wkt.canonical, [LONG] * 1500),
+    "reads": lambda: functools.partial(wkt.reads, [LONG] * 1500),
+    "same": lambda: functools.partial(wkt.same, [LONG] * 1000, [LONG] * 1000),
     "arrays": lambda: functools.partial(wkt.from_arrays_column, wkt.to_arrays_column(["POINT(1 2)"] * 2_000_000)),
     "lines": lambda: functools.partial(wkt.lines, b"point ( 1.0 2 )\n" * 6_000_000),
     "Arrow": lambda: functools.partial(wkt.canonical, points(3_000_000)),
