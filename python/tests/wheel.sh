@@ -67,9 +67,9 @@ refused 'needs another processor' WKT_LIB="$work/other.so"
 echo "libraries that don't suit are refused"
 
 export PYTHONPATH=$work/installed1
-# The wheel carries the proved program.
+# The wheel carries the proved program. Its completions and dialects build.sh tries, where Python doesn't start it.
 if [ -d "$here/../../tests/data/command" ]; then
-    "$here/../../tests/gate/command.sh" "$python" -m wkt > "$work/said" 2>&1 || { cat "$work/said"; echo "python -m wkt: other answers"; exit 1; }
+    REST=streams "$here/../../tests/gate/command.sh" "$python" -m wkt > "$work/said" 2>&1 || { cat "$work/said"; echo "python -m wkt: other answers"; exit 1; }
     echo "python -m wkt: $(tail -n 1 "$work/said")"
 fi
 rm "$work/bare/wkt/_command"

@@ -12,7 +12,8 @@
 #   ! TEXT          the same on standard error
 #   ? STATUS        its status, if not 0
 # In a TEXT and a FILE, \xHH is a byte and \\ a backslash; \c at a TEXT's end says that no end of a line follows.
-# Then, with REST=no without them: standard output that is full or closed, a line of 100 MB, progress, and completions.
+# Then, with REST=no without them: standard output that is full or closed, a line of 100 MB, progress, and, but for REST=streams,
+# completions and texts in dialects, which take 230 runs.
 set -u
 cd "$(dirname "$0")/../.." || exit 1
 cases=$PWD/tests/data/command
@@ -113,6 +114,7 @@ END
     { cat "$dir/many"; sleep 0.5; cat "$dir/many"; } | "$@" check > "$dir/stdout" 2> "$dir/stderr"
     [ ! -s "$dir/stderr" ] || fail "progress where no terminal is"
 
+    [ "${REST:-yes}" != streams ] || return
     tests/gate/completions.sh "$@" || fail "completions"
     tests/gate/command_dialects.py "$@" || fail "texts in dialects"
 }
