@@ -221,8 +221,8 @@ int wkt_supported(void);
 const char *wkt_message(wkt_status status);
 
 /* The message for a text that begins with no geometry is proved to be that of the table in docs/GRAMMAR.md; 14 never
- * comes. After WKT_TOO_SMALL *needed and the other non-buffer results are set. Only rows have WKT_NULL. A coordinate has 2,
- * 3, 3 or 4 numbers, by its dimension: XY, XYZ, XYM, XYZM. */
+ * comes. After WKT_TOO_SMALL *needed and the other non-buffer results are set, except by wkt_lines_some. Only rows have
+ * WKT_NULL. A coordinate has 2, 3, 3 or 4 numbers, by its dimension: XY, XYZ, XYM, XYZM. */
 
 /* The canonical text of the geometry that the text begins with. *end: where the geometry ends in the text; what
  * follows may be anything that is UTF-8, or, with WKT_WHOLE, white space. WKT_OK: the text is in out, and *needed is its
