@@ -134,8 +134,9 @@ vendor() {
     cp "$root/HANDLES" "$dir/other"
     : > "$dir/other/crates.txt"
     (cd "$dir/other" && rt new crates/theirs start_io > /dev/null) || fail "rt new"
-    printf '%s\n' 'theirs:' 'mine: wkt anyhow' > "$dir/other/crates.txt"
+    printf 'theirs:\nmine: wkt anyhow' > "$dir/other/crates.txt"
     "$here/vendor.sh" "$dir/other" > /dev/null || fail "vendor.sh"
+    grep -qx 'mine: wkt anyhow' "$dir/other/crates.txt" || fail "a last line without a line feed"
     # The first program of docs/CALLING.md, and what it prints there.
     sed -n '/^## A first program$/,/^## Make/p' "$root/docs/CALLING.md" > "$dir/first"
     sed -n '/^```rust$/,/^```$/{//!p}' "$dir/first" > "$dir/other/crates/mine/src/main.rt"

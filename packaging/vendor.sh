@@ -63,7 +63,8 @@ done
 cp "$root"/LICENSE-* "$licences"
 for crate in $needed; do sums "$crate"; done > "$licences/SHA256SUMS"
 {
-    sed "/^$(printf %s "$begin" | sed 's/[].[*^$/]/\\&/g')\$/,/^$end\$/d" "$target/crates.txt"
+    # The last line may lack its line feed.
+    sed -e "/^$(printf %s "$begin" | sed 's/[].[*^$/]/\\&/g')\$/,/^$end\$/d" -e '$a\' "$target/crates.txt"
     echo "$begin"
     for crate in $needed; do line "$crate"; done
     echo "$end"
