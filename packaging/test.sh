@@ -150,6 +150,7 @@ vendor() {
     [ -d "$dir/other/crates/wkt_lines" ] || fail "wkt_lines isn't brought"
     "$here/vendor.sh" "$dir/other" > /dev/null || fail "vendor.sh again"
     diff -r "$dir/before" "$dir/other" > /dev/null || fail "brought again, other files"
+    ! "$here/vendor.sh" "$dir/other" wkt_nowhere > /dev/null 2>&1 && diff -r "$dir/before" "$dir/other" > /dev/null || fail "an unknown crate isn't seen first"
     echo >> "$dir/other/crates/wkt_num/src/lib.rt"
     ! "$here/vendor.sh" "$dir/other" > /dev/null 2>&1 || fail "a change there isn't seen"
     echo "vendor: brought, called by rt try, brought again"

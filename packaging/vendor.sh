@@ -34,7 +34,10 @@ add() {
     done
     needed="$needed$1 "
 }
-for crate; do add "$crate"; done
+for crate; do
+    line "$crate" > /dev/null
+    add "$crate"
+done
 
 # What was brought before stands in a list of sums.
 brought=" "
