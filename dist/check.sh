@@ -20,7 +20,7 @@ unpacked() {
     has=$(cd "dist/$1" && find . -type f | sed 's,^\./,,' | LC_ALL=C sort)
     [ "$has" = "$wanted" ] || fail "$1: other files than the objects and PROVENANCE"
     mkdir -p "$work/dist/$1"
-    ARCH=$1 dist/objects.sh "$work/dist/$1" "${names[@]}" || exit 1
+    WKT_PROCESSOR=$1 dist/objects.sh "$work/dist/$1" "${names[@]}" || exit 1
 }
 
 # noticed PROCESSOR: NOTICE names the crates whose code is in its objects

@@ -1,6 +1,6 @@
 #!/bin/sh
 # objects.sh FOLDER NAME..: puts the proved objects NAME.o (wkt_c, wkt_command, wktline, wktstream) into the folder, for the
-# processor that $CC (cc) compiles for, or that ARCH names, and checks their sums. It needs xz or python3.
+# processor that $CC (cc) compiles for, or that WKT_PROCESSOR names, and checks their sums. It needs xz or python3.
 # objects.sh FOLDER wkt_module.c: puts the C of the module there, which is for any processor (c/make.sh makes it).
 # objects.sh: says in a line which those are: where there are no objects for the system, portable C.
 # Where WKT_C_LIB names an archive that the prover left, wkt_c is that one's. WKT_C_LIB=portable asks for portable C.
@@ -28,7 +28,7 @@ if [ "$*" = "${1:-} wkt_module.c" ]; then
         stop "c/wkt_module.c.xz is of another module than wasm/wkt.wasm: c/make.sh makes it"
     exit
 fi
-machine=${ARCH:+$ARCH-linux}
+machine=${WKT_PROCESSOR:+$WKT_PROCESSOR-linux}
 if [ -z "$machine" ]; then
     machine=$(${CC:-cc} -dumpmachine 2> /dev/null) || stop "there is no C compiler ${CC:-cc}: install gcc, or name one by CC"
 fi

@@ -52,7 +52,7 @@ packed() {
         # The proof's own words in the object: another kit's logic isn't taken for this one's.
         readelf -p .comment "$object" | grep -q "rattle logic=$(rt version | sed 's/.* logic //')" || stop "$object is of another kit"
         # What is there already isn't packed anew: another xz might give other bytes.
-        if ARCH=$1 dist/objects.sh "$work/old" "$name" 2> /dev/null; then
+        if WKT_PROCESSOR=$1 dist/objects.sh "$work/old" "$name" 2> /dev/null; then
             echo "$1/$name.o: $(dist/functions.py "$work/old/$name.o" "$object" | sed -n 1p)"
             ! cmp -s "$work/old/$name.o" "$object" || continue
         fi

@@ -23,6 +23,9 @@ echo "of other objects" > "$dir/out/FROM"
 make_dist
 [ "$(made | sort - <(echo "$before") | uniq -d)" = "" ] || wrong "make leaves what was made of other objects"
 
+# Many environments have an ARCH for their own sake.
+[ "$(ARCH=amd64 dist/objects.sh)" = "$(dist/objects.sh)" ] || wrong "an ARCH in the environment names other objects"
+
 # The prefix may come with `install` alone: then the pkg-config file has it, too.
 make_dist install prefix="$dir/there"
 for name in prefix libdir includedir; do
