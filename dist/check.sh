@@ -31,7 +31,7 @@ noticed() {
 # What was built here: of x86_64 by the gate, of others where BUILT names it, as for refresh.sh.
 archive=${WKT_C_LIB:-crates/wkt_c/out/libwkt_c.a}
 mkdir "$work/x86_64"
-[ ! -e "$archive" ] || ar p "$archive" > "$work/x86_64/wkt_c.o"
+[ ! -f "$archive" ] || ar p "$archive" > "$work/x86_64/wkt_c.o"
 for name in wkt_command wktline wktstream; do
     [ ! -e "crates/$name/out/$name.o" ] || cp "crates/$name/out/$name.o" "$work/x86_64"
 done
