@@ -15,7 +15,6 @@ int main(void) {
         out = (uint8_t *)realloc(out, cap = needed);
         s = wkt_lines(in, n, 18, out, cap, &needed);
     }
-    if (s != WKT_OK) return 1;
-    fwrite(out, 1, needed, stdout);
-    return 0;
+    if (s != WKT_OK || ferror(stdin)) return 1;
+    return fwrite(out, 1, needed, stdout) != needed || fflush(stdout) != 0;
 }

@@ -89,9 +89,12 @@ for words in 'at byte 10 `)` was expected: a third number needs Z or M' 'at byte
     'at byte 16 a second number was expected: with 18 places the number is read' 'at byte 6 a first number was expected: numbers have at most 6'; do
     grep -qF "$words" "$dir/said" || fail "show: it lacks $words"
 done
-"$dir/lines" < crates/wktline/stdin | cmp - crates/wktline/stdout || fail "lines: another output than wktline's"
-"$dir/stream" < crates/wktline/stdin | cmp - crates/wktline/stdout || fail "stream: another output than wktline's"
-echo "examples: the output of wktline"
+for example in lines stream; do
+    "$dir/$example" < crates/wktline/stdin | cmp - crates/wktline/stdout || fail "$example: another output than wktline's"
+    ! "$dir/$example" < crates/wktline/stdin > /dev/full || fail "$example: an output that is lost has status 0"
+    ! "$dir/$example" < / || fail "$example: an input that can't be read has status 0"
+done
+echo "examples: the output of wktline, and its status where reading or writing fails"
 # A line of 32 MB in reads of 1,400 bytes takes a second of the processor, and a minute if each of them is passed on.
 "$cc" -O2 -I"$out" -Wl,--wrap=read -o "$dir/pieces" capi/examples/stream.c -x c - -x none "$out/libwkt.a" << 'END' || fail "stream: not compiled in pieces"
 #include <unistd.h>
