@@ -5,6 +5,8 @@
 # is proved; else, or with WKT_C_LIB=dist, the object in dist/. CC may be a compiler for another processor: then it is dist's.
 # Where dist/ has no object for the system, and with WKT_C_LIB=portable, it is compiled of the portable C in dist/c.
 set -eu
+# With a CDPATH `cd` may go elsewhere, and says where.
+unset CDPATH
 here=$(cd "$(dirname "$0")" && pwd)
 out=$(mkdir -p "${1:-$here/out}" && cd "${1:-$here/out}" && pwd)
 stop() { echo "capi/build.sh: $*; then run capi/build.sh again" >&2; exit 1; }

@@ -5,6 +5,7 @@
 # names other crates than the objects; and where the library's tests, with today's header and C, don't pass over it. Else it
 # says how old dist is.
 set -u
+unset CDPATH
 here=$(cd "$(dirname "$0")" && pwd)
 cd "$here/.." || exit 1
 work=$(mktemp -d)

@@ -4,6 +4,7 @@
 # release.sh, debs.sh and test.sh, one after the other, over OUT (packaging/out); each says what it needs. SKIP=debs leaves
 # out the Debian packages.
 set -eu
+unset CDPATH
 here=$(cd "$(dirname "$0")" && pwd)
 out=$(mkdir -p "${1:-$here/out}" && cd "${1:-$here/out}" && pwd)
 skips() { case ",${SKIP:-}," in *",$1,"*) true ;; *) false ;; esac; }

@@ -9,6 +9,7 @@
 # and nothing looks whether what they need is installed. Where lintian is there, it has to be content.
 set -eu
 unset WKT_C_LIB WKT_LIB_DIR
+unset CDPATH
 here=$(cd "$(dirname "$0")" && pwd)
 out=$(cd "${1:-$here/out}" && pwd)
 shift || true

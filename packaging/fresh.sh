@@ -5,6 +5,7 @@
 # fresh.sh SUITE [FOLDER]: bookworm, trixie; the Debian is put into FOLDER, and kept there, or into a temporary one. It needs
 # debootstrap, root and a network. Cargo takes the crates of Debian (librust-geo-types-dev, librust-cc-dev), and so needs only Debian's mirror.
 set -u
+unset CDPATH
 here=$(cd "$(dirname "$0")" && pwd)
 root=$(dirname "$here")
 suite=$1

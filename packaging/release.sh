@@ -8,6 +8,7 @@
 # VERSION is that of include/wkt.h. All times are the date of that version in CHANGELOG.md, or of the commit while it has none.
 set -eu
 unset WKT_C_LIB WKT_LIB_DIR # which would put another library in the place of its own
+unset CDPATH
 here=$(cd "$(dirname "$0")" && pwd)
 root=$(dirname "$here")
 version=$(sed -n 's/^#define WKT_VERSION "\(.*\)"/\1/p' "$root/include/wkt.h")

@@ -7,6 +7,7 @@
 # (an empty repository, by rt try). The last line says what was skipped.
 set -u
 unset WKT_C_LIB WKT_LIB_DIR # which would put another library in the place of the release's
+unset CDPATH
 here=$(cd "$(dirname "$0")" && pwd)
 root=$(dirname "$here")
 out=$(cd "${1:-$here/out}" && pwd) || exit 1

@@ -8,6 +8,7 @@
 # stops it before it writes.
 # The first `rt check` there of a crate over wkt proves them all: 50 minutes of one processor. `rt try` needs no proof.
 set -eu
+unset CDPATH
 root=$(cd "$(dirname "$0")/.." && pwd)
 case ${1:-} in '' | -*) sed -n '2,/^set /s/^# \{0,1\}//p' "$0"; exit 2 ;; esac
 target=$(cd "$1" && pwd)
