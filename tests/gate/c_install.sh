@@ -50,8 +50,9 @@ runs() { "$@" > "$dir/said" 2>&1 || { tail -n 20 "$dir/said"; wrong "$*"; }; }
 runs make -s -C "$dir/my clone/dist" install prefix="$dir/my tools"
 PKG_CONFIG_PATH=$dir/my\ tools/lib/pkgconfig pkg-config --cflags --libs wkt > "$dir/flags"
 runs "$dir/my clone/capi/build.sh" "$dir/my \$library"
-# As README calls it, where many have a CDPATH.
-runs env CDPATH=.:/ capi/build.sh "$dir/library"
+# As README calls it, with what an environment may have for its own sake.
+runs env CDPATH=.:/ EXE=.exe capi/build.sh "$dir/library"
+[ -e "$dir/library/libwkt.so" ] || wrong "no libwkt.so where the environment has an EXE"
 grep -qxF "libdir=$dir/my \$library" "$dir/my \$library/wkt.pc" || wrong "wkt.pc names another folder than my \$library"
 for flags in "$(cat "$dir/flags")" "-I'$dir/my \$library' '$dir/my \$library/libwkt.a'"; do
     eval "${CC:-cc} capi/examples/show.c $flags -o '$dir/show'" || wrong "a program isn't compiled by: $flags"
