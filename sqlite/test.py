@@ -3,6 +3,7 @@ import os
 import re
 import resource
 import sqlite3
+import subprocess
 import sys
 import tempfile
 import threading
@@ -44,6 +45,26 @@ for text, error in (("point(1 2.0)", sqlite3.IntegrityError), ("POINT(1)", sqlit
     else:
         raise SystemExit("taken: " + text)
 same(db.execute("select count(*) from t").fetchone(), (1,))
+
+# Loading fails midway amid a statement if the application has a function of that name: what was made stays callable.
+started = """
+import sqlite3, sys
+db = sqlite3.connect(":memory:")
+db.enable_load_extension(True)
+db.create_function("wkt_version", 0, str)
+try:
+    db.execute("select load_extension(?)", sys.argv[1:]).fetchall()
+except sqlite3.OperationalError as error:
+    print(error)
+print(*db.execute("select wkt_canonical('point(1 2.0)')").fetchone())
+"""
+child = subprocess.run(
+    [sys.executable, "-c", started, folder + "/mod_wkt"], stdout=subprocess.PIPE, text=True, check=True
+)
+same(
+    child.stdout,
+    "error during initialization: wkt: unable to delete/modify user-function due to active statements\nPOINT(1 2)\n",
+)
 
 # A text that is refused is null; the version; what wkt_same keeps of a constant.
 with open(library + "/wkt.h", encoding="utf-8") as header:

@@ -463,7 +463,9 @@ int sqlite3_wkt_init(sqlite3 *db, char **error, const sqlite3_api_routines *api)
             status = sqlite3_create_function_v2(db, functions[i].name, count,
                                                 SQLITE_UTF8 | SQLITE_DETERMINISTIC | SQLITE_INNOCUOUS, NULL,
                                                 functions[i].call, NULL, NULL, NULL);
-    return status == SQLITE_OK ? create_tables(db) : status;
+    if (status == SQLITE_OK) status = create_tables(db);
+    if (status != SQLITE_OK && error) *error = sqlite3_mprintf("wkt: %s", sqlite3_errmsg(db));
+    return status;
 }
 
 /* The name under which SQLite looks where the file is mod_wkt.so, as a package of a system has it. */
