@@ -1,6 +1,8 @@
 /* Why a text is refused, in words: the errors, and the answers of wkt_explain. */
 #include "wkt_pg.h"
 
+#include "printable.h"
+
 #include "lib/stringinfo.h"
 #include "mb/pg_wchar.h"
 #include "utils/builtins.h"
@@ -65,38 +67,41 @@ static Refusal refusal_of(const Question *asked) {
     return refusal;
 }
 
-/* Neither a control character, but for the tab, nor a space but for the usual one, nor what is unseen, ends a line or changes
- * its direction. */
-static bool is_printable(uint32 c) {
-    static const uint32 others[][2] = {{0, 8},           {10, 0x1F},       {0x7F, 0xA0},     {0xAD, 0xAD},
-                                       {0x61C, 0x61C},   {0x180E, 0x180E}, {0x2000, 0x200F}, {0x2028, 0x202F},
-                                       {0x205F, 0x206F}, {0x3000, 0x3000}, {0xFEFF, 0xFEFF}};
-    for (size_t i = 0; i < lengthof(others); i++)
-        if (c >= others[i][0] && c <= others[i][1]) return false;
-    return true;
+/* The number by which is_printable knows a character. In UTF-8 it is its code point, and in ISO's encodings of one byte its byte,
+ * which up to 0xAD means what it does there. Where no encoding is known any byte beyond ASCII may be part of what isn't printable;
+ * in other encodings none is. */
+static uint32 number_of(const char *at) {
+    uint32 first = (unsigned char)*at;
+    int encoding = GetDatabaseEncoding();
+    if (encoding == PG_UTF8) return utf8_to_unicode((const unsigned char *)at);
+    if (first < 0x80 || (encoding >= PG_LATIN1 && encoding <= PG_LATIN10) ||
+        (encoding >= PG_ISO_8859_5 && encoding <= PG_ISO_8859_8))
+        return first;
+    return encoding == PG_SQL_ASCII ? 0x80 : 0xFFFD;
 }
 
-/* Of a character beyond ASCII in another encoding than UTF-8 one that is printable. */
-static uint32 code_point_of(const char *at) {
-    if ((unsigned char)*at < 0x80) return (unsigned char)*at;
-    return GetDatabaseEncoding() == PG_UTF8 ? utf8_to_unicode((const unsigned char *)at) : 0xFFFD;
-}
-
-/* The front of a text as a message shows it. What isn't printable stands there by its number, as \x1b or \u{202e}: raw it could
- * move a cursor, or look like another line of the message. */
-char *quoted(const char *given, size_t length) {
-    const char *end = given + pg_mbcliplen(given, (int)length, 60), *more = given + length > end ? ".." : "";
-    StringInfoData said;
-    initStringInfo(&said);
+/* Appends characters as they are shown. What isn't printable stands there by its number, as \x1b or \u{202e}: raw it could move
+ * a cursor, or look like another line of the message. */
+static void append_shown(StringInfo said, const char *given, const char *end) {
     for (int size; given < end; given += size) {
-        uint32 c = code_point_of(given);
+        uint32 c = number_of(given);
         size = pg_mblen(given);
         if (is_printable(c))
-            appendBinaryStringInfo(&said, given, size);
+            appendBinaryStringInfo(said, given, size);
+        else if (size == 1)
+            appendStringInfo(said, "\\x%02x", (unsigned char)*given);
         else
-            appendStringInfo(&said, c < 0x80 ? "\\x%02x" : "\\u{%x}", c);
+            appendStringInfo(said, "\\u{%x}", c);
     }
-    appendStringInfoString(&said, more);
+}
+
+/* The front of a text as a message shows it. */
+char *quoted(const char *given, size_t length) {
+    const char *end = given + pg_mbcliplen(given, (int)length, 60);
+    StringInfoData said;
+    initStringInfo(&said);
+    append_shown(&said, given, end);
+    if (given + length > end) appendStringInfoString(&said, "..");
     return said.data;
 }
 
@@ -152,6 +157,7 @@ static bool ends_line(char c) { return c == '\n' || c == '\r'; }
 static text *shown(const Question *asked, const Refusal *refusal) {
     StringInfoData said;
     size_t start = refusal->start, from, to, end, most;
+    int caret;
     const char *given = asked->given;
 
     if (refusal->expected == NULL) return cstring_to_text(refusal->message);
@@ -161,10 +167,11 @@ static text *shown(const Question *asked, const Refusal *refusal) {
     to = start + pg_mbcharcliplen(given + start, (int)(end - start), AROUND);
     initStringInfo(&said);
     if (from > 0 && given[from - 1] != '\n') appendStringInfoString(&said, "..");
-    appendBinaryStringInfo(&said, given + from, (int)(to - from));
+    append_shown(&said, given + from, given + start);
+    caret = said.len;
+    append_shown(&said, given + start, given + to);
     appendStringInfoString(&said, to < end ? "..\n" : "\n");
-    if (from > 0 && given[from - 1] != '\n') appendStringInfoString(&said, "  ");
-    for (; from < start; from++) appendStringInfoChar(&said, given[from] == '\t' ? '\t' : ' ');
+    for (int i = 0; i < caret; i++) appendStringInfoChar(&said, said.data[i] == '\t' ? '\t' : ' ');
     appendStringInfo(&said, "^ %s was expected", refusal->expected);
     return cstring_to_text_with_len(said.data, said.len);
 }

@@ -8,6 +8,7 @@ SQLITE_EXTENSION_INIT1
 #include <string.h>
 
 #include "../postgres/dialects.h"
+#include "../postgres/printable.h"
 
 #define MOST_PLACES 36
 #define PLACES 18 /* where nothing is said */
@@ -403,6 +404,20 @@ static void message(sqlite3_context *context, int count, sqlite3_value **values)
     if (is_explained(context, count, values, &asked, &refusal)) put_said(context, message_of(&refusal));
 }
 
+/* Appends characters of a text as they are shown. What isn't printable stands there by its number, as \x1b or \u{202e}: raw it
+ * could move a cursor. */
+static void append_shown(sqlite3_str *said, const uint8_t *text, size_t from, size_t to) {
+    for (size_t next; from < to; from = next) {
+        uint32_t c = text[from];
+        if (c >= 0xC0) c &= c >= 0xF0 ? 7 : c >= 0xE0 ? 15 : 31;
+        for (next = from + 1; next < to && (text[next] & 0xC0) == 0x80; next++) c = c << 6 | (text[next] & 0x3F);
+        if (is_printable(c))
+            sqlite3_str_append(said, (const char *)text + from, (int)(next - from));
+        else
+            sqlite3_str_appendf(said, c < 0x80 ? "\\x%02x" : "\\u{%x}", c);
+    }
+}
+
 /* The line of the text where it is refused, and below it a caret at the place and what was expected there. */
 static void explain(sqlite3_context *context, int count, sqlite3_value **values) {
     Question asked;
@@ -420,11 +435,12 @@ static void explain(sqlite3_context *context, int count, sqlite3_value **values)
     to = on_from(asked.text, refusal.start, asked.length);
     said = sqlite3_str_new(sqlite3_context_db_handle(context));
     if (from > 0 && text[from - 1] != '\n') sqlite3_str_appendall(said, "..");
-    sqlite3_str_append(said, text + from, (int)(to - from));
+    append_shown(said, asked.text, from, to);
     if (to < asked.length && text[to] && text[to] != '\n' && text[to] != '\r') sqlite3_str_appendall(said, "..");
     sqlite3_str_appendchar(said, 1, '\n');
     if (from > 0 && text[from - 1] != '\n') sqlite3_str_appendall(said, "  ");
-    for (; from < refusal.start; from++) sqlite3_str_appendchar(said, 1, text[from] == '\t' ? '\t' : ' ');
+    for (; from < refusal.start; from++)
+        sqlite3_str_appendchar(said, is_printable((uint32_t)text[from]) ? 1 : 4, text[from] == '\t' ? '\t' : ' ');
     sqlite3_str_appendf(said, "^ %s was expected", refusal.expected);
     put_made(context, said);
 }

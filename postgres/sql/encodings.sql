@@ -9,8 +9,9 @@ SELECT wkt_canonical(U&'P\00D6INT(1 2)');
 SELECT wkt_canonical(U&'GEOMETRYCOLLECTION(POINT(1 2),\00D6\00D6(1 2))');
 SELECT (wkt_explain(U&'POINT(1 2) \00D6\00E9')).shown;
 SELECT (wkt_explain(U&'LINESTRING(1 2,\00D6\00E9 3)')).shown;
+SELECT wkt_canonical(U&'\009B31mP\00D6INT\00A0(1\00AD2)');
 -- Others: what isn't ASCII is refused where it stands, also without an equivalent in UTF-8. In SQL_ASCII it is any bytes.
-\set asked 'SELECT wkt_reads(t), wkt_or_null(t) IS NULL AS none, wkt_kind(t), (wkt_explain(t)).shown = t || E''\\n           ^ the end of the text was expected'' AS the_end, (wkt_explain(:it)).shown = :it || E''\\n^ a kind of geometry, such as POINT, was expected'' AS a_kind, (wkt_read(t)).place, (wkt_read(:it)).expected FROM (SELECT ''POINT(1 2) '' || :it) a(t); SELECT wkt_canonical(:it); SELECT wkt_same(''POINT(1 2)'', :it); SELECT :it::text::wkt;'
+\set asked 'SELECT wkt_reads(t), wkt_or_null(t) IS NULL AS none, wkt_kind(t), (wkt_explain(t)).shown = ''POINT(1 2) '' || :shown || E''\\n           ^ the end of the text was expected'' AS the_end, (wkt_explain(:it)).shown = :shown || E''\\n^ a kind of geometry, such as POINT, was expected'' AS a_kind, (wkt_read(t)).place, (wkt_read(:it)).expected FROM (SELECT ''POINT(1 2) '' || :it) a(t); SELECT wkt_canonical(:it); SELECT wkt_same(''POINT(1 2)'', :it); SELECT :it::text::wkt;'
 \c contrib_regression
 CREATE DATABASE wkt_win1252 ENCODING 'WIN1252' LOCALE 'C' TEMPLATE template0;
 CREATE DATABASE wkt_euc_jp ENCODING 'EUC_JP' LOCALE 'C' TEMPLATE template0;
@@ -20,10 +21,12 @@ CREATE DATABASE wkt_sql_ascii ENCODING 'SQL_ASCII' LOCALE 'C' TEMPLATE template0
 \c wkt_win1252
 CREATE EXTENSION wkt;
 \set it 'E''\\x81'''
+\set shown :it
 :asked
 \c wkt_euc_jp
 CREATE EXTENSION wkt;
 \set it 'E''\\xa2\\xaf'''
+\set shown :it
 :asked
 SELECT (wkt_explain(E'LINESTRING(1 2,\xa4\xa2\xa2\xaf\x8f\xb0\xa1\t3)')).shown = E'LINESTRING(1 2,\xa4\xa2\xa2\xaf\x8f\xb0\xa1\t3)\n               ^ a first number was expected' AS the_place,
     (wkt_explain(E'\n\xa4\xa2\t\xa4\xa2\nPOINT(1 2)\xa4\xa2')).shown = E'\xa4\xa2\t\xa4\xa2\n^ a kind of geometry, such as POINT, was expected' AS the_line,
@@ -31,12 +34,16 @@ SELECT (wkt_explain(E'LINESTRING(1 2,\xa4\xa2\xa2\xaf\x8f\xb0\xa1\t3)')).shown =
 \c wkt_mule
 CREATE EXTENSION wkt;
 \set it 'E''\\x81\\xd6'''
+\set shown :it
 :asked
 \c wkt_sql_ascii
 CREATE EXTENSION wkt;
 SELECT wkt_canonical('point(1 2.0)'), 'point(1 2.0)'::wkt;
 \set it 'E''\\xd6\\xc3\\x96'''
+\set shown 'E''\\\\xd6\\\\xc3\\\\x96'''
 :asked
+\set VERBOSITY default
+SELECT wkt_canonical(E'\xe2\x80\xaePOINT\xc3\x96(1 2)');
 \c contrib_regression
 DROP DATABASE wkt_latin1;
 DROP DATABASE wkt_win1252;
