@@ -12,7 +12,7 @@ CREATE FUNCTION geometry_in(cstring) RETURNS geometry AS 'textin' LANGUAGE inter
 CREATE FUNCTION geometry_out(geometry) RETURNS cstring AS 'textout' LANGUAGE internal IMMUTABLE STRICT;
 CREATE TYPE geometry (INPUT = geometry_in, OUTPUT = geometry_out, LIKE = text);
 CREATE CAST (geometry AS text) WITHOUT FUNCTION;
-CREATE CAST (text AS geometry) WITHOUT FUNCTION;
+CREATE CAST (text AS geometry) WITHOUT FUNCTION AS IMPLICIT;
 CREATE FUNCTION ST_AsText(geometry, int DEFAULT 15) RETURNS text LANGUAGE sql IMMUTABLE STRICT RETURN $1::text;
 CREATE FUNCTION ST_GeomFromText(text) RETURNS geometry LANGUAGE sql IMMUTABLE STRICT RETURN $1::geometry;
 SQL
@@ -72,6 +72,7 @@ PGUSER=tenant fails rented "create event trigger seen on ddl_command_end execute
 # Schemas whose names have to be quoted. The server lets no script of wkt's sort have a schema with a quote.
 tenant 'create schema "Big Place"' "create schema \"it's \"\"here\"" 'create extension wkt schema "Big Place"' "create extension wkt_postgis schema \"it's \"\"here\""
 is "tenant: quoted schemas" "t|t" "$(used '"Big Place"')"
+PGUSER=tenant fails rented "set search_path = \"Big Place\", \"it's \"\"here\"; select wkt('POINT(1 2)'::text)" 'function wkt(text) does not exist'
 PGUSER=tenant fails rented 'alter extension wkt set schema m' 'does not support SET SCHEMA'
 PGUSER=tenant fails rented 'drop function "Big Place".wkt_canonical(text, int)' 'requires it'
 PGUSER=tenant fails rented "create or replace function \"Big Place\".wkt_canonical(text, places int default 18) returns text language sql return ''" 'must be owner of function'
