@@ -219,6 +219,12 @@ class Runs(Folder):
         self.assertEqual(self.run_of("bare.csv --column 2 --no-header", "--out", "bare.csv")[0], 0)
         self.assertEqual(self.has("bare.csv"), b"POINT(1 2),a,point(1 2)\nPOINT(3 4),b,POINT(3 4)\n")
         self.assertEqual(self.run_of("good.csv --column geom", "--out", "/dev/full")[0], 2)
+        # A pipe, as a shell gives it for >(gzip > bad.csv.gz): what /dev/fd leads to is no path.
+        ends = os.pipe()
+        status = self.run_of("a.csv --column geom", "--rejects", "/dev/fd/%d" % ends[1])[0]
+        os.close(ends[1])
+        with open(ends[0], encoding="utf-8") as bad:
+            self.assertEqual((status, bad.read().count("POINT(1)")), (1, 2))
         # Where one of two can't be written, neither changes.
         self.put("out.csv", "old")
         self.assertEqual(self.run_of("a.csv --column geom", "--rejects", "/dev/full")[0], 2)

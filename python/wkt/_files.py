@@ -106,7 +106,7 @@ class Output:
     """A file that appears when it is whole: it is written beside its place, and renamed. `-` is standard output."""
 
     def __init__(self, path: str) -> None:
-        self.path = path if path == "-" else os.path.realpath(path)  # a link stays one
+        self.path = path
         self.beside: Optional[str] = None
         self.end = "\n"
         self.rows = 0
@@ -117,7 +117,8 @@ class Output:
             return open(1, "wb", closefd=False)
         mode = os.stat(self.path).st_mode if os.path.exists(self.path) else None
         if mode is not None and not stat.S_ISREG(mode):
-            return open(self.path, "wb")  # a pipe, a device
+            return open(self.path, "wb")  # a pipe, a device: what /dev/stdout leads to may have no path
+        self.path = os.path.realpath(self.path)  # a link stays one
         self.beside = "%s.%s.part" % (self.path, secrets.token_hex(4))
         descriptor = os.open(self.beside, os.O_WRONLY | os.O_CREAT | os.O_EXCL, 0o666)
         if mode is not None:
