@@ -73,6 +73,7 @@ export class Engine {
   }
 
   start() {
+    this.stopped = true; // until all of it is there
     const { exports } = new WebAssembly.Instance(this.module, {});
     this.calls = exports;
     this.memory = exports.memory;
@@ -81,25 +82,27 @@ export class Engine {
     this.texts = this.base + 8 * CELLS;
     this.cellAt = Array.from({ length: CELLS }, (_, i) => BigInt(this.base + 8 * i));
     this.view();
-    this.reset();
+    this.at = this.texts;
     this.room(PAGE);
     // Behind a short text its lists stand where they always stand.
     this.at = this.texts + 256;
     this.shortArrays = this.arrayLists(ROOMLESS);
     this.at = this.texts + 256;
     this.shortEvents = this.eventLists(ROOMLESS);
-    this.reset();
+    this.stopped = false;
   }
 
+  /** By the length of `bytes` it is known whether the others are of a memory that has grown, so it comes last. */
   view() {
-    this.bytes = new Uint8Array(this.memory.buffer);
     this.words = new Uint32Array(this.memory.buffer);
     this.longs = new BigInt64Array(this.memory.buffer);
     this.cells = this.words.subarray(this.base / 4, this.base / 4 + 2 * CELLS);
+    this.bytes = new Uint8Array(this.memory.buffer);
   }
 
-  /** Begins a call: what the last laid out is gone. */
+  /** Begins a call: what the last laid out is gone. It has a new instance, if a call was stopped before its end. */
   reset() {
+    if (this.stopped) this.start();
     this.at = this.texts;
   }
 
@@ -220,14 +223,15 @@ export class Engine {
     return this.ascii(this.answer, length);
   }
 
-  /** Calls the module. If the engine stops its code, which is proved not to trap, the next call has a new instance. */
+  /**
+   * Calls the module. Its code is proved not to trap, but the engine may stop it anywhere, as where the stack of JavaScript
+   * ends, or by a time limit of `vm`, of which nothing is caught here. What it then leaves isn't called again.
+   */
   call(name, ...args) {
-    try {
-      return this.calls[name](...args);
-    } catch (error) {
-      if (error instanceof WebAssembly.RuntimeError) this.start();
-      throw error;
-    }
+    this.stopped = true;
+    const status = this.calls[name](...args);
+    this.stopped = false;
+    return status;
   }
 
   /** A text's canonical text, at `this.answer`; its length is size 0, and the end of the geometry size 1. */
@@ -238,13 +242,11 @@ export class Engine {
     const room = size > 0 ? this.lay(size) : at;
     const answer = this.lay(most);
     this.answer = answer;
-    try {
-      return this.calls.wkt_canonical(big(at), big(length), asked, big(room), big(size), big(answer), big(most),
-        this.cellAt[0], this.cellAt[1]);
-    } catch (error) {
-      if (error instanceof WebAssembly.RuntimeError) this.start();
-      throw error;
-    }
+    this.stopped = true; // as in `call`, which takes longer
+    const status = this.calls.wkt_canonical(big(at), big(length), asked, big(room), big(size), big(answer), big(most),
+      this.cellAt[0], this.cellAt[1]);
+    this.stopped = false;
+    return status;
   }
 
   /** The status of a call in dialects. It gets room for the text that a text of so many bytes is read as, so many times them. */

@@ -1,6 +1,7 @@
 // Memory, nesting, and a trap.
 import test from 'node:test';
 import assert from 'node:assert/strict';
+import vm from 'node:vm';
 import { STATUS, WktError, load } from '../src/node.js';
 import { Engine } from '../src/engine.js';
 import { bytes, moduleBytes, thrown, wkt } from './support.js';
@@ -103,9 +104,53 @@ test('after a trap the next call has a new instance', async () => {
   const cells = engine.cellAt.slice(0, 4);
   // An address past the memory, which no call of this package passes.
   assert.throws(() => engine.call('wkt_explain', 2n ** 31n, 10n, 18, ...cells), WebAssembly.RuntimeError);
-  assert.notEqual(engine.calls, first);
   engine.reset();
+  assert.notEqual(engine.calls, first);
   const at = engine.put('POINT(1 2)');
   assert.equal(engine.canonical(at, engine.length, 18), STATUS.OK);
   assert.equal(engine.ascii(engine.answer, engine.size(0)), 'POINT(1 2)');
+});
+
+test('the call after one that ran out of stack', async () => {
+  const one = await load(moduleBytes());
+  const text = `GEOMETRYCOLLECTION(${'POINT(1 2),'.repeat(50)}POINT(3 4))`;
+  const below = (levels, call) => (levels > 0 ? below(levels - 1, call) : call());
+  const calls = [() => one.canonical(text), () => one.explain(text), () => one.arrays('POINT(1 2)'), () => one.readEvents(text), () => one.lines(text), () => one.release()];
+  let stopped = 0;
+  for (const call of calls) {
+    // The last levels at which it has stack, and the first at which nothing has.
+    let [has, lacks] = [0, 1 << 20];
+    while (has + 1 < lacks) {
+      const middle = (has + lacks) >> 1;
+      try {
+        below(middle, call);
+        has = middle;
+      } catch {
+        lacks = middle;
+      }
+      assert.equal(one.canonical('point(1 2.0)'), 'POINT(1 2)');
+    }
+    for (let levels = has - 20; levels < has + 40; levels++) {
+      try {
+        below(levels, call);
+      } catch (error) {
+        assert.ok(error instanceof RangeError);
+        stopped++;
+      }
+      assert.equal(one.canonical('point(1 2.0)'), 'POINT(1 2)');
+      assert.equal(one.explain(text), null);
+    }
+  }
+  assert.ok(stopped > 0);
+});
+
+test('the call after one that a time limit ended', async () => {
+  const one = await load(moduleBytes());
+  const text = `LINESTRING(${'1.0 2,'.repeat(2e6)}1 2)`;
+  const context = vm.createContext({ one, text });
+  const limited = () => vm.runInContext('for (;;) one.reads(text);', context, { timeout: 100 });
+  for (let i = 0; i < 5; i++) {
+    assert.equal(thrown(limited).code, 'ERR_SCRIPT_EXECUTION_TIMEOUT');
+    assert.equal(one.canonical('point(1 2.0)'), 'POINT(1 2)');
+  }
 });
