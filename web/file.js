@@ -10,6 +10,7 @@ import { leftWords, offerOf } from './offer.js';
 import { fit, showPoints } from './picture.js';
 import { splitOfFront } from './split.js';
 import { show, started, state } from './state.js';
+import { TURNED } from './takein.js';
 import { repeatsInWords, say, speak } from './verdict.js';
 
 /** So much of a file is looked at to see whether it is one geometry, and so much to see whether its lines are long. */
@@ -18,6 +19,7 @@ const FRONT = 64 << 10, LONG = 1 << 20;
 const PER_WORKER = 32 << 20, MOST_WORKERS = 4;
 /** A worker that was asked to stop, and hasn't in so many milliseconds, is ended. */
 const PATIENCE = 2000;
+const FEED = 10, RETURN = 13;
 
 const WITHOUT_FILE = $('text').placeholder;
 
@@ -89,14 +91,23 @@ function showOpened() {
 
 const HOW = { one: 'The whole file is one text.', lines: 'Each line is a text.', pieces: 'A text ends where its parentheses close.' };
 
+/** A file with line feeds in place of carriage returns, where it has these alone: old programs for the Mac end lines so. */
+async function withFeeds(file, front) {
+  if (file.size > TURNED || front.includes('\n') || !front.includes('\r')) return file;
+  const bytes = new Uint8Array(await file.arrayBuffer());
+  if (bytes.includes(FEED)) return file;
+  for (let i = bytes.indexOf(RETURN); i >= 0; i = bytes.indexOf(RETURN, i + 1)) bytes[i] = FEED;
+  return new File([bytes], file.name);
+}
+
 /** Reads a file, of any size. `more` others were dropped with it; `form` is what it is turned from. */
-export async function readFile(file, more = 0, form = null) {
+export async function readFile(given, more = 0, form = null) {
   const current = closeFile();
   forget();
   state.file = true;
   drawn = false;
-  opened = { file, more, form };
-  name = printable(file.name);
+  opened = { file: given, more, form };
+  name = printable(given.name);
   showOpened();
   showPoints(new Float64Array(0), 0);
   giveOf({ lines: null });
@@ -104,13 +115,15 @@ export async function readFile(file, more = 0, form = null) {
   fit();
   const asked = askedSplit();
   try {
+    const file = await withFeeds(given, await given.slice(0, FRONT).text());
     // Without its byte order mark a file is split as with it.
     const isLines = form && form.form !== 'mark';
     const split = isLines ? 'lines' : asked === 'auto' ? splitOfFront(await file.slice(0, FRONT).text(), file.size > FRONT) : asked;
     if (!current()) return;
+    opened.file = file;
     const others = more > 0 ? ` ${count(more, 'other file')} that came with it ${more === 1 ? 'is' : 'are'} not read.` : '';
     say('idle', `Reading ${short(name, 60)}`, HOW[split] + others);
-    const many = !form && split === 'lines' && new Uint8Array(await file.slice(0, LONG).arrayBuffer()).includes(10);
+    const many = !form && split === 'lines' && new Uint8Array(await file.slice(0, LONG).arrayBuffer()).includes(FEED);
     if (!current()) return;
     worker = start(file, many, { split, form: split === 'pieces' ? { form: 'pieces', ...form, pieces: true } : form });
     worker.onmessage = ({ data }) => current() && (data.failed ? fail(data.failed) : take(data));

@@ -4,14 +4,12 @@ import { ASKED, Blocks, LISTED } from './block.js';
 import { grouped } from './causes.js';
 import { Range, boundsOf } from './range.js';
 import { Repeats, WORDS, lineEnd } from './repeats.js';
-import { LOOKED, formsOf, turned } from './takein.js';
+import { LOOKED, TURNED, formsOf, turned } from './takein.js';
 import { SAMPLE, Tally } from './tally.js';
 
 const PIECE = 4 << 20;
 /** The longest line: its text and its answer stand in the module's memory, which has 4 GB. */
 const LONGEST = 256 << 20;
-/** The longest file that is turned: it stands in memory as a whole. */
-const TURNED = 128 << 20;
 /** So much of a long line is read for the engine to make faster code. It halves what the answer to 50 MB takes. */
 const WARM = 1 << 20;
 /** How much canonical text is kept to be saved, and how much of it in memory. */

@@ -5,6 +5,8 @@ import { firstWord, isKind, piecesOf } from './split.js';
 
 /** So much of a text is looked at, and so many records of it. */
 export const LOOKED = 16384;
+/** The longest file that is turned: it stands in memory as a whole. */
+export const TURNED = 128 << 20;
 const RECORDS = 50;
 const MARK = '\ufeff';
 

@@ -39,6 +39,19 @@ class Files(Page):
         self.wait(lambda: self.said("say") == "Accepted: Point")
         self.assertEqual("POINT(9 9)", self.by_id("text").get_attribute("value"))
 
+    def test_carriage_returns(self):
+        """Lines that end in carriage returns alone are the same lines in a small file and in a large one."""
+        self.open()
+        lines = ["POINT(1 2)", "point(1.0 2)", "POINT(3)", ""]
+        for times in (1, 10000):
+            with self.subTest(times):
+                self.drop(self.file("\r".join(lines * times)))
+                self.wait(lambda: f"{times:,} of {3 * times:,} lines refused" in self.said("verdict"))
+        self.assertIn("line 3, column 8", self.said("file-out"))
+        # A line feed far behind ends a line, too: then a carriage return is white space.
+        self.drop(self.file(f"LINESTRING(1 2,\r{'3 4,' * 80000}5 6)\r\nPOINT(1 2)\r\n"))
+        self.wait(lambda: self.said("say") == "All 2 lines accepted")
+
     def test_no_text(self):
         self.open()
         for content, words in (
