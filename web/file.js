@@ -100,6 +100,8 @@ async function withFeeds(file, front) {
   return new File([bytes], file.name);
 }
 
+const notRead = (more) => (more > 0 ? ` ${count(more, 'other file')} that came with it ${more === 1 ? 'is' : 'are'} not read.` : '');
+
 /** Reads a file, of any size. `more` others were dropped with it; `form` is what it is turned from. */
 export async function readFile(given, more = 0, form = null) {
   const current = closeFile();
@@ -121,8 +123,7 @@ export async function readFile(given, more = 0, form = null) {
     const split = isLines ? 'lines' : asked === 'auto' ? splitOfFront(await file.slice(0, FRONT).text(), file.size > FRONT) : asked;
     if (!current()) return;
     opened.file = file;
-    const others = more > 0 ? ` ${count(more, 'other file')} that came with it ${more === 1 ? 'is' : 'are'} not read.` : '';
-    say('idle', `Reading ${short(name, 60)}`, HOW[split] + others);
+    say('idle', `Reading ${short(name, 60)}`, HOW[split] + notRead(more));
     const many = !form && split === 'lines' && new Uint8Array(await file.slice(0, LONG).arrayBuffer()).includes(FEED);
     if (!current()) return;
     worker = start(file, many, { split, form: split === 'pieces' ? { form: 'pieces', ...form, pieces: true } : form });
@@ -247,7 +248,7 @@ function others({ forms, left, numbers, saved: parts, whys, refused }) {
   const { file, more } = opened;
   saved = parts && { parts };
   if (forms.length > 0) $('lists').prepend(element('div', { class: 'offer' }, ...offerOf(forms, (form) => readFile(file, more, form))));
-  if (left.length > 0) $('lists').append(element('p', {}, leftWords(left)));
+  for (const words of [left.length > 0 && leftWords(left), notRead(more)].filter(Boolean)) $('lists').append(element('p', {}, words));
   giveOf({ name: file.name.replace(/\.[^.]*$/, ''), lines: saved ? linesOf : null, numbers, whys, refused });
 }
 

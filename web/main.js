@@ -128,7 +128,8 @@ function showLinkButton() {
 async function take(files) {
   const [file] = files;
   if (!file) return;
-  if (file.size <= SMALL_FILE) {
+  // Of several one is read as a file, where it is said that the others aren't.
+  if (files.length === 1 && file.size <= SMALL_FILE) {
     const current = begin();
     try {
       const words = new TextDecoder('utf-8', { fatal: true, ignoreBOM: true }).decode(await file.arrayBuffer());

@@ -52,6 +52,15 @@ class Files(Page):
         self.drop(self.file(f"LINESTRING(1 2,\r{'3 4,' * 80000}5 6)\r\nPOINT(1 2)\r\n"))
         self.wait(lambda: self.said("say") == "All 2 lines accepted")
 
+    def test_several_files(self):
+        """The first of several is read, and the page says that the others aren't."""
+        self.open()
+        for size in (1, 30000):
+            with self.subTest(size):
+                self.drop(self.file("POINT(1 2)\n" * size), self.file("POINT(3 4)\n", "other.wkt"), self.file("x", "third.wkt"))
+                self.wait(lambda: "accepted" in self.said("say"))
+                self.assertIn("2 other files that came with it are not read.", self.said("file-out"))
+
     def test_no_text(self):
         self.open()
         for content, words in (
