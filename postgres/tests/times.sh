@@ -36,7 +36,9 @@ meanwhile() {
     wait $!
     awk -v hz="$(getconf CLK_TCK)" -v at="$at" '$1 == "ticks" { print int($2 * 1000 / hz) - at }' "$dir/said"
 }
-most=0
+most=0 allowed=600
+# The sanitizers look at each byte that the server copies, and at what the library gives back.
+[ -z "${SANITIZED:-}" ] || allowed=3000
 server=$(ask cancel "show server_version_num")
 # cancelled DATABASE MS SQL: a cancel ends it once it has taken so much of the processor
 cancelled() {
@@ -45,8 +47,7 @@ cancelled() {
     while after=$(meanwhile "$ms" "select pg_cancel_backend(:pid)" "select $sql") &&
         ! grep -q 'canceling statement due to user request' "$dir/said" && [ "$ms" -gt 20 ]; do ms=$((ms / 2)); done
     grep -q 'canceling statement due to user request' "$dir/said" || wrong "cancel: $sql: $(head -c 200 "$dir/said")"
-    # The sanitizers look at each byte that the server copies, and at what the library gives back.
-    [ "$after" -le $((600 ${SANITIZED:+* 5})) ] || wrong "cancel: $sql takes $after ms of the processor after a cancel"
+    [ "$after" -le "$allowed" ] || wrong "cancel: $sql takes $after ms of the processor after a cancel"
     [ "$after" -le "$most" ] || most=$after which=$sql
     [ -z "${VERBOSE:-}" ] || echo "$sql: $after ms of the processor after a cancel at $ms ms"
 }
