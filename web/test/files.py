@@ -57,7 +57,8 @@ class Files(Page):
         self.open()
         for size in (1, 30000):
             with self.subTest(size):
-                self.drop(self.file("POINT(1 2)\n" * size), self.file("POINT(3 4)\n", "other.wkt"), self.file("x", "third.wkt"))
+                others = self.file("POINT(3 4)\n", "other.wkt"), self.file("x", "third.wkt")
+                self.drop(self.file("POINT(1 2)\n" * size), *others)
                 self.wait(lambda: "accepted" in self.said("say"))
                 self.assertIn("2 other files that came with it are not read.", self.said("file-out"))
 
