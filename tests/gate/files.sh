@@ -44,7 +44,7 @@ skips dask || { by_python '[Dask]'; ran="$ran, Dask"; }
 if ! skips sqlite; then
     mkdir "$work/sqlite" "$work/postgres"
     cp "$root"/sqlite/{Makefile,*.c,*.h} "$work/sqlite"
-    cp "$root"/postgres/{parts,dialects}.h "$work/postgres"
+    cp "$root"/postgres/*.h "$work/postgres"
     make -s -C "$work/sqlite" WKT_LIB_DIR="$wkt" > log 2>&1 || { cat log; exit 1; }
     cp "$work/sqlite/mod_wkt.so" .
     block sql 'In SQLite' > job.sql
