@@ -38,8 +38,8 @@ range-first bs i j h k =
     ∙ ap (λ (n : ℕ). take n (get_or bs i 0 ∷ drop (i + 1) bs)) {x = j - i} {y = suc (j - (i + 1))} (omega arith)
 
 -- one zero more
-pub zero-more : (bs : List ℕ) (kept end : ℕ) → 0 < kept → kept ≤ end → end ≤ length bs → get_or bs (kept - 1) 0 ≡ 48 → slice_range bs kept end ≡ zeros (end - kept) → slice_range bs (kept - 1) end ≡ zeros (end - (kept - 1))
-zero-more bs kept end some h k is before =
+pub zero_more : (bs : List ℕ) (kept end : ℕ) → 0 < kept → kept ≤ end → end ≤ length bs → get_or bs (kept - 1) 0 ≡ 48 → slice_range bs kept end ≡ zeros (end - kept) → slice_range bs (kept - 1) end ≡ zeros (end - (kept - 1))
+zero_more bs kept end some h k is before =
     range-first bs (kept - 1) end (omega arith) k
     ∙ ap (λ b. b ∷ slice_range bs (kept - 1 + 1) end) is
     ∙ ap (λ (n : ℕ). 48 ∷ slice_range bs n end) {x = kept - 1 + 1} {y = kept} (omega arith)

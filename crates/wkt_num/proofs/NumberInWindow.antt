@@ -192,6 +192,11 @@ module _ (bs : List ℕ) (from count : ℕ) (inside : from + count ≤ length bs
       let long : length ds ≡ count = length-range bs from (from + count) (omega arith) inside ∙ omega arith in
       omega (arith, e, digits_value-lt 10 ds digits, ap (λ (k : ℕ). 10 ^ k) long)
 
+  pub first-digits : (m : ℕ) → m ≤ count → AllDigits 10 (slice_range bs from (from + m))
+  first-digits m few =
+      (digits-parts (slice_range bs from (from + m)) (slice_range bs (from + m) (from + count))
+      (subst (AllDigits 10) (range-split bs from (from + m) (from + count) (omega arith) (omega (arith, few))) digits)).0
+
   -- more than eight are eight and others
   module _ (many : 8 < count) where
     abbrev high : List ℕ
@@ -205,8 +210,8 @@ module _ (bs : List ℕ) (from count : ℕ) (inside : from + count ≤ length bs
         range-split bs from (from + 8) (from + count) (omega arith) (omega (arith, many))
         ∙ ap (λ (n : ℕ). high ++ slice_range bs (from + 8) n) {x = from + count} {y = from + 8 + (count - 8)} (omega (arith, many))
 
-    pub eight-digits : AllDigits 10 high × AllDigits 10 low
-    eight-digits = digits-parts high low (subst (AllDigits 10) eights digits)
+    pub other-digits : AllDigits 10 low
+    other-digits = (digits-parts high low (subst (AllDigits 10) eights digits)).1
 
     pub eights-value : (h l ten : ℕ) → h ≡ digits_value 10 high → l ≡ digits_value 10 low → ten ≡ 10 ^ (count - 8) → h * ten + l ≡ digits_value 10 (slice_range bs from (from + count))
     eights-value h l ten e k t =

@@ -6,7 +6,7 @@ use Rattle.std.proofs.lemmas.Fmt.{IsAscii-decimal_wide, decimal_digit, decimal_s
 use Rattle.std.proofs.lemmas.Str.{IsAscii-append, IsUtf8-from_ascii}
 use Rattle.std.proofs.lemmas.List.{drop-take, take_at, drop-append-le, length-take-le, append-nil, take-take, get_or-take}
 use Rattle.std.proofs.Math.Seq.{take-append-add, drop-set-lt, take-append_seam, get_or-append_seam}
-use Rattle.std.proofs.Math.Nat.{pow-suc, div-div-eq-div-mul, pow-le-pow_right, mod-lt, div-le_self, div-lt_iff_lt-mul, le-mul_of_pos_right, div-eq_of_lt, mod-eq_of_lt, mul-le-mul_right, mul-div-mul_right}
+use Rattle.std.proofs.Math.Nat.{pow-suc, div-div-eq-div-mul, pow-le-pow_right, mod-lt, div-le_self, div-lt_iff_lt-mul, div-eq_of_lt, mod-eq_of_lt, mul-le-mul_right, mul-div-mul_right}
 use Rattle.std.proofs.lemmas.Nat.{mul-pow, div-add-mod', pow-add}
 use borrow.Author.Tests.{eq-eqb, ne_eqb, eqb-true, eqb-false}
 use Rattle.wkt_num.specs.Decimal.{fraction_digits, fraction_text, magnitude_text, decimal_text, zeros, EndsInDigit, padded}
@@ -156,10 +156,6 @@ magnitude-ascii D u negative h =
 
 -- What was put is UTF-8, for its bytes are ASCII.
 
-pub magnitude_utf8 : (D u start end : ℕ) (negative : Bool) (out : List ℕ) → u < 2 ^ 128 → take (end - start) (drop start out) ≡ magnitude_text D negative u
-    → IsUtf8 (take (end - start) (drop start out))
-magnitude_utf8 D u start end negative out h e = subst IsUtf8 (sym e) (IsUtf8-from_ascii _ (magnitude-ascii D u negative (omega (arith, h))))
-
 pub whole_utf8 : (out rest : List ℕ) (start n : ℕ) (negative : Bool) → n < 2 ^ 128 → drop start out ≡ sign_text negative ++ decimal n ++ rest → length out ≡ 80 → length rest ≡ 40 → start ≤ 40
     → IsUtf8 (take (40 - start) (drop start out))
 whole_utf8 out rest start n negative h e l k low =
@@ -186,21 +182,6 @@ decimal-one q d some less fits =
     let a : (q * 10 + d) / 10 ≡ q = omega (arith, less) in
     let b : (q * 10 + d) % 10 ≡ d = omega (arith, less) in
     decimal_step (q * 10 + d) (omega (arith, some)) fits ∙ ap (λ n. decimal n ++ (48 + (q * 10 + d) % 10) ∷ []) a ∙ ap (λ n. decimal q ++ (48 + n) ∷ []) b
-
--- the digits of a number whose last j are f
-pub decimal-pads : (j q f : ℕ) → 0 < q → f < 10 ^ j → q * 10 ^ j + f < 2 ^ 64 → decimal (q * 10 ^ j + f) ≡ decimal q ++ padded j f
-decimal-pads zero q f some less fits = ap decimal {x = q * 10 ^ 0 + f} {y = q} (omega (arith, less)) ∙ sym (append-nil (decimal q))
-decimal-pads (suc j) q f some less fits =
-    let d : ℕ = f / 10 ^ j in
-    let r : ℕ = f % 10 ^ j in
-    let split : d * 10 ^ j + r ≡ f = div-add-mod' f (10 ^ j) in
-    let digit = digit-less j f less in
-    let same : q * 10 ^ suc j + f ≡ (q * 10 + d) * 10 ^ j + r = omega (arith, split, ap (λ p. q * p) (pow-suc 10 j)) in
-    let low : q * 10 + d ≤ (q * 10 + d) * 10 ^ j = le-mul_of_pos_right (q * 10 + d) (ten_pos j) in
-    ap decimal same
-    ∙ decimal-pads j (q * 10 + d) r (omega (arith, some)) (mod-lt f (ten_pos j)) (omega (arith, same, fits))
-    ∙ ap (λ l. l ++ padded j r) (decimal-one q d some digit (omega (arith, low, same, fits)))
-    ∙ append_assoc (decimal q) ((48 + d) ∷ []) (padded j r)
 
 padded-zero : (j : ℕ) → padded j 0 ≡ zeros j
 padded-zero zero = refl

@@ -57,10 +57,6 @@ pub digit-in : (b r : ℕ) → b < 256 → r ≡ b → (r + 18446744073709551568
     → (is_ascii_digit b ≡ true) × ((r + 18446744073709551568) % 18446744073709551616 ≡ b - 48)
 digit-in b r h e k = let d : (48 ≤ b) × (b ≤ 57) = (omega (arith, h, e, k), omega (arith, h, e, k)) in (digit-test b d.0 d.1, omega (arith, h, e, k))
 
--- the last place
-pub to-end : {done count : ℕ} (from : ℕ) → done ≤ count → count ≤ done → from + done ≡ from + count
-to-end from h k = omega (arith, h, k)
-
 pub fits-more : (all at d : ℕ) → all < 10 ^ at → d ≤ 9 → all * 10 + d < 10 ^ (at + 1)
 fits-more all at d h k = omega (arith, h, k, pow-suc 10 at, ap (λ n. 10 ^ n) {x = at + 1} {y = suc at} (omega arith))
 

@@ -90,11 +90,11 @@ fn sixteen_from(bytes: &[u8], from: usize, count: usize) -> u64
     ensures value { result ≡ digits_value 10 (slice_range bytes.now from (from + count)) }
     ensures small { result < 10 ^ count }
 {
+    let first = eight_from(bytes, from, count.min(8));
     if count <= 8 {
-        return eight_from(bytes, from, count);
+        return first;
     }
-    let high = eight_from(bytes, from, 8);
-    high * ten_to(count as u32 - 8) + eight_from(bytes, from + 8, count - 8)
+    first * ten_to(count as u32 - 8) + eight_from(bytes, from + 8, count - 8)
 }
 
 /// What the digits from `first` on spell, which are a run or its end, and where they end.

@@ -210,6 +210,7 @@ pub(crate) fn is_of_run(byte: u8) -> bool
 
 /// Where the zeros begin that end a fraction.
 #[inline(always)]
+#[tactic(auto, using(crate::proofs::DecimalParts::zero_more))]
 fn before_zeros(bytes: &[u8], point: usize, end: usize) -> usize
     requires order { point < end }
     requires within { end ≤ length bytes.now }
