@@ -49,9 +49,6 @@ with_rest bs at next h = rw (append-nil, ← take_step bs at next h) (take-appen
 pub string : StringGrows
 string = record { ok = λ s t bs h. h.grown; err = λ s t bs h. h.grew }
 
-pub revealed : {S : Type 0} (text : S → List ℕ) (failures : S → ℕ) → Grows (revealing text failures) text
-revealed text failures = record { ok = λ s t bs h. h; err = λ s t bs h. h }
-
 -- what was held and given, in two parts
 regroup : (below held bs out held' : List ℕ) → held ++ bs ≡ out ++ held' → (below ++ out) ++ held' ≡ (below ++ held) ++ bs
 regroup below held bs out held' h = append_assoc below out held' ∙ ap (λ xs. below ++ xs) (sym h) ∙ sym (append_assoc below held bs)

@@ -78,6 +78,7 @@ impl<S: TextSink> GatheredText<S> {
 
     // Makes room first. A piece that is longer than the array goes to the sink at once: nothing is held then.
     #[inline(never)]
+    #[tactic(auto, using(crate::proofs::SinkSteps::puts_behind))]
     fn slow_write(&mut self, piece: &str) -> fmt::Result
         ensures { Puts (holding S.sink) self.old piece.now self.new result }
     {
