@@ -363,9 +363,7 @@ dim_letters run d h = go (bytes_eq w (codes "Z")) (bytes_eq w (codes "M")) (byte
 
 pub plain_suffix : (d : Dimension) → plain (suffix (Some d)) ≡ true
 plain_suffix XY = refl
-plain_suffix XYZ = refl
-plain_suffix XYM = refl
-plain_suffix XYZM = refl
+plain_suffix _ = refl
 
 pub after_white : (mid : List ℕ) (j : Option Dimension) (d : Dimension) → said_of j ≡ d → Stop mid → AfterKind mid j d
 after_white mid j d e s = record { bytes = s.gap; by_empty = s.by_empty; header = s.header; spaced = s.spaced; said = dim_said_is j s.gap s.white ∙ e }

@@ -1,9 +1,9 @@
 -- Kind words, alone and with the letters of a dimension, and the words EMPTY, Z, M and ZM.
-use Rattle.std.proofs.Common.{◌≡◌, ℕ, zero, suc, List, [], ◌∷◌, ◌++◌, length, drop, refl, sym, ap, ◌∙◌, subst, Bool, true, false, cond, ◌&&◌, ◌==◌, nat_eq, Option, Some, None, codes, eqb-true, eq-eqb, arith, inl, inr, take, get_or, length-append, ◌-◌, ◌+◌, ◌<◌, ◌≤◌, nat_le, append_assoc}
+use Rattle.std.proofs.Common.{◌≡◌, ℕ, zero, suc, List, [], ◌∷◌, ◌++◌, length, drop, refl, sym, ap, ◌∙◌, subst, Bool, true, false, cond, ◌&&◌, ◌==◌, nat_eq, Option, Some, None, codes, eqb-true, eq-eqb, arith, inl, inr, take, get_or, length-append, ◌-◌, ◌+◌, ◌<◌, ◌≤◌, nat_le, append_assoc, append-nil}
 use Rattle.std.specs.Prelude.{◌⊎◌}
 use Rattle.std.specs.List.{AllByRecursion}
 use Rattle.std.specs.Char.{to_ascii_uppercase}
-use Rattle.std.proofs.lemmas.Bool.{cases_lt, ne_eqb, lt-leb}
+use Rattle.std.proofs.lemmas.Bool.{cases_lt, ne_eqb, lt-leb, leb-true}
 use Rattle.std.proofs.lemmas.List.{take-map, drop-map, take-append-drop, length-take-le}
 use Rattle.std.proofs.Math.Seq.{take-append-add}
 use Rattle.std.proofs.lemmas.Str.Ascii.{uppercase_is}
@@ -12,7 +12,7 @@ use Rattle.std.proofs.lemmas.Slice.Eq.{bytes_eq-Decides}
 use Rattle.wkt_access.specs.declared.dimensions.Dimension.{Dimension}
 use Rattle.wkt_access.specs.declared.dimensions.Dimension.TheVariants.{XYZ, XYM, XYZM}
 use Rattle.wkt_types.specs.declared.geometry_type.GeometryType.{GeometryType}
-use Rattle.wkt_read.specs.Grammar.{KindWord, kind_words, entry_in, dim_in, kind_word, dim_word, is_empty_word}
+use Rattle.wkt_read.specs.Grammar.{KindWord, kind_words, entry, with_joined, entry_in, dim_in, kind_word, dim_word, is_empty_word}
 use Rattle.wkt_read.specs.Header.{begins, named_in}
 use Rattle.wkt_read.specs.Stream.{Names, IsCapital, BeginsWith}
 use Rattle.wkt_read.specs.Lexemes.{starts_number}
@@ -44,6 +44,9 @@ not-begun (a ∷ w) s (b ∷ u) e = go (nat_eq a b) (nat_eq b a) refl refl e (no
     go true true f g h ih = ih h
     go false true f g h ih = absurd (not-both (sym f ∙ eq-eqb a b (sym (eqb-true b a g))))
 
+not-word : (w u : List ℕ) → begins w u ≡ false → bytes_eq u w ≡ false
+not-word w u e = subst (λ v. bytes_eq u v ≡ false) (append-nil w) (not-begun w [] u e)
+
 both : (x y : Bool) → x && y ≡ true → (x ≡ true) × (y ≡ true)
 both true y e = (refl, e)
 both false y e = cc
@@ -54,22 +57,6 @@ begun (a ∷ w) [] e = cc
 begun (a ∷ w) (b ∷ u) e =
     let p = both (nat_eq a b) (begins w u) e in
     ap (λ x. x ∷ u) (sym (eqb-true a b p.0)) ∙ ap (λ l. a ∷ l) (begun w u p.1)
-
--- of words that are tried, none is there
-passed : {A : Type 0} (b : Bool) (x : A) (o : Option A) → cond b (Some x) o ≡ None → (b ≡ false) × (o ≡ None)
-passed true x o e = cc
-passed false x o e = (refl, e)
-
--- one of the words, or a later one
-found : (w u : List ℕ) (j k : GeometryType) (r : List ℕ) (o : Option (GeometryType × List ℕ)) → cond (begins w u) (Some (j, drop (length w) u)) o ≡ Some (k, r)
-    → ((u ≡ w ++ r) × (j ≡ k)) ⊎ (o ≡ Some (k, r))
-found w u j k r o e = go (begins w u) refl e
-  where
-    go : (b : Bool) → begins w u ≡ b → cond b (Some (j, drop (length w) u)) o ≡ Some (k, r) → ((u ≡ w ++ r) × (j ≡ k)) ⊎ (o ≡ Some (k, r))
-    go true f h =
-        let same : ◌≡◌ {A = GeometryType × List ℕ} (j, drop (length w) u) (k, r) = cc in
-        inl (begun w u f ∙ ap (λ l. w ++ l) (ap (λ q. q.1) same), ap (λ q. q.0) same)
-    go false f h = inr h
 
 four : (b z m zm : Bool) (k : GeometryType) (e f g h : KindWord) → e.kind ≡ k → e.joined ≡ None → f.kind ≡ k → f.joined ≡ Some XYZ → g.kind ≡ k → g.joined ≡ Some XYM → h.kind ≡ k → h.joined ≡ Some XYZM
     → Names (cond b (Some (k, None)) (joined k (cond z (Some XYZ) (cond m (Some XYM) (cond zm (Some XYZM) None))))) (cond b (Some e) (cond z (Some f) (cond m (Some g) (cond zm (Some h) None))))
@@ -87,129 +74,85 @@ one false k e p q = refl
 abbrev Says : GeometryType → List ℕ → List ℕ → Type 0
 Says k r u = Names (said (begins (codes "LINEARRING") u) k r) (entry_in kind_words u)
 
-point : (r : List ℕ) → Says kind.Point r (codes "POINT" ++ r)
-unfolding kind_words
-point r = four (bytes_eq r []) (bytes_eq r (codes "Z")) (bytes_eq r (codes "M")) (bytes_eq r (codes "ZM")) kind.Point _ _ _ _ refl refl refl refl refl refl refl refl
+-- the word of a kind
+abbrev pub kind_text : GeometryType → List ℕ
+kind_text kind.Point = codes "POINT"
+kind_text kind.LineString = codes "LINESTRING"
+kind_text kind.Polygon = codes "POLYGON"
+kind_text kind.MultiPoint = codes "MULTIPOINT"
+kind_text kind.MultiLineString = codes "MULTILINESTRING"
+kind_text kind.MultiPolygon = codes "MULTIPOLYGON"
+kind_text kind.GeometryCollection = codes "GEOMETRYCOLLECTION"
 
-linestring : (r : List ℕ) → Says kind.LineString r (codes "LINESTRING" ++ r)
-unfolding kind_words
-linestring r = four (bytes_eq r []) (bytes_eq r (codes "Z")) (bytes_eq r (codes "M")) (bytes_eq r (codes "ZM")) kind.LineString _ _ _ _ refl refl refl refl refl refl refl refl
-
-linearring : (r : List ℕ) → Says kind.LineString r (codes "LINEARRING" ++ r)
-unfolding kind_words
-linearring r = one (bytes_eq r []) kind.LineString _ refl refl
-
-polygon : (r : List ℕ) → Says kind.Polygon r (codes "POLYGON" ++ r)
-unfolding kind_words
-polygon r = four (bytes_eq r []) (bytes_eq r (codes "Z")) (bytes_eq r (codes "M")) (bytes_eq r (codes "ZM")) kind.Polygon _ _ _ _ refl refl refl refl refl refl refl refl
-
-multipoint : (r : List ℕ) → Says kind.MultiPoint r (codes "MULTIPOINT" ++ r)
-unfolding kind_words
-multipoint r = four (bytes_eq r []) (bytes_eq r (codes "Z")) (bytes_eq r (codes "M")) (bytes_eq r (codes "ZM")) kind.MultiPoint _ _ _ _ refl refl refl refl refl refl refl refl
-
-multilinestring : (r : List ℕ) → Says kind.MultiLineString r (codes "MULTILINESTRING" ++ r)
-unfolding kind_words
-multilinestring r = four (bytes_eq r []) (bytes_eq r (codes "Z")) (bytes_eq r (codes "M")) (bytes_eq r (codes "ZM")) kind.MultiLineString _ _ _ _ refl refl refl refl refl refl refl refl
-
-multipolygon : (r : List ℕ) → Says kind.MultiPolygon r (codes "MULTIPOLYGON" ++ r)
-unfolding kind_words
-multipolygon r = four (bytes_eq r []) (bytes_eq r (codes "Z")) (bytes_eq r (codes "M")) (bytes_eq r (codes "ZM")) kind.MultiPolygon _ _ _ _ refl refl refl refl refl refl refl refl
-
-geometrycollection : (r : List ℕ) → Says kind.GeometryCollection r (codes "GEOMETRYCOLLECTION" ++ r)
-unfolding kind_words
-geometrycollection r = four (bytes_eq r []) (bytes_eq r (codes "Z")) (bytes_eq r (codes "M")) (bytes_eq r (codes "ZM")) kind.GeometryCollection _ _ _ _ refl refl refl refl refl refl refl refl
-
--- A header begins with a word of the table, and something is known of each.
+-- Something is known of each kind word of rows: a header that begins with one begins with what is known, and one that begins with none isn't in them.
 abbrev Begun : (GeometryType → List ℕ → Type 0) → GeometryType → List ℕ → List ℕ → Type 0
 Begun P k r u = (w : List ℕ) × (u ≡ w ++ r) × P k w
 
-by-word : (P : GeometryType → List ℕ → Type 0) → P kind.Point (codes "POINT") → P kind.LineString (codes "LINESTRING") → P kind.LineString (codes "LINEARRING") → P kind.Polygon (codes "POLYGON") → P kind.MultiPoint (codes "MULTIPOINT") → P kind.MultiLineString (codes "MULTILINESTRING") → P kind.MultiPolygon (codes "MULTIPOLYGON") → P kind.GeometryCollection (codes "GEOMETRYCOLLECTION")
-    → (u : List ℕ) (k : GeometryType) (r : List ℕ) → named_in kind_words u ≡ Some (k, r) → Begun P k r u
+record Known (P : GeometryType → List ℕ → Type 0) (u : List ℕ) (es : List KindWord) : Type 0 where
+  some : (k : GeometryType) (r : List ℕ) → named_in es u ≡ Some (k, r) → Begun P k r u
+  none : named_in es u ≡ None → entry_in es u ≡ None
+
+module _ (P : GeometryType → List ℕ → Type 0) (u : List ℕ) where
+  known-none : Known P u []
+  known-none = record { some = λ k r e. cc; none = λ e. refl }
+
+  -- the first word, or a later one
+  found : (w : List ℕ) (j k : GeometryType) (r : List ℕ) (o : Option (GeometryType × List ℕ)) → P j w → (o ≡ Some (k, r) → Begun P k r u) → (b : Bool) → begins w u ≡ b → cond b (Some (j, drop (length w) u)) o ≡ Some (k, r) → Begun P k r u
+  found w j k r o p later true f h =
+      let same : ◌≡◌ {A = GeometryType × List ℕ} (j, drop (length w) u) (k, r) = cc in
+      (w, begun w u f ∙ ap (λ l. w ++ l) (ap (λ q. q.1) same), subst (λ k. P k w) (ap (λ q. q.0) same) p)
+  found w j k r o p later false f h = later h
+
+  -- neither is there
+  passed : (w : List ℕ) (x : GeometryType × List ℕ) (o : Option (GeometryType × List ℕ)) → cond (begins w u) (Some x) o ≡ None → (begins w u ≡ false) × (o ≡ None)
+  passed w x o e = go (begins w u) e
+    where
+      go : (b : Bool) → cond b (Some x) o ≡ None → (b ≡ false) × (o ≡ None)
+      go true h = cc
+      go false h = (refl, h)
+
+  known-one : (w : List ℕ) (k : GeometryType) {more : List KindWord} → P k w → Known P u more → Known P u (entry w k None ∷ more)
+  known-one w k p later = record {
+    some = λ j r e. found w k j r _ p (later.some j r) (begins w u) refl e;
+    none = λ e. let (other, rest) = passed w _ _ e in rw (not-word w u other) (later.none rest);
+  }
+
+  known-four : (w : List ℕ) (k : GeometryType) {more : List KindWord} → P k w → Known P u more → Known P u (with_joined w k ++ more)
+  known-four w k p later = record {
+    some = λ j r e. found w k j r _ p (later.some j r) (begins w u) refl e;
+    none = λ e. let (other, rest) = passed w _ _ e in rw (not-word w u other, not-begun w (codes "Z") u other, not-begun w (codes "M") u other, not-begun w (codes "ZM") u other) (later.none rest);
+  }
+
+  by-word : ((k : GeometryType) → P k (kind_text k)) → P kind.LineString (codes "LINEARRING") → Known P u kind_words
+  unfolding kind_words
+  by-word each ring =
+      known-four (codes "POINT") kind.Point (each kind.Point)
+      (known-four (codes "LINESTRING") kind.LineString (each kind.LineString)
+      (known-one (codes "LINEARRING") kind.LineString ring
+      (known-four (codes "POLYGON") kind.Polygon (each kind.Polygon)
+      (known-four (codes "MULTIPOINT") kind.MultiPoint (each kind.MultiPoint)
+      (known-four (codes "MULTILINESTRING") kind.MultiLineString (each kind.MultiLineString)
+      (known-four (codes "MULTIPOLYGON") kind.MultiPolygon (each kind.MultiPolygon)
+      (known-four (codes "GEOMETRYCOLLECTION") kind.GeometryCollection (each kind.GeometryCollection) known-none)))))))
+
+each-says : (k : GeometryType) (r : List ℕ) → Says k r (kind_text k ++ r)
 unfolding kind_words
-by-word P point linestring linearring polygon multipoint multilinestring multipolygon geometrycollection u k r e =
-    elim (found (codes "POINT") u kind.Point k r _ e) [
-      | inl p ↦ (codes "POINT", p.0, subst (λ k. P k (codes "POINT")) p.1 point)
-      | inr e1 ↦
-          elim (found (codes "LINESTRING") u kind.LineString k r _ e1) [
-            | inl p ↦ (codes "LINESTRING", p.0, subst (λ k. P k (codes "LINESTRING")) p.1 linestring)
-            | inr e2 ↦
-                elim (found (codes "LINEARRING") u kind.LineString k r _ e2) [
-                  | inl p ↦ (codes "LINEARRING", p.0, subst (λ k. P k (codes "LINEARRING")) p.1 linearring)
-                  | inr e3 ↦
-                      elim (found (codes "POLYGON") u kind.Polygon k r _ e3) [
-                        | inl p ↦ (codes "POLYGON", p.0, subst (λ k. P k (codes "POLYGON")) p.1 polygon)
-                        | inr e4 ↦
-                            elim (found (codes "MULTIPOINT") u kind.MultiPoint k r _ e4) [
-                              | inl p ↦ (codes "MULTIPOINT", p.0, subst (λ k. P k (codes "MULTIPOINT")) p.1 multipoint)
-                              | inr e5 ↦
-                                  elim (found (codes "MULTILINESTRING") u kind.MultiLineString k r _ e5) [
-                                    | inl p ↦ (codes "MULTILINESTRING", p.0, subst (λ k. P k (codes "MULTILINESTRING")) p.1 multilinestring)
-                                    | inr e6 ↦
-                                        elim (found (codes "MULTIPOLYGON") u kind.MultiPolygon k r _ e6) [
-                                          | inl p ↦ (codes "MULTIPOLYGON", p.0, subst (λ k. P k (codes "MULTIPOLYGON")) p.1 multipolygon)
-                                          | inr e7 ↦
-                                              elim (found (codes "GEOMETRYCOLLECTION") u kind.GeometryCollection k r _ e7) [
-                                                | inl p ↦ (codes "GEOMETRYCOLLECTION", p.0, subst (λ k. P k (codes "GEOMETRYCOLLECTION")) p.1 geometrycollection)
-                                                | inr e8 ↦ cc
-                                              ]
-                                        ]
-                                  ]
-                            ]
-                      ]
-                ]
-          ]
-    ]
+each-says kind.Point r = four (bytes_eq r []) (bytes_eq r (codes "Z")) (bytes_eq r (codes "M")) (bytes_eq r (codes "ZM")) kind.Point _ _ _ _ refl refl refl refl refl refl refl refl
+each-says k r = four (bytes_eq r []) (bytes_eq r (codes "Z")) (bytes_eq r (codes "M")) (bytes_eq r (codes "ZM")) k _ _ _ _ refl refl refl refl refl refl refl refl
+
+ring-says : (r : List ℕ) → Says kind.LineString r (codes "LINEARRING" ++ r)
+unfolding kind_words
+ring-says r = one (bytes_eq r []) kind.LineString _ refl refl
 
 -- the header's word and the letters after it are what the table says of the whole word
 pub some-named : (u : List ℕ) (k : GeometryType) (r : List ℕ) → named_in kind_words u ≡ Some (k, r) → Says k r u
 some-named u k r e =
-    let b = by-word (λ k w. (r : List ℕ) → Says k r (w ++ r)) point linestring linearring polygon multipoint multilinestring multipolygon geometrycollection u k r e in
+    let b = (by-word (λ k w. (r : List ℕ) → Says k r (w ++ r)) u each-says ring-says).some k r e in
     subst (Says k r) (sym b.1) (b.2 r)
 
 -- a header that begins with no word is none
 pub none-named : (u : List ℕ) → named_in kind_words u ≡ None → entry_in kind_words u ≡ None
-unfolding kind_words
-none-named u e =
-    let p0 = passed (begins (codes "POINT") u) _ _ e in
-    let p1 = passed (begins (codes "LINESTRING") u) _ _ p0.1 in
-    let p2 = passed (begins (codes "LINEARRING") u) _ _ p1.1 in
-    let p3 = passed (begins (codes "POLYGON") u) _ _ p2.1 in
-    let p4 = passed (begins (codes "MULTIPOINT") u) _ _ p3.1 in
-    let p5 = passed (begins (codes "MULTILINESTRING") u) _ _ p4.1 in
-    let p6 = passed (begins (codes "MULTIPOLYGON") u) _ _ p5.1 in
-    let p7 = passed (begins (codes "GEOMETRYCOLLECTION") u) _ _ p6.1 in
-    rw (
-      not-begun (codes "POINT") [] u p0.0,
-      not-begun (codes "POINT") (codes "Z") u p0.0,
-      not-begun (codes "POINT") (codes "M") u p0.0,
-      not-begun (codes "POINT") (codes "ZM") u p0.0,
-      not-begun (codes "LINESTRING") [] u p1.0,
-      not-begun (codes "LINESTRING") (codes "Z") u p1.0,
-      not-begun (codes "LINESTRING") (codes "M") u p1.0,
-      not-begun (codes "LINESTRING") (codes "ZM") u p1.0,
-      not-begun (codes "LINEARRING") [] u p2.0,
-      not-begun (codes "POLYGON") [] u p3.0,
-      not-begun (codes "POLYGON") (codes "Z") u p3.0,
-      not-begun (codes "POLYGON") (codes "M") u p3.0,
-      not-begun (codes "POLYGON") (codes "ZM") u p3.0,
-      not-begun (codes "MULTIPOINT") [] u p4.0,
-      not-begun (codes "MULTIPOINT") (codes "Z") u p4.0,
-      not-begun (codes "MULTIPOINT") (codes "M") u p4.0,
-      not-begun (codes "MULTIPOINT") (codes "ZM") u p4.0,
-      not-begun (codes "MULTILINESTRING") [] u p5.0,
-      not-begun (codes "MULTILINESTRING") (codes "Z") u p5.0,
-      not-begun (codes "MULTILINESTRING") (codes "M") u p5.0,
-      not-begun (codes "MULTILINESTRING") (codes "ZM") u p5.0,
-      not-begun (codes "MULTIPOLYGON") [] u p6.0,
-      not-begun (codes "MULTIPOLYGON") (codes "Z") u p6.0,
-      not-begun (codes "MULTIPOLYGON") (codes "M") u p6.0,
-      not-begun (codes "MULTIPOLYGON") (codes "ZM") u p6.0,
-      not-begun (codes "GEOMETRYCOLLECTION") [] u p7.0,
-      not-begun (codes "GEOMETRYCOLLECTION") (codes "Z") u p7.0,
-      not-begun (codes "GEOMETRYCOLLECTION") (codes "M") u p7.0,
-      not-begun (codes "GEOMETRYCOLLECTION") (codes "ZM") u p7.0,
-    )
-    refl
+none-named u e = (by-word (λ k w. Unit {0}) u (λ k. tt) tt).none e
 
 pub alone : (u : List ℕ) (k : GeometryType) (r : List ℕ) → named_in kind_words u ≡ Some (k, r) → r ≡ [] → Names (Some (k, None)) (entry_in kind_words u)
 alone u k r e none = subst (λ s. Names s (entry_in kind_words u)) (ap (λ l. said (begins (codes "LINEARRING") u) k l) none) (some-named u k r e)
@@ -274,19 +217,28 @@ dim_no_kind w d e = some_dim w d (bytes_eq (str_to_ascii_uppercase w) (codes "Z"
 abbrev pub IsAlone : GeometryType → List ℕ → Type 0
 IsAlone k w = ((x : List ℕ) → named_in kind_words (w ++ x) ≡ Some (k, x)) × AllByRecursion IsCapital w × (0 < length w) × ((x y : List ℕ) → begins (codes "LINEARRING") (w ++ x) ≡ begins (codes "LINEARRING") (w ++ y))
 
-front-word : (u : List ℕ) (k : GeometryType) (r : List ℕ) → named_in kind_words u ≡ Some (k, r) → Begun IsAlone k r u
+abbrev are-capitals : List ℕ → Bool
+are-capitals [] = true
+are-capitals (c ∷ w) = nat_le 65 c && (nat_le c 90 && are-capitals w)
+
+capitals : (w : List ℕ) → are-capitals w ≡ true → AllByRecursion IsCapital w
+capitals [] e = tt
+capitals (c ∷ w) e =
+    let (low, rest) = both (nat_le 65 c) (nat_le c 90 && are-capitals w) e in
+    let (high, more) = both (nat_le c 90) (are-capitals w) rest in
+    ((leb-true 65 c low, leb-true c 90 high), capitals w more)
+
+each-alone : (k : GeometryType) → IsAlone k (kind_text k)
 unfolding kind_words
-front-word u k r e =
-    by-word IsAlone
-    ((λ x. refl), ((omega arith, omega arith), ((omega arith, omega arith), ((omega arith, omega arith), ((omega arith, omega arith), ((omega arith, omega arith), tt))))), omega arith, λ x y. refl)
-    ((λ x. refl), ((omega arith, omega arith), ((omega arith, omega arith), ((omega arith, omega arith), ((omega arith, omega arith), ((omega arith, omega arith), ((omega arith, omega arith), ((omega arith, omega arith), ((omega arith, omega arith), ((omega arith, omega arith), ((omega arith, omega arith), tt)))))))))), omega arith, λ x y. refl)
-    ((λ x. refl), ((omega arith, omega arith), ((omega arith, omega arith), ((omega arith, omega arith), ((omega arith, omega arith), ((omega arith, omega arith), ((omega arith, omega arith), ((omega arith, omega arith), ((omega arith, omega arith), ((omega arith, omega arith), ((omega arith, omega arith), tt)))))))))), omega arith, λ x y. refl)
-    ((λ x. refl), ((omega arith, omega arith), ((omega arith, omega arith), ((omega arith, omega arith), ((omega arith, omega arith), ((omega arith, omega arith), ((omega arith, omega arith), ((omega arith, omega arith), tt))))))), omega arith, λ x y. refl)
-    ((λ x. refl), ((omega arith, omega arith), ((omega arith, omega arith), ((omega arith, omega arith), ((omega arith, omega arith), ((omega arith, omega arith), ((omega arith, omega arith), ((omega arith, omega arith), ((omega arith, omega arith), ((omega arith, omega arith), ((omega arith, omega arith), tt)))))))))), omega arith, λ x y. refl)
-    ((λ x. refl), ((omega arith, omega arith), ((omega arith, omega arith), ((omega arith, omega arith), ((omega arith, omega arith), ((omega arith, omega arith), ((omega arith, omega arith), ((omega arith, omega arith), ((omega arith, omega arith), ((omega arith, omega arith), ((omega arith, omega arith), ((omega arith, omega arith), ((omega arith, omega arith), ((omega arith, omega arith), ((omega arith, omega arith), ((omega arith, omega arith), tt))))))))))))))), omega arith, λ x y. refl)
-    ((λ x. refl), ((omega arith, omega arith), ((omega arith, omega arith), ((omega arith, omega arith), ((omega arith, omega arith), ((omega arith, omega arith), ((omega arith, omega arith), ((omega arith, omega arith), ((omega arith, omega arith), ((omega arith, omega arith), ((omega arith, omega arith), ((omega arith, omega arith), ((omega arith, omega arith), tt)))))))))))), omega arith, λ x y. refl)
-    ((λ x. refl), ((omega arith, omega arith), ((omega arith, omega arith), ((omega arith, omega arith), ((omega arith, omega arith), ((omega arith, omega arith), ((omega arith, omega arith), ((omega arith, omega arith), ((omega arith, omega arith), ((omega arith, omega arith), ((omega arith, omega arith), ((omega arith, omega arith), ((omega arith, omega arith), ((omega arith, omega arith), ((omega arith, omega arith), ((omega arith, omega arith), ((omega arith, omega arith), ((omega arith, omega arith), ((omega arith, omega arith), tt)))))))))))))))))), omega arith, λ x y. refl)
-    u k r e
+each-alone kind.Point = ((λ x. refl), capitals (codes "POINT") refl, omega arith, λ x y. refl)
+each-alone k = ((λ x. refl), capitals (kind_text k) refl, omega arith, λ x y. refl)
+
+ring-alone : IsAlone kind.LineString (codes "LINEARRING")
+unfolding kind_words
+ring-alone = ((λ x. refl), capitals (codes "LINEARRING") refl, omega arith, λ x y. refl)
+
+front-word : (u : List ℕ) (k : GeometryType) (r : List ℕ) → named_in kind_words u ≡ Some (k, r) → Begun IsAlone k r u
+front-word u = (by-word IsAlone u each-alone ring-alone).some
 
 -- the letters of a dimension are capitals
 dim-capitals : (v : List ℕ) (d : Dimension) → dim_in v ≡ Some d → AllByRecursion IsCapital v × (0 < length v)

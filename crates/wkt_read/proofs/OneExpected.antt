@@ -71,15 +71,9 @@ no_first None other = absurd (other refl)
 no_first (Some k) other = refl
 
 no_point : (k : Option GeometryType) (o : Bool) → ((k ≡ Some kind.MultiPoint) × (o ≡ true) → ⊥) → expected.Opening ≡ opening_of k o
-no_point None o never = refl
 no_point (Some kind.MultiPoint) true never = absurd (never (refl, refl))
 no_point (Some kind.MultiPoint) false never = refl
-no_point (Some kind.Point) o never = refl
-no_point (Some kind.LineString) o never = refl
-no_point (Some kind.Polygon) o never = refl
-no_point (Some kind.MultiLineString) o never = refl
-no_point (Some kind.MultiPolygon) o never = refl
-no_point (Some kind.GeometryCollection) o never = refl
+no_point _ o never = refl
 
 one_turn : (e : Expected) (c : Context) → IsTurn e c → e ≡ chosen (group e) c
 one_turn expected.Kind c h = ap first_kind (sym h)
@@ -87,12 +81,9 @@ one_turn expected.Member c h = no_first c.kind h
 one_turn expected.Dimension c h = refl
 one_turn expected.Opening c h = no_point c.kind c.opened h
 one_turn expected.Point c (k, o) = ap (λ k. opening_of k true) (sym k) ∙ ap (opening_of c.kind) (sym o)
-one_turn expected.X c h = sym h
-one_turn expected.Y c h = sym h
-one_turn expected.Z c h = sym h
-one_turn expected.M c h = sym h
 one_turn expected.More c h = refl
 one_turn expected.Closing c h = refl
+one_turn _ c h = sym h
 
 -- POINT is a kind word, and Z a dimension word.
 point_is : IsKind (Word (codes "POINT"))
@@ -147,12 +138,9 @@ module _ {N : Type 0} (read : List ℕ → Option N) where
   open_tells expected.Dimension = inr (inl refl)
   open_tells expected.Opening = inl refl
   open_tells expected.Point = inr (inl refl)
-  open_tells expected.X = no_number Open (λ run q. cc)
-  open_tells expected.Y = no_number Open (λ run q. cc)
-  open_tells expected.Z = no_number Open (λ run q. cc)
-  open_tells expected.M = no_number Open (λ run q. cc)
   open_tells expected.More = neither (Open ≡ Comma) (Open ≡ Close) (λ q. cc) (λ q. cc)
   open_tells expected.Closing = λ q. cc
+  open_tells _ = no_number Open (λ run q. cc)
 
   kind_tells : (e : Expected) → Tells (kind_at e) (IsNamed read e (Word (codes "POINT")))
   kind_tells expected.Kind = point_is
@@ -160,12 +148,9 @@ module _ {N : Type 0} (read : List ℕ → Option N) where
   kind_tells expected.Dimension = neither _ _ point_no_dimension point_no_opening
   kind_tells expected.Opening = point_no_opening
   kind_tells expected.Point = neither _ _ (no_number (Word (codes "POINT")) (λ run q. cc)) point_no_opening
-  kind_tells expected.X = no_number (Word (codes "POINT")) (λ run q. cc)
-  kind_tells expected.Y = no_number (Word (codes "POINT")) (λ run q. cc)
-  kind_tells expected.Z = no_number (Word (codes "POINT")) (λ run q. cc)
-  kind_tells expected.M = no_number (Word (codes "POINT")) (λ run q. cc)
   kind_tells expected.More = neither (Word (codes "POINT") ≡ Comma) (Word (codes "POINT") ≡ Close) (λ q. cc) (λ q. cc)
   kind_tells expected.Closing = λ q. cc
+  kind_tells _ = no_number (Word (codes "POINT")) (λ run q. cc)
 
   dimension_tells : (e : Expected) → Tells (dimension_at e) (IsNamed read e (Word (codes "Z")))
   dimension_tells expected.Kind = z_no_kind
@@ -173,12 +158,9 @@ module _ {N : Type 0} (read : List ℕ → Option N) where
   dimension_tells expected.Dimension = inl z_is
   dimension_tells expected.Opening = z_no_opening
   dimension_tells expected.Point = neither _ _ (no_number (Word (codes "Z")) (λ run q. cc)) z_no_opening
-  dimension_tells expected.X = no_number (Word (codes "Z")) (λ run q. cc)
-  dimension_tells expected.Y = no_number (Word (codes "Z")) (λ run q. cc)
-  dimension_tells expected.Z = no_number (Word (codes "Z")) (λ run q. cc)
-  dimension_tells expected.M = no_number (Word (codes "Z")) (λ run q. cc)
   dimension_tells expected.More = neither (Word (codes "Z") ≡ Comma) (Word (codes "Z") ≡ Close) (λ q. cc) (λ q. cc)
   dimension_tells expected.Closing = λ q. cc
+  dimension_tells _ = no_number (Word (codes "Z")) (λ run q. cc)
 
   comma_tells : (e : Expected) → Tells (comma_at e) (IsNamed read e Comma)
   comma_tells expected.Kind = λ (run, k, q, is). cc
@@ -186,12 +168,9 @@ module _ {N : Type 0} (read : List ℕ → Option N) where
   comma_tells expected.Dimension = neither (IsDimension Comma) (IsOpening Comma) (λ (run, d, q, is). cc) comma_no_opening
   comma_tells expected.Opening = comma_no_opening
   comma_tells expected.Point = neither _ _ (no_number Comma (λ run q. cc)) comma_no_opening
-  comma_tells expected.X = no_number Comma (λ run q. cc)
-  comma_tells expected.Y = no_number Comma (λ run q. cc)
-  comma_tells expected.Z = no_number Comma (λ run q. cc)
-  comma_tells expected.M = no_number Comma (λ run q. cc)
   comma_tells expected.More = inl refl
   comma_tells expected.Closing = λ q. cc
+  comma_tells _ = no_number Comma (λ run q. cc)
 
   close_tells : (e : Expected) → Tells (close_at e) (IsNamed read e Close)
   close_tells expected.Kind = λ (run, k, q, is). cc
@@ -199,12 +178,9 @@ module _ {N : Type 0} (read : List ℕ → Option N) where
   close_tells expected.Dimension = neither (IsDimension Close) (IsOpening Close) (λ (run, d, q, is). cc) close_no_opening
   close_tells expected.Opening = close_no_opening
   close_tells expected.Point = neither _ _ (no_number Close (λ run q. cc)) close_no_opening
-  close_tells expected.X = no_number Close (λ run q. cc)
-  close_tells expected.Y = no_number Close (λ run q. cc)
-  close_tells expected.Z = no_number Close (λ run q. cc)
-  close_tells expected.M = no_number Close (λ run q. cc)
   close_tells expected.More = inr refl
   close_tells expected.Closing = refl
+  close_tells _ = no_number Close (λ run q. cc)
 
   same_bool : (a b : Bool) (P Q : Type 0) → Tells a P → Tells b Q → (P → Q) → (Q → P) → a ≡ b
   same_bool true true P Q h k to from = refl

@@ -145,9 +145,7 @@ spanned-from-few at bytes =
 
 marks-few : (c : Class) (at : ℕ) (later : List Spanned) → length (marks c at later) ≤ length later + 1
 marks-few Nul at later = omega arith
-marks-few White at later = omega arith
-marks-few (Mark l) at later = omega arith
-marks-few Run at later = omega arith
+marks-few _ at later = omega arith
 
 pub coming-few : (c : Cursor) (kind : Class) → length (coming_at c.text.now kind (taken_in c)) ≤ length c.text.now - taken_in c + 1
 coming-few c kind =
@@ -204,22 +202,14 @@ front-run b at bytes e =
 
 -- a class that is not a run's means none
 no-run : (c : code.ByteClass) → c ≢ class.Run → meant c ≢ Run
-no-run class.Nul h = λ e. cc
-no-run class.White h = λ e. cc
-no-run class.Open h = λ e. cc
-no-run class.Close h = λ e. cc
-no-run class.Comma h = λ e. cc
 no-run class.Run h = absurd (h refl)
+no-run _ h = λ e. cc
 
 -- where a cursor starts
 pub found-start : (text : List ℕ) (ahead : code.ByteClass) (at : ℕ) → ahead ≢ class.Run → IsCharBoundary text at → FoundClass (coming_at text (meant ahead) at) text ahead at
 unfolding front spanned_from
-found-start text class.Nul at h boundary = (refl, boundary)
-found-start text class.White at h boundary = (refl, boundary)
-found-start text class.Open at h boundary = (refl, boundary)
-found-start text class.Close at h boundary = (refl, boundary)
-found-start text class.Comma at h boundary = (refl, boundary)
 found-start text class.Run at h boundary = absurd (h refl)
+found-start text _ at h boundary = (refl, boundary)
 
 pub found-end : (remaining : List Spanned) (text : List ℕ) (at : ℕ) → remaining ≡ coming_at text White at → at ≡ length text → FoundClass remaining text class.Nul at
 unfolding front spanned_from
@@ -262,12 +252,8 @@ module _ (text : List ℕ) (at : ℕ) (utf8 : IsUtf8 text) (inside : at < length
       (at, refl, is, run-more at e (record { order = omega arith; run = ap (λ n. take n (drop at text) ++ (front at (drop at text)).0) (sym none); later = refl }), boundary)
 
   found-next : (remaining : List Spanned) (c : code.ByteClass) → class_of (get_or text at 0) ≡ meant c → FoundClass remaining text class.White at → FoundClass remaining text c (at + 1)
-  found-next remaining class.Nul e before = found-mark remaining class.Nul (λ o. cc) e before.0
-  found-next remaining class.White e before = found-mark remaining class.White (λ o. cc) e before.0
-  found-next remaining class.Open e before = found-mark remaining class.Open (λ o. cc) e before.0
-  found-next remaining class.Close e before = found-mark remaining class.Close (λ o. cc) e before.0
-  found-next remaining class.Comma e before = found-mark remaining class.Comma (λ o. cc) e before.0
   found-next remaining class.Run e before = found-run remaining e before.0 before.1
+  found-next remaining c e before = found-mark remaining c (λ o. cc) e before.0
 
   -- it ends a run
   ends-run : (from : ℕ) (c : code.ByteClass) → class_of (get_or text at 0) ≡ meant c → c ≢ class.Run → IsRunSoFar text from at → EndsRun text from at (at + 1) c
