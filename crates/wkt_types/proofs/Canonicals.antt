@@ -27,33 +27,19 @@ module _ {T : Type 0} (x y : T) where
 
   cut_by : (d : Dimension) (z m : Option T) → numbers_of (coord_under d (coord_of z m)) ≡ take (size d) (numbers_of (coord_of z m))
   cut_by XY z m = refl
-  cut_by XYZ None None = refl
-  cut_by XYZ None (Some v) = refl
-  cut_by XYZ (Some w) None = refl
-  cut_by XYZ (Some w) (Some v) = refl
-  cut_by XYM None None = refl
-  cut_by XYM None (Some v) = refl
-  cut_by XYM (Some w) None = refl
-  cut_by XYM (Some w) (Some v) = refl
-  cut_by XYZM None None = refl
-  cut_by XYZM None (Some v) = refl
-  cut_by XYZM (Some w) None = refl
-  cut_by XYZM (Some w) (Some v) = refl
+  cut_by _ None None = refl
+  cut_by _ None (Some v) = refl
+  cut_by _ (Some w) None = refl
+  cut_by _ (Some w) (Some v) = refl
 
   dim_by_count : (d : Dimension) (z m : Option T) → length (numbers_of (coord_under d (coord_of z m))) ≡ size d → coord_dim (coord_under d (coord_of z m)) ≡ d
   dim_by_count XY z m h = refl
-  dim_by_count XYZ None None h = absurd (omega (arith, h))
-  dim_by_count XYZ None (Some v) h = refl
-  dim_by_count XYZ (Some w) None h = refl
-  dim_by_count XYZ (Some w) (Some v) h = refl
-  dim_by_count XYM None None h = absurd (omega (arith, h))
-  dim_by_count XYM None (Some v) h = refl
-  dim_by_count XYM (Some w) None h = refl
-  dim_by_count XYM (Some w) (Some v) h = refl
-  dim_by_count XYZM None None h = absurd (omega (arith, h))
   dim_by_count XYZM None (Some v) h = absurd (omega (arith, h))
   dim_by_count XYZM (Some w) None h = absurd (omega (arith, h))
-  dim_by_count XYZM (Some w) (Some v) h = refl
+  dim_by_count _ None None h = absurd (omega (arith, h))
+  dim_by_count _ None (Some v) h = refl
+  dim_by_count _ (Some w) None h = refl
+  dim_by_count _ (Some w) (Some v) h = refl
 
 -- the value of each part
 module _ {T : Type 0} (d : Dimension) where

@@ -48,9 +48,7 @@ dim_only _ _ h = cc
 
 dim_each : (x : Dimension) → dim_eq x x ≡ true
 dim_each XY = refl
-dim_each XYZ = refl
-dim_each XYM = refl
-dim_each XYZM = refl
+dim_each _ = refl
 
 pub dim_exact : IsExact dim_eq
 dim_exact = record { only = dim_only; each = dim_each }
