@@ -6,6 +6,7 @@ use Rattle.wkt_access.specs.declared.dimensions.Dimension.{Dimension}
 use Rattle.wkt_access.specs.declared.dimensions.Dimension.TheVariants.{XY}
 use Rattle.wkt_types.specs.declared.geometry_type.GeometryType.{GeometryType}
 use Rattle.wkt_read.specs.Grammar.{DimPart, Header, IsEmptyWord, Within, More, Many, Numbers, Coord, Ring, Poly, Member, StandFor}
+use Rattle.wkt_read.proofs.Begun.{body_nothing}
 use Rattle.wkt_read.specs.Begun.{BegunNext, BegunMany, BegunWithin, BegunListed, BegunPerhaps, BegunCoord, BegunRing, BegunPoly, BegunMember, BegunBody, BegunAt, BegunGeometry}
 use Rattle.wkt_read.proofs.KindWords.{empty_no_dim, is_empty}
 use Rattle.wkt_machine.specs.Events.{Event, numbers, listed, perhaps, events}
@@ -236,12 +237,7 @@ module _ {N : Type 0} (read : List ℕ → Option N) where
 
   part_body : (k : GeometryType) (d : Dimension) (b : List Lexeme) → BegunPart (part_of k) d b → BegunBody read (BegunAt read 0) k d b
   part_body kind.Point d b h = h
-  part_body kind.LineString d b h = h
-  part_body kind.Polygon d b h = h
-  part_body kind.MultiPoint d b h = h
-  part_body kind.MultiLineString d b h = h
-  part_body kind.MultiPolygon d b h = h
-  part_body kind.GeometryCollection d b h = h
+  part_body _ d b h = h
 
   module _ (d : Dimension) (n : ℕ) where
     top_begun : (p : Part) → Grows (Top read p d n) (BegunPart p d)
@@ -286,13 +282,7 @@ module _ {N : Type 0} (read : List ℕ → Option N) where
     to_begun part.Area = ended (To read part.Area d n) (BegunPoly read d) (inl (inl refl)) polygon_begun
     to_begun part.AreaRing = ended (To read part.AreaRing d n) (BegunRing read d) (inl (inl refl)) polygon_ring_begun
     to_begun part.Bare = λ ls h. absurd h
-    to_begun part.Point = ended (Top read part.Point d n) (BegunPart part.Point d) (inl (inl refl)) (top_begun part.Point)
-    to_begun part.LineString = ended (Top read part.LineString d n) (BegunPart part.LineString d) (inl (inl refl)) (top_begun part.LineString)
-    to_begun part.Polygon = ended (Top read part.Polygon d n) (BegunPart part.Polygon d) (inl (inl refl)) (top_begun part.Polygon)
-    to_begun part.MultiLineString = ended (Top read part.MultiLineString d n) (BegunPart part.MultiLineString d) (inl (inl refl)) (top_begun part.MultiLineString)
-    to_begun part.MultiPoint = ended (Top read part.MultiPoint d n) (BegunPart part.MultiPoint d) (inl (inl refl)) (top_begun part.MultiPoint)
-    to_begun part.MultiPolygon = ended (Top read part.MultiPolygon d n) (BegunPart part.MultiPolygon d) (inl (inl refl)) (top_begun part.MultiPolygon)
-    to_begun part.Collection = ended (Top read part.Collection d n) (BegunPart part.Collection d) (inl (inl refl)) (top_begun part.Collection)
+    to_begun p = ended (Top read p d n) (BegunPart p d) (inl (inl refl)) (top_begun p)
 
     alone_behind : (p : Part) (ls : List Lexeme) → Then (ToCoord read p d n) (Coord read d) ls → Begun ls
     alone_behind p ls (c, f, x, k, (nums, len), e) = subst Begun (sym e) (coord_begun p c f k (x, nums, omega (arith, len)))
@@ -312,18 +302,9 @@ module _ {N : Type 0} (read : List ℕ → Option N) where
     behind_begun part.Bare = λ ls h. absurd h
     behind_begun part.Collection = λ ls h. absurd h
 
-  nothing : (k : GeometryType) (d : Dimension) → BegunBody read (BegunAt read 0) k d []
-  nothing kind.Point d = inl (inl refl)
-  nothing kind.LineString d = inl (inl refl)
-  nothing kind.Polygon d = inl (inl refl)
-  nothing kind.MultiPoint d = inl (inl refl)
-  nothing kind.MultiLineString d = inl (inl refl)
-  nothing kind.MultiPolygon d = inl (inl refl)
-  nothing kind.GeometryCollection d = inl (inl refl)
-
   pub at_begun : (p : Place) (n : ℕ) (ls : List Lexeme) → over_at p n ≡ false → Progress read p n ls → Begun ls
   at_begun place.Kind n ls o h = subst Begun (append-nil ls) (free_begun n ls [] h (1, inl refl))
-  at_begun (place.Alone p) n ls o h = let (k, is, head) = alone_top read p n ls h in subst Begun (append-nil ls) (headed_begun n 0 (free_begun n) k XY ls [] head (nothing k XY))
+  at_begun (place.Alone p) n ls o h = let (k, is, head) = alone_top read p n ls h in subst Begun (append-nil ls) (headed_begun n 0 (free_begun n) k XY ls [] head (body_nothing read (BegunAt read 0) k XY))
   at_begun (place.Opening p d) n ls o h = to_begun d n p ls h
   at_begun (place.Number p d more) n ls o (c, m, xs, k, nums, len, e) = subst Begun (sym e) (coord_begun d n p c m k (xs, nums, omega (arith, len)))
   at_begun (place.Item p d) n ls o h = behind_begun d n p ls h

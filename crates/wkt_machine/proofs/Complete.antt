@@ -7,7 +7,7 @@ use Rattle.wkt_machine.specs.Events.{Event, axis_of, numbers, further, listed, p
 use Rattle.wkt_machine.specs.Machine.{Move, after, and_then, move, run, numbers_after, at, inside, outside, moved, said, comma_step, last_place, last_step, step, made, part_of, joined_step, kind_step, dimension_step, State}
 use Rattle.wkt_machine.specs.Machine as place
 use Rattle.wkt_access.specs.declared.dimensions.Dimension.{Dimension}
-use Rattle.wkt_access.specs.declared.dimensions.Dimension.TheVariants.{XY, XYZ, XYM, XYZM}
+use Rattle.wkt_access.specs.declared.dimensions.Dimension.TheVariants.{XY}
 use Rattle.wkt_access.specs.Values.{size, Value, Values}
 use Rattle.wkt_read.specs.Grammar.{IsEmptyWord, Within, More, Listed, Perhaps, Numbers, Coord, Ring, Poly, Member, DimPart, Header, StandFor, Geometries, Further}
 use Rattle.wkt_read.proofs.KindWords.{empty_no_dim, is_empty}
@@ -65,22 +65,16 @@ module _ {N : Type 0} (read : List ℕ → Option N) where
 
 pub size_after : (d : Dimension) → size d ≡ suc (numbers_after d)
 size_after XY = refl
-size_after XYZ = refl
-size_after XYM = refl
-size_after XYZM = refl
+size_after _ = refl
 
 pub some_after : (d : Dimension) → 1 ≤ numbers_after d
 some_after XY = omega arith
-some_after XYZ = omega arith
-some_after XYM = omega arith
-some_after XYZM = omega arith
+some_after _ = omega arith
 
 -- the number with most after it is the first
 first_axis : (d : Dimension) → axis_of d (numbers_after d) ≡ axis.X
 first_axis XY = refl
-first_axis XYZ = refl
-first_axis XYM = refl
-first_axis XYZM = refl
+first_axis _ = refl
 
 module _ {N : Type 0} (read : List ℕ → Option N) where
   -- what the last number of a part makes beside its event

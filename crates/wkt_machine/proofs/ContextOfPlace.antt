@@ -1,5 +1,5 @@
 -- What the lexemes before a place say of it is what the machine knows there.
-use Rattle.std.proofs.Common.{◌≡◌, ◌≢◌, ◌+◌, ◌-◌, ℕ, zero, suc, List, [], ◌∷◌, refl, sym, ap, ◌∙◌, subst, arith, Option, Some, None, Bool, true, false, cond}
+use Rattle.std.proofs.Common.{◌≡◌, ◌≢◌, ◌+◌, ◌-◌, ℕ, zero, suc, List, [], ◌∷◌, refl, sym, ap, ◌∙◌, subst, arith, Option, Some, None, Bool, true, false, cond, nat_le}
 use Rattle.wkt_num.specs.Bytes.{Lexeme, Open, Close, Comma, Word, Num}
 use Rattle.wkt_access.specs.declared.dimensions.Dimension.{Dimension}
 use Rattle.wkt_access.specs.declared.dimensions.Dimension.TheVariants.{XY, XYZ, XYM, XYZM}
@@ -11,7 +11,7 @@ use Rattle.wkt_read.proofs.KindWords.{empty_is, empty_no_dim, empty_no_kind, dim
 use Rattle.wkt_machine.specs.Action.{Action}
 use Rattle.wkt_machine.specs.Action as act
 use Rattle.wkt_machine.specs.Machine.{start, Move, at, part_of, numbers_after, inside, outside, joined_step, kind_step, dimension_step, number_step, bare_step, comma_step, said, moved, move, run, Place, State}
-use Rattle.wkt_machine.specs.Refusing.{number_expected, opening_expected, expected_at}
+use Rattle.wkt_machine.specs.Refusing.{number_expected, opening_expected, expected_at, outer_parens}
 use Rattle.wkt_machine.specs.Machine as place
 use Rattle.wkt_machine.specs.declared.part.Part.{Part}
 use Rattle.wkt_machine.specs.declared.part.Part.TheVariants as part
@@ -35,12 +35,7 @@ kind_in part.AreaRing = kind.MultiPolygon
 
 -- Whether a part stands in parentheses of its geometry.
 abbrev pub is_inner : Part → Bool
-is_inner part.Member = true
-is_inner part.Ring = true
-is_inner part.Line = true
-is_inner part.Area = true
-is_inner part.AreaRing = true
-is_inner p = false
+is_inner p = nat_le 1 (outer_parens p)
 
 -- A part that the machine is at, or behind an item of.
 abbrev pub NotBare : Part → Type 0
@@ -81,24 +76,14 @@ inside_fits part.Area d n c h o z = (tt, h, o, z)
 inside_fits part.Collection d n c h o z = (kind.GeometryCollection, h.0)
 inside_fits p d n c h o z = (h, o, omega (arith, z))
 
-outside_fits : (p : Part) (d : Dimension) (n : ℕ) (c : Context) → NotBare p → Of p d c → c.opened ≡ is_inner p → FitsState (outside p d n) c
-outside_fits part.Ring d n c b h o = (tt, h, o)
-outside_fits part.Line d n c b h o = (tt, h, o)
-outside_fits part.Member d n c b h o = (tt, h, o)
+outside_fits : (p : Part) (d : Dimension) (n : ℕ) (c : Context) → NotBare p → Of p d c → (is_inner p ≡ true → c.opened ≡ true) → FitsState (outside p d n) c
+outside_fits part.Ring d n c b h o = (tt, h, o refl)
+outside_fits part.Line d n c b h o = (tt, h, o refl)
+outside_fits part.Member d n c b h o = (tt, h, o refl)
 outside_fits part.Bare d n c b h o = absurd b
-outside_fits part.Area d n c b h o = (tt, h, o)
-outside_fits part.AreaRing d n c b h o = (tt, h, o)
+outside_fits part.Area d n c b h o = (tt, h, o refl)
+outside_fits part.AreaRing d n c b h o = (tt, h, o refl)
 outside_fits p d n c b h o = (kind_in p, h.0)
-
--- the same behind an item
-shut_fits : (p : Part) (d : Dimension) (n : ℕ) (c : Context) → NotBare p → Of p d c → c.opened ≡ true → FitsState (outside p d n) c
-shut_fits part.Ring d n c b h o = (tt, h, o)
-shut_fits part.Line d n c b h o = (tt, h, o)
-shut_fits part.Member d n c b h o = (tt, h, o)
-shut_fits part.Bare d n c b h o = absurd b
-shut_fits part.Area d n c b h o = (tt, h, o)
-shut_fits part.AreaRing d n c b h o = (tt, h, o)
-shut_fits p d n c b h o = (kind_in p, h.0)
 
 some_kind : (c : Context) (o : Option KindWord) (d : Option Dimension) → HasKind c → HasKind (after_word c o d)
 some_kind c (Some e) d h = (e.kind, refl)
@@ -111,12 +96,7 @@ empty_word c w e = ap (λ o. after_word c o (dim_word w)) (empty_no_kind w (empt
 -- a part behind a header
 whole : (k : GeometryType) → NotBare (part_of k) × (is_inner (part_of k) ≡ false) × (kind_in (part_of k) ≡ k)
 whole kind.Point = (tt, refl, refl)
-whole kind.LineString = (tt, refl, refl)
-whole kind.Polygon = (tt, refl, refl)
-whole kind.MultiPoint = (tt, refl, refl)
-whole kind.MultiLineString = (tt, refl, refl)
-whole kind.MultiPolygon = (tt, refl, refl)
-whole kind.GeometryCollection = (tt, refl, refl)
+whole _ = (tt, refl, refl)
 
 header_fits : (k : GeometryType) (j : Option Dimension) (n : ℕ) → FitsState (joined_step (part_of k) j n).0 (record { kind = Some k; dimension = or_else XY j; opened = false; numbers = 0 })
 header_fits k (Some i) n = let (b, outer, same) = whole k in (b, (ap (λ k. Some k) (sym same), refl), sym outer, refl)
@@ -124,9 +104,7 @@ header_fits k None n = let (b, outer, same) = whole k in (b, outer, (ap (λ k. S
 
 after_first : (d : Dimension) (k : ℕ) → k ≡ 0 → suc k + (numbers_after d - 1) ≡ numbers_after d
 after_first XY k z = omega (arith, z)
-after_first XYZ k z = omega (arith, z)
-after_first XYM k z = omega (arith, z)
-after_first XYZM k z = omega (arith, z)
+after_first _ k z = omega (arith, z)
 
 module _ {N : Type 0} (read : List ℕ → Option N) where
   no_fits : (o : Option (Option N)) (c : Context) → FitsAfter (moved read None o) c
@@ -138,11 +116,9 @@ module _ {N : Type 0} (read : List ℕ → Option N) where
   kind_fits (Some e) d c n = header_fits e.kind e.joined n
 
   at_kind : (n : ℕ) (c : Context) (l : Lexeme) → FitsAfter (move read (at n place.Kind) l) (after_lexeme c l)
-  at_kind n c Open = tt
-  at_kind n c Close = tt
-  at_kind n c Comma = tt
   at_kind n c (Word w) = kind_fits (kind_word w) (dim_word w) c n
   at_kind n c (Num run) = no_fits (said read (read run)) (after_lexeme c (Num run))
+  at_kind n c _ = tt
 
   empty_fits : (b : Bool) (w : List ℕ) (s : State) (a : Action) (c : Context) → is_empty_word w ≡ b → FitsState s (after_word c None None) → FitsAfter (moved read (cond b (Some (s, a)) None) (Some None)) (after_lexeme c (Word w))
   empty_fits true w s a c e h = subst (FitsState s) (sym (empty_word c w e)) h
@@ -153,7 +129,7 @@ module _ {N : Type 0} (read : List ℕ → Option N) where
       let same : after_lexeme c (Word w) ≡ after_word c None (Some d) = ap (λ k. after_word c k (dim_word w)) (dim_no_kind w d e) ∙ ap (after_word c None) e in
       let fits : Fits (place.Opening p d) n (after_word c None (Some d)) = (b, (of.0, refl), o ∙ sym outer, refl) in
       subst (Fits (place.Opening p d) n) (sym same) fits
-  dimension_fits None p n c w e (b, outer, of, o) = empty_fits (is_empty_word w) w (outside p XY n) (act.HeaderEmpty p) c refl (outside_fits p XY n _ b of (o ∙ sym outer))
+  dimension_fits None p n c w e (b, outer, of, o) = empty_fits (is_empty_word w) w (outside p XY n) (act.HeaderEmpty p) c refl (outside_fits p XY n _ b of (λ inner. o ∙ sym outer ∙ inner))
 
   at_alone : (p : Part) (n : ℕ) (c : Context) → Fits (place.Alone p) n c → (l : Lexeme) → FitsAfter (move read (at n (place.Alone p)) l) (after_lexeme c l)
   at_alone p n c (b, outer, of, o) Open = inside_fits p XY n _ of refl refl
@@ -171,7 +147,7 @@ module _ {N : Type 0} (read : List ℕ → Option N) where
   at_opening p d n c (b, of, o, z) Open = inside_fits p d n _ of refl refl
   at_opening p d n c h Close = tt
   at_opening p d n c h Comma = tt
-  at_opening p d n c (b, of, o, z) (Word w) = empty_fits (is_empty_word w) w (outside p d n) (act.Empty p) c refl (outside_fits p d n _ b of o)
+  at_opening p d n c (b, of, o, z) (Word w) = empty_fits (is_empty_word w) w (outside p d n) (act.Empty p) c refl (outside_fits p d n _ b of (λ inner. o ∙ inner))
   at_opening p d n c h (Num run) = bare_fits p d n c run (read run) h
 
   last_fits : (p : Part) (d : Dimension) (n : ℕ) (c : Context) → Of p d c → c.opened ≡ true → FitsState (number_step p d 0 n).0 c
@@ -184,11 +160,8 @@ module _ {N : Type 0} (read : List ℕ → Option N) where
   next_fits (Some x) p d (suc more) n c run (of, o, count) = (of, o, omega (arith, count))
 
   at_number : (p : Part) (d : Dimension) (more n : ℕ) (c : Context) → Fits (place.Number p d more) n c → (l : Lexeme) → FitsAfter (move read (at n (place.Number p d more)) l) (after_lexeme c l)
-  at_number p d more n c h Open = tt
-  at_number p d more n c h Close = tt
-  at_number p d more n c h Comma = tt
-  at_number p d more n c h (Word w) = tt
   at_number p d more n c h (Num run) = next_fits (read run) p d more n c run h
+  at_number p d more n c h _ = tt
 
   comma_fits : (p : Part) (d : Dimension) (n : ℕ) (c : Context) → Of p d c → c.opened ≡ true → c.numbers ≡ 0 → FitsAfter (moved read (comma_step p d n) (Some None)) c
   comma_fits part.Point d n c of o z = tt
@@ -197,7 +170,7 @@ module _ {N : Type 0} (read : List ℕ → Option N) where
 
   at_item : (p : Part) (d : Dimension) (n : ℕ) (c : Context) → Fits (place.Item p d) n c → (l : Lexeme) → FitsAfter (move read (at n (place.Item p d)) l) (after_lexeme c l)
   at_item p d n c h Open = tt
-  at_item p d n c (b, of, o) Close = shut_fits p d n _ b of o
+  at_item p d n c (b, of, o) Close = outside_fits p d n _ b of (λ inner. o)
   at_item p d n c (b, of, o) Comma = comma_fits p d n _ of o refl
   at_item p d n c h (Word w) = tt
   at_item p d n c h (Num run) = no_fits (said read (read run)) (after_lexeme c (Num run))
@@ -279,23 +252,18 @@ opening_turn part.Point d n c (b, of, o, z) = other_kind c kind.Point of.0 (λ e
 opening_turn part.LineString d n c (b, of, o, z) = other_kind c kind.LineString of.0 (λ e. cc)
 opening_turn part.Polygon d n c (b, of, o, z) = other_kind c kind.Polygon of.0 (λ e. cc)
 opening_turn part.MultiLineString d n c (b, of, o, z) = other_kind c kind.MultiLineString of.0 (λ e. cc)
-opening_turn part.MultiPolygon d n c (b, of, o, z) = other_kind c kind.MultiPolygon of.0 (λ e. cc)
 opening_turn part.Collection d n c (b, of, o, z) = other_kind c kind.GeometryCollection of.0 (λ e. cc)
 opening_turn part.Ring d n c (b, of, o, z) = other_kind c kind.Polygon of.0 (λ e. cc)
 opening_turn part.Line d n c (b, of, o, z) = other_kind c kind.MultiLineString of.0 (λ e. cc)
-opening_turn part.Area d n c (b, of, o, z) = other_kind c kind.MultiPolygon of.0 (λ e. cc)
-opening_turn part.AreaRing d n c (b, of, o, z) = other_kind c kind.MultiPolygon of.0 (λ e. cc)
+opening_turn _ d n c (b, of, o, z) = other_kind c kind.MultiPolygon of.0 (λ e. cc)
 
 turn_at : (p : Place) (n : ℕ) (c : Context) → Fits p n c → IsTurn (expected_at p n) c
 turn_at place.Kind zero c h = h
 turn_at place.Kind (suc n) c (k, is) = λ e. let clash : ◌≡◌ {A = Option GeometryType} None (Some k) = sym e ∙ is in cc
-turn_at (place.Alone p) n c h = tt
 turn_at (place.Opening p d) n c h = opening_turn p d n c h
 turn_at (place.Number p d more) n c (of, o, count) = number_turn d more c of.1 count
 turn_at (place.Item part.Point d) n c h = tt
-turn_at (place.Item part.Member d) n c h = tt
-turn_at (place.Item p d) n c h = tt
-turn_at place.Geometry n c h = tt
+turn_at _ n c h = tt
 
 -- What is expected where the machine is is the one whose turn it is.
 pub turn : {N : Type 0} (read : List ℕ → Option N) (before : List Lexeme) (m : Move N) → run read start before ≡ Some m → IsTurn (expected_at m.0.place m.0.depth) (context before)

@@ -3,7 +3,7 @@ use Rattle.std.proofs.Common.{◌≡◌, ◌-◌, ℕ, zero, suc, List, [], ◌�
 use Rattle.std.specs.Prelude.{◌⊎◌, ◌↔◌}
 use Rattle.wkt_num.specs.Bytes.{Lexeme, Open, Close, Comma, Word, Num}
 use Rattle.wkt_access.specs.declared.dimensions.Dimension.{Dimension}
-use Rattle.wkt_access.specs.declared.dimensions.Dimension.TheVariants.{XY, XYZ, XYM, XYZM}
+use Rattle.wkt_access.specs.declared.dimensions.Dimension.TheVariants.{XY}
 use Rattle.wkt_read.specs.Grammar.{KindWord, kind_word, dim_word, is_empty_word}
 use Rattle.wkt_read.specs.Begun.{IsDead, opens, closes}
 use Rattle.wkt_read.proofs.KindWords.{empty_is, is_empty}
@@ -128,25 +128,12 @@ module _ {N : Type 0} (read : List ℕ → Option N) where
 
   part_agrees : (p : Part) (d : Dimension) (n : ℕ) (l : Lexeme) → Agrees (move read (at n (place.Opening p d)) l) (IsNamed read (opening_expected p) l)
   part_agrees part.Member d n l = point_agrees d n l
-  part_agrees part.Point d n l = opening_agrees part.Point d n refl l
-  part_agrees part.LineString d n l = opening_agrees part.LineString d n refl l
-  part_agrees part.Polygon d n l = opening_agrees part.Polygon d n refl l
-  part_agrees part.MultiLineString d n l = opening_agrees part.MultiLineString d n refl l
-  part_agrees part.Ring d n l = opening_agrees part.Ring d n refl l
-  part_agrees part.Line d n l = opening_agrees part.Line d n refl l
-  part_agrees part.Bare d n l = opening_agrees part.Bare d n refl l
-  part_agrees part.MultiPoint d n l = opening_agrees part.MultiPoint d n refl l
-  part_agrees part.MultiPolygon d n l = opening_agrees part.MultiPolygon d n refl l
-  part_agrees part.Area d n l = opening_agrees part.Area d n refl l
-  part_agrees part.AreaRing d n l = opening_agrees part.AreaRing d n refl l
-  part_agrees part.Collection d n l = opening_agrees part.Collection d n refl l
+  part_agrees p d n l = opening_agrees p d n refl l
 
   word_agrees : (n : ℕ) (l : Lexeme) → Agrees (move read (at n place.Kind) l) (IsKind l)
-  word_agrees n Open = λ (run, e, q, is). cc
-  word_agrees n Close = λ (run, e, q, is). cc
-  word_agrees n Comma = λ (run, e, q, is). cc
   word_agrees n (Word w) = plain (kind_step (kind_word w) n) (IsKind (Word w)) (kind_agrees (kind_word w) n w refl)
   word_agrees n (Num num) = never_moves (said read (read num)) _ (λ (run, e, q, is). cc)
+  word_agrees n _ = λ (run, e, q, is). cc
 
   alone_agrees : (p : Part) (n : ℕ) (l : Lexeme) → Agrees (move read (at n (place.Alone p)) l) (IsDimension l ⊎ IsOpening l)
   alone_agrees p n Open = inr (inl refl)
@@ -156,11 +143,8 @@ module _ {N : Type 0} (read : List ℕ → Option N) where
   alone_agrees p n (Num num) = never_moves (said read (read num)) _ (neither _ _ (λ (run, d, q, is). cc) (no_opening_num num))
 
   number_agrees : (p : Part) (d : Dimension) (more n : ℕ) (l : Lexeme) → Agrees (move read (at n (place.Number p d more)) l) (IsNumber read l)
-  number_agrees p d more n Open = no_number Open (λ run q. cc)
-  number_agrees p d more n Close = no_number Close (λ run q. cc)
-  number_agrees p d more n Comma = no_number Comma (λ run q. cc)
-  number_agrees p d more n (Word w) = no_number (Word w) (λ run q. cc)
   number_agrees p d more n (Num run) = number_moves (read run) run _ refl
+  number_agrees p d more n l = no_number l (λ run q. cc)
 
   no_more : (l : Lexeme) → (l ≡ Comma → ⊥) → (l ≡ Close → ⊥) → (l ≡ Comma) ⊎ (l ≡ Close) → ⊥
   no_more l a b h = neither _ _ a b h
@@ -182,17 +166,7 @@ module _ {N : Type 0} (read : List ℕ → Option N) where
   item_agrees : (p : Part) (d : Dimension) (n : ℕ) (l : Lexeme) → Agrees (move read (at n (place.Item p d)) l) (IsNamed read (item_expected p) l)
   item_agrees part.Point d n l = closing_agrees part.Point d n refl l
   item_agrees part.Member d n l = closing_agrees part.Member d n refl l
-  item_agrees part.LineString d n l = more_agrees part.LineString d n _ refl l
-  item_agrees part.Polygon d n l = more_agrees part.Polygon d n _ refl l
-  item_agrees part.MultiLineString d n l = more_agrees part.MultiLineString d n _ refl l
-  item_agrees part.Ring d n l = more_agrees part.Ring d n _ refl l
-  item_agrees part.Line d n l = more_agrees part.Line d n _ refl l
-  item_agrees part.Bare d n l = more_agrees part.Bare d n _ refl l
-  item_agrees part.MultiPoint d n l = more_agrees part.MultiPoint d n _ refl l
-  item_agrees part.MultiPolygon d n l = more_agrees part.MultiPolygon d n _ refl l
-  item_agrees part.Area d n l = more_agrees part.Area d n _ refl l
-  item_agrees part.AreaRing d n l = more_agrees part.AreaRing d n _ refl l
-  item_agrees part.Collection d n l = more_agrees part.Collection d n _ refl l
+  item_agrees p d n l = more_agrees p d n _ refl l
 
   geometry_agrees : (n : ℕ) (l : Lexeme) → Agrees (move read (at (suc n) place.Geometry) l) ((l ≡ Comma) ⊎ (l ≡ Close))
   geometry_agrees n Open = no_more Open (λ q. cc) (λ q. cc)
@@ -204,9 +178,7 @@ module _ {N : Type 0} (read : List ℕ → Option N) where
   -- whichever number it is
   last_named : (d : Dimension) (l : Lexeme) → IsNamed read (last_number d) l ≡ IsNumber read l
   last_named XY l = refl
-  last_named XYZ l = refl
-  last_named XYM l = refl
-  last_named XYZM l = refl
+  last_named _ l = refl
 
   number_named : (a b c : Bool) (d : Dimension) (l : Lexeme) → IsNamed read (if a then last_number d else if b then expected.X else if c then expected.Y else expected.Z) l ≡ IsNumber read l
   number_named true b c d l = last_named d l
@@ -240,7 +212,7 @@ module _ {N : Type 0} (read : List ℕ → Option N) where
       let there : run read start (before ++ (l ∷ [])) ≡ Some (m.0, es ++ (m.1 ++ [])) = run_append read before (l ∷ []) start (s, es) e ∙ ap (λ o. after es (and_then o (λ t. run read t []))) is in
       (λ p. alive (before ++ (l ∷ [])) m.0 (es ++ (m.1 ++ [])) there (is_over m.0) refl, λ h. holds)
 
-  -- exactly the expected lexemes could stand there
+  -- exactly the expected lexemes could come next
   pub expected_after : (before : List Lexeme) (s : State) (es : List (Event N)) → run read start before ≡ Some (s, es) → is_over s ≡ false → IsExpectedAfter read before (expected_at s.place s.depth)
   expected_after before s es e o l = could_stand before s es e o l (move read s l) _ refl (agrees_at s.place s.depth o l)
 
@@ -273,12 +245,7 @@ none_around p e = refl
 
 part_around : (k : GeometryType) → outer_parens (part_of k) ≡ 0
 part_around kind.Point = refl
-part_around kind.LineString = refl
-part_around kind.Polygon = refl
-part_around kind.MultiPoint = refl
-part_around kind.MultiLineString = refl
-part_around kind.MultiPolygon = refl
-part_around kind.GeometryCollection = refl
+part_around _ = refl
 
 module _ {N : Type 0} (read : List ℕ → Option N) where
   no_counts : (o : Option (Option N)) (k : ℕ) (l : Lexeme) → Counts k l (moved read None o)
@@ -294,11 +261,9 @@ module _ {N : Type 0} (read : List ℕ → Option N) where
       joined k None = omega arith
 
   at_kind : (n : ℕ) (l : Lexeme) → Counts n l (move read (at n place.Kind) l)
-  at_kind n Open = tt
-  at_kind n Close = tt
-  at_kind n Comma = tt
   at_kind n (Word w) = kind_counts (kind_word w) n w
   at_kind n (Num run) = no_counts (said read (read run)) n (Num run)
+  at_kind n _ = tt
 
   empty_counts : (b : Bool) (k : ℕ) (s : State) (a : Action) (w : List ℕ) → parens s ≡ k → Counts k (Word w) (moved read (cond b (Some (s, a)) None) (Some None))
   empty_counts true k s a w e = omega (arith, e)
@@ -337,11 +302,8 @@ module _ {N : Type 0} (read : List ℕ → Option N) where
   number_counts (Some x) p d (suc more) n run = omega arith
 
   at_number : (p : Part) (d : Dimension) (more n : ℕ) (l : Lexeme) → Counts (outer_parens p + 1 + n) l (move read (at n (place.Number p d more)) l)
-  at_number p d more n Open = tt
-  at_number p d more n Close = tt
-  at_number p d more n Comma = tt
-  at_number p d more n (Word w) = tt
   at_number p d more n (Num run) = number_counts (read run) p d more n run
+  at_number p d more n _ = tt
 
   comma_counts : (p : Part) (d : Dimension) (n : ℕ) → Counts (outer_parens p + 1 + n) Comma (moved read (comma_step p d n) (Some None))
   comma_counts part.Point d n = tt
@@ -376,17 +338,11 @@ module _ {N : Type 0} (read : List ℕ → Option N) where
 
   opens_one : (l : Lexeme) (ls : List Lexeme) → opens (l ∷ ls) ≡ opens (l ∷ []) + opens ls
   opens_one Open ls = omega arith
-  opens_one Close ls = omega arith
-  opens_one Comma ls = omega arith
-  opens_one (Word w) ls = omega arith
-  opens_one (Num w) ls = omega arith
+  opens_one _ ls = omega arith
 
   closes_one : (l : Lexeme) (ls : List Lexeme) → closes (l ∷ ls) ≡ closes (l ∷ []) + closes ls
   closes_one Open ls = omega arith
-  closes_one Close ls = omega arith
-  closes_one Comma ls = omega arith
-  closes_one (Word w) ls = omega arith
-  closes_one (Num w) ls = omega arith
+  closes_one _ ls = omega arith
 
   counted_run : (ls : List Lexeme) (s : State) (c : Context) (m : Move N) → FitsState s c → run read s ls ≡ Some m → parens m.0 + closes ls ≡ parens s + opens ls
   counted_run [] s c m h e =

@@ -1,7 +1,7 @@
 -- A number is taken, or isn't read.
 use Rattle.std.proofs.Common.{◌≡◌, ℕ, suc, ◌-◌, List, [], ◌∷◌, refl, sym, ap, ◌∙◌, subst, Option, Some, None, Bool, true, false, ◌≢◌, cond}
 use Rattle.std.specs.Prelude.{Result, Ok, Err, IfOk, IfErr}
-use Rattle.wkt_num.specs.Bytes.{Lexeme, Num, Word, Open, Close, Comma}
+use Rattle.wkt_num.specs.Bytes.{Lexeme, Num, Word, Open}
 use Rattle.wkt_access.specs.declared.dimensions.Dimension.{Dimension}
 use Rattle.wkt_access.specs.declared.dimensions.Dimension.TheVariants.{XY, XYZ, XYM, XYZM}
 use Rattle.wkt_read.specs.Spanned.{Spanned}
@@ -84,10 +84,8 @@ no_word None w = other_word (dim_word w) (is_empty_word w) w refl
 
 numbered : (l : Lexeme) → seen_of l ≡ seen.Number → (run : List ℕ) × (l ≡ Num run)
 numbered (Num run) e = (run, refl)
-numbered Open e = let never : ⊥ = cc in absurd never
-numbered Close e = let never : ⊥ = cc in absurd never
-numbered Comma e = let never : ⊥ = cc in absurd never
 numbered (Word w) e = absurd (no_word (kind_word w) w e)
+numbered _ e = let never : ⊥ = cc in absurd never
 
 module _ {N S B : Type 0} (read : List ℕ → Option N) (view : View N S) (maker : Maker N B) where
   never_moves : (o : Option (State × Action)) (run : List ℕ) → read run ≡ None → moved read o (said read (read run)) ≡ None
@@ -121,9 +119,7 @@ module _ {N S B : Type 0} (read : List ℕ → Option N) (view : View N S) (make
     where
       open_for : (a : Axis) → over_at (place_of (next.Number a) m.part m.dim) m.depth ≡ false
       open_for axis.X = refl
-      open_for axis.Y = refl
-      open_for axis.Z = refl
-      open_for axis.M = refl
+      open_for _ = refl
 
   module _ (m : Machine) (s t : S) (b c : B) (a : Axis) (at_a : m.state ≡ next.Number a) (sound : IsSound m) (h : MakesOneNumber read view maker s b a t c) where
     has : HasNext (next.Number a) m.dim

@@ -151,12 +151,7 @@ module _ {N : Type 0} (read : List ℕ → Option N) where
   -- after a header
   to_top : (k : GeometryType) (d : Dimension) (n : ℕ) (ls : List Lexeme) → Headed (Free n) k d ls → To (part_of k) d n ls
   to_top kind.Point d n ls h = (kind.Point, refl, h)
-  to_top kind.LineString d n ls h = (kind.LineString, refl, h)
-  to_top kind.Polygon d n ls h = (kind.Polygon, refl, h)
-  to_top kind.MultiPoint d n ls h = (kind.MultiPoint, refl, h)
-  to_top kind.MultiLineString d n ls h = (kind.MultiLineString, refl, h)
-  to_top kind.MultiPolygon d n ls h = (kind.MultiPolygon, refl, h)
-  to_top kind.GeometryCollection d n ls h = (kind.GeometryCollection, refl, h)
+  to_top k d n ls h = (k, refl, h)
 
   -- What stands after the header of a geometry that has this part.
   abbrev pub Body : Part → Dimension → List Lexeme → Type 0
@@ -184,12 +179,8 @@ module _ {N : Type 0} (read : List ℕ → Option N) where
 
   empty_body : (k : GeometryType) (d : Dimension) (f : List Lexeme) → IsEmptyWord f → Body (part_of k) d f
   empty_body kind.Point d f e = (None, e)
-  empty_body kind.LineString d f e = ([], e)
-  empty_body kind.Polygon d f e = ([], e)
-  empty_body kind.MultiPoint d f e = ([], e)
-  empty_body kind.MultiLineString d f e = ([], e)
-  empty_body kind.MultiPolygon d f e = ([], e)
   empty_body kind.GeometryCollection d f e = (Values.no_values, e)
+  empty_body _ d f e = ([], e)
 
   top_empty : (p : Part) (d : Dimension) (n : ℕ) (ls : List Lexeme) (w : List ℕ) → is_empty_word w ≡ true → Top p d n ls → Whole n (ls ++ (Word w ∷ []))
   top_empty p d n ls w is (k, same, (a, h, free, hd, split)) =
@@ -257,9 +248,6 @@ module _ {N : Type 0} (read : List ℕ → Option N) where
   open_keeps part.Point d n a ls h = first_number part.Point d n _ (ls, h, refl)
   open_keeps part.Member d n a ls h = first_number part.Member d n _ (ls, h, refl)
   open_keeps part.LineString d n a ls h = first_number part.LineString d n _ (opened (Coord read d) (Top part.LineString d n) ls h)
-  open_keeps part.Ring d n a ls h = first_number part.Ring d n _ (opened (Coord read d) (To part.Ring d n) ls h)
-  open_keeps part.Line d n a ls h = first_number part.Line d n _ (opened (Coord read d) (To part.Line d n) ls h)
-  open_keeps part.AreaRing d n a ls h = first_number part.AreaRing d n _ (opened (Coord read d) (To part.AreaRing d n) ls h)
   open_keeps part.Polygon d n a ls h = opened (Ring read d) (Top part.Polygon d n) ls h
   open_keeps part.MultiLineString d n a ls h = opened (Ring read d) (Top part.MultiLineString d n) ls h
   open_keeps part.MultiPoint d n a ls h = opened (Member read d) (Top part.MultiPoint d n) ls h
@@ -267,6 +255,7 @@ module _ {N : Type 0} (read : List ℕ → Option N) where
   open_keeps part.Area d n a ls h = opened (Ring read d) (To part.Area d n) ls h
   open_keeps part.Bare d n a ls h = absurd h
   open_keeps part.Collection d n a ls (k, is, h) = (d, opened (StandFor read) (Headed (Free n) kind.GeometryCollection d) ls (subst (λ k. Headed (Free n) k d ls) (collection_kind k is) h))
+  open_keeps p d n a ls h = first_number p d n _ (opened (Coord read d) (To p d n) ls h)
 
   -- a number
   numbers_more : (xs : List N) (x : N) (m : List Lexeme) (run : List ℕ) → Numbers read m xs → read run ≡ Some x → Numbers read (m ++ (Num run ∷ [])) (xs ++ (x ∷ []))
@@ -300,9 +289,6 @@ module _ {N : Type 0} (read : List ℕ → Option N) where
   comma_keeps part.Point d n ls h = tt
   comma_keeps part.Member d n ls h = tt
   comma_keeps part.LineString d n ls h = first_number part.LineString d n _ (next (Coord read d) (Top part.LineString d n) ls h)
-  comma_keeps part.Ring d n ls h = first_number part.Ring d n _ (next (Coord read d) (To part.Ring d n) ls h)
-  comma_keeps part.Line d n ls h = first_number part.Line d n _ (next (Coord read d) (To part.Line d n) ls h)
-  comma_keeps part.AreaRing d n ls h = first_number part.AreaRing d n _ (next (Coord read d) (To part.AreaRing d n) ls h)
   comma_keeps part.Polygon d n ls h = next (Ring read d) (Top part.Polygon d n) ls h
   comma_keeps part.MultiLineString d n ls h = next (Ring read d) (Top part.MultiLineString d n) ls h
   comma_keeps part.MultiPoint d n ls h = next (Member read d) (Top part.MultiPoint d n) ls h
@@ -310,6 +296,7 @@ module _ {N : Type 0} (read : List ℕ → Option N) where
   comma_keeps part.Area d n ls h = next (Ring read d) (To part.Area d n) ls h
   comma_keeps part.Bare d n ls h = absurd h
   comma_keeps part.Collection d n ls h = absurd h
+  comma_keeps p d n ls h = first_number p d n _ (next (Coord read d) (To p d n) ls h)
 
   in_parens : (C : List Lexeme → Type 0) (d : Dimension) (ls : List Lexeme) → Then (Alone C) (Coord read d) ls → Then C (λ f x. Within (λ b. Coord read d b x) f) (ls ++ (Close ∷ []))
   in_parens C d ls (c, f, x, (a, k, e), h, split) =

@@ -21,7 +21,7 @@ use Rattle.wkt_machine.specs.View.{seen_of, seen_word, seen_other, sight, View}
 use Rattle.wkt_machine.specs.declared.machine.LexemeKind.{LexemeKind}
 use Rattle.wkt_types.specs.declared.geometry_type.GeometryType.TheVariants as kind
 use Rattle.wkt_machine.specs.declared.machine.LexemeKind.TheVariants as seen
-use Rattle.wkt_access.specs.declared.dimensions.Dimension.TheVariants.{XY, XYZ, XYM, XYZM}
+use Rattle.wkt_access.specs.declared.dimensions.Dimension.TheVariants.{XY, XYZM}
 use Rattle.wkt_machine.specs.Goes.{Stays, Skips}
 use Rattle.wkt_machine.specs.Machines.{state_of, place_of, next_after}
 use Rattle.wkt_machine.specs.Makers.{Maker}
@@ -39,12 +39,7 @@ use Rattle.wkt_machine.specs.declared.part.Part.TheVariants as part
 -- A kind word is at least as long as its kind's name.
 name_some : (g : GeometryType) → 5 ≤ name_length (part_of g)
 name_some kind.Point = lit≤ tt
-name_some kind.LineString = lit≤ tt
-name_some kind.Polygon = lit≤ tt
-name_some kind.MultiPoint = lit≤ tt
-name_some kind.MultiLineString = lit≤ tt
-name_some kind.MultiPolygon = lit≤ tt
-name_some kind.GeometryCollection = lit≤ tt
+name_some _ = lit≤ tt
 
 abbrev long_row : KindWord → Bool
 long_row e = nat_le (name_length (part_of e.kind)) (length e.word)
@@ -115,11 +110,9 @@ word_cost w (Some e) is = kind_cost w e is
 word_cost w None is = other_cost w (dim_word w) (is_empty_word w) refl
 
 pub cost_seen : (l : Lexeme) → seen_cost (seen_of l) ≤ cost l
-cost_seen Open = lit≤ tt
-cost_seen Close = lit≤ tt
-cost_seen Comma = lit≤ tt
 cost_seen (Num run) = omega arith
 cost_seen (Word w) = word_cost w (kind_word w) refl
+cost_seen _ = lit≤ tt
 
 pub need_seen : (ps qs : List Spanned) (p : Spanned) (k : LexemeKind) → k ≡ sight ps → ps ≡ p ∷ qs → seen_cost k + need qs ≤ need ps
 need_seen ps qs p k sees is =
@@ -132,36 +125,28 @@ pub seen_need : (ps : List Spanned) (k : LexemeKind) → k ≡ sight ps → seen
 seen_need [] k e = let none : seen_cost k ≡ 0 = ap seen_cost e in omega (arith, none)
 seen_need (p ∷ ps) k e = let more = need_seen (p ∷ ps) ps p k e refl in omega (arith, more)
 
--- A mark takes one byte.
-mark_cost : (b : ℕ) (l : Lexeme) → class_of b ≡ Mark l → cost l ≤ 1
+-- A mark is one of three.
+mark_by : (P : Lexeme → Type 0) → P Open → P Close → P Comma → (b : ℕ) (l : Lexeme) → class_of b ≡ Mark l → P l
 unfolding class_of
-mark_cost b l = go (b == 0) (b == 32 || b == 10 || b == 13 || b == 9) (b == 40) (b == 41) (b == 44)
+mark_by P opens closes parts b l = go (b == 0) (b == 32 || b == 10 || b == 13 || b == 9) (b == 40) (b == 41) (b == 44)
   where
-    one : (k : Lexeme) → ◌≡◌ {A = Class} (Mark k) (Mark l) → cost k ≤ 1 → cost l ≤ 1
-    one k e h = let same : k ≡ l = cc in subst (λ l. cost l ≤ 1) same h
+    one : (k : Lexeme) → ◌≡◌ {A = Class} (Mark k) (Mark l) → P k → P l
+    one k e h = let same : k ≡ l = cc in subst P same h
 
-    go : (n w o c m : Bool) → (if n then Nul else (if w then White else (if o then Mark Open else (if c then Mark Close else (if m then Mark Comma else Run))))) ≡ Mark l → cost l ≤ 1
+    go : (n w o c m : Bool) → (if n then Nul else (if w then White else (if o then Mark Open else (if c then Mark Close else (if m then Mark Comma else Run))))) ≡ Mark l → P l
     go true w o c m e = cc
     go false true o c m e = cc
-    go false false true c m e = one Open e (lit≤ tt)
-    go false false false true m e = one Close e (lit≤ tt)
-    go false false false false true e = one Comma e (lit≤ tt)
+    go false false true c m e = one Open e opens
+    go false false false true m e = one Close e closes
+    go false false false false true e = one Comma e parts
     go false false false false false e = cc
+
+-- It takes one byte.
+mark_cost : (b : ℕ) (l : Lexeme) → class_of b ≡ Mark l → cost l ≤ 1
+mark_cost = mark_by (λ l. cost l ≤ 1) (lit≤ tt) (lit≤ tt) (lit≤ tt)
 
 pub marks_one : (b : ℕ) (l : Lexeme) → class_of b ≡ Mark l → 1 ≤ seen_cost (seen_of l)
-unfolding class_of
-marks_one b l = go (b == 0) (b == 32 || b == 10 || b == 13 || b == 9) (b == 40) (b == 41) (b == 44)
-  where
-    one : (k : Lexeme) → ◌≡◌ {A = Class} (Mark k) (Mark l) → 1 ≤ seen_cost (seen_of k) → 1 ≤ seen_cost (seen_of l)
-    one k e h = let same : k ≡ l = cc in subst (λ l. 1 ≤ seen_cost (seen_of l)) same h
-
-    go : (n w o c m : Bool) → (if n then Nul else (if w then White else (if o then Mark Open else (if c then Mark Close else (if m then Mark Comma else Run))))) ≡ Mark l → 1 ≤ seen_cost (seen_of l)
-    go true w o c m e = cc
-    go false true o c m e = cc
-    go false false true c m e = one Open e (lit≤ tt)
-    go false false false true m e = one Close e (lit≤ tt)
-    go false false false false true e = one Comma e (lit≤ tt)
-    go false false false false false e = cc
+marks_one = mark_by (λ l. 1 ≤ seen_cost (seen_of l)) (lit≤ tt) (lit≤ tt) (lit≤ tt)
 
 -- A run takes twice its bytes, and one more.
 shortest_length : (bs : List ℕ) → length (shortest bs) ≤ suc (length bs)
@@ -259,33 +244,17 @@ need_stops feed text at stops = go (class_in feed (get_or text at 0)) refl
 -- Only behind a kind word alone something is owed.
 pub inside_owes : (p : Part) (d : Dimension) (n : ℕ) → owed (inside p d n) ≡ 0
 inside_owes part.Polygon d n = refl
-inside_owes part.MultiLineString d n = refl
-inside_owes part.MultiPoint d n = refl
-inside_owes part.MultiPolygon d n = refl
-inside_owes part.Area d n = refl
-inside_owes part.Collection d n = refl
-inside_owes p d n = refl
+inside_owes _ d n = refl
 
 pub outside_owes : (p : Part) (d : Dimension) (n : ℕ) → owed (outside p d n) ≡ 0
 outside_owes part.Ring d n = refl
-outside_owes part.Line d n = refl
-outside_owes part.Member d n = refl
-outside_owes part.Bare d n = refl
-outside_owes part.Area d n = refl
-outside_owes part.AreaRing d n = refl
-outside_owes p d n = refl
+outside_owes _ d n = refl
 
 pub after_owes : (a : Axis) (d : Dimension) (p : Part) (n : ℕ) → owed (at n (place_of (next_after a d) p d)) ≡ 0
 after_owes axis.X d p n = refl
 after_owes axis.Y XY p n = refl
-after_owes axis.Y XYZ p n = refl
-after_owes axis.Y XYM p n = refl
-after_owes axis.Y XYZM p n = refl
 after_owes axis.Z XYZM p n = refl
-after_owes axis.Z XY p n = refl
-after_owes axis.Z XYZ p n = refl
-after_owes axis.Z XYM p n = refl
-after_owes axis.M d p n = refl
+after_owes _ _ p n = refl
 
 module _ {N S B : Type 0} (view : View N S) (maker : Maker N B) where
   -- no call takes no room

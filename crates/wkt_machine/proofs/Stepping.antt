@@ -78,33 +78,21 @@ word_step p n o d b = None
 
 words_step : (p : Place) (n : ℕ) (o : Option KindWord) (d : Option Dimension) (b : Bool) → Words o d b → seen_at p n (word_seen o d b) ≡ word_step p n o d b
 words_step place.Kind n (Some e) None false h = refl
-words_step place.Kind n None (Some d) false h = refl
-words_step place.Kind n None None true h = refl
-words_step place.Kind n None None false h = refl
 words_step (place.Alone p) n (Some e) None false h = refl
-words_step (place.Alone p) n None (Some d) false h = refl
-words_step (place.Alone p) n None None true h = refl
-words_step (place.Alone p) n None None false h = refl
-words_step (place.Opening p d) n (Some e) None false h = refl
-words_step (place.Opening p d) n None (Some f) false h = refl
-words_step (place.Opening p d) n None None true h = refl
-words_step (place.Opening p d) n None None false h = refl
-words_step (place.Number p d more) n (Some e) None false h = refl
-words_step (place.Number p d more) n None (Some f) false h = refl
-words_step (place.Number p d more) n None None true h = refl
-words_step (place.Number p d more) n None None false h = refl
-words_step (place.Item p d) n (Some e) None false h = refl
-words_step (place.Item p d) n None (Some f) false h = refl
-words_step (place.Item p d) n None None true h = refl
-words_step (place.Item p d) n None None false h = refl
 words_step place.Geometry zero (Some e) None false h = refl
-words_step place.Geometry zero None (Some f) false h = refl
+words_step _ n (Some e) None false h = refl
+words_step place.Kind n None (Some d) false h = refl
+words_step (place.Alone p) n None (Some d) false h = refl
+words_step place.Geometry zero None (Some d) false h = refl
+words_step _ n None (Some d) false h = refl
+words_step place.Kind n None None true h = refl
+words_step (place.Alone p) n None None true h = refl
 words_step place.Geometry zero None None true h = refl
+words_step _ n None None true h = refl
+words_step place.Kind n None None false h = refl
+words_step (place.Alone p) n None None false h = refl
 words_step place.Geometry zero None None false h = refl
-words_step place.Geometry (suc n) (Some e) None false h = refl
-words_step place.Geometry (suc n) None (Some f) false h = refl
-words_step place.Geometry (suc n) None None true h = refl
-words_step place.Geometry (suc n) None None false h = refl
+words_step _ n None None false h = refl
 words_step p n (Some e) (Some d) b h = absurd h
 words_step p n (Some e) None true h = absurd h
 words_step p n None (Some d) true h = absurd h
@@ -121,11 +109,9 @@ word_steps (place.Alone p) n w = go (dim_word w)
     go : (o : Option Dimension) → dimension_step o p w n ≡ word_step (place.Alone p) n (kind_word w) o (is_empty_word w)
     go (Some d) = refl
     go None = refl
-word_steps (place.Opening p d) n w = refl
-word_steps (place.Number p d more) n w = refl
-word_steps (place.Item p d) n w = refl
 word_steps place.Geometry zero w = refl
 word_steps place.Geometry (suc n) w = refl
+word_steps _ n w = refl
 
 -- The table over what is seen is the table over lexemes.
 pub seen_is : (p : Place) (n : ℕ) (l : Lexeme) → seen_at p n (seen_of l) ≡ step_at p n l
@@ -134,33 +120,17 @@ seen_is p n (Word w) =
     ∙ words_step p n (kind_word w) (dim_word w) (is_empty_word w) (words w (kind_word w) (dim_word w) (is_empty_word w) refl refl refl)
     ∙ sym (word_steps p n w)
 seen_is place.Kind n Open = refl
-seen_is place.Kind n Close = refl
-seen_is place.Kind n Comma = refl
-seen_is place.Kind n (Num w) = refl
-seen_is (place.Alone p) n Open = refl
-seen_is (place.Alone p) n Close = refl
-seen_is (place.Alone p) n Comma = refl
-seen_is (place.Alone p) n (Num w) = refl
-seen_is (place.Opening p d) n Open = refl
-seen_is (place.Opening p d) n Close = refl
-seen_is (place.Opening p d) n Comma = refl
-seen_is (place.Opening p d) n (Num w) = refl
-seen_is (place.Number p d more) n Open = refl
-seen_is (place.Number p d more) n Close = refl
-seen_is (place.Number p d more) n Comma = refl
-seen_is (place.Number p d more) n (Num w) = refl
-seen_is (place.Item p d) n Open = refl
-seen_is (place.Item p d) n Close = refl
-seen_is (place.Item p d) n Comma = refl
-seen_is (place.Item p d) n (Num w) = refl
 seen_is place.Geometry zero Open = refl
+seen_is _ n Open = refl
+seen_is place.Kind n Close = refl
 seen_is place.Geometry zero Close = refl
+seen_is _ n Close = refl
+seen_is place.Kind n Comma = refl
 seen_is place.Geometry zero Comma = refl
+seen_is _ n Comma = refl
+seen_is place.Kind n (Num w) = refl
 seen_is place.Geometry zero (Num w) = refl
-seen_is place.Geometry (suc n) Open = refl
-seen_is place.Geometry (suc n) Close = refl
-seen_is place.Geometry (suc n) Comma = refl
-seen_is place.Geometry (suc n) (Num w) = refl
+seen_is _ n (Num w) = refl
 
 -- What isn't seen at a place.
 pub kind_none : (n : ℕ) (k : LexemeKind) → ((g : GeometryType) (d : Option Dimension) → k ≡ seen.Kind g d → ⊥) → seen_at place.Kind n k ≡ None
@@ -229,10 +199,7 @@ module _ {N S B : Type 0} (read : List ℕ → Option N) (view : View N S) (make
   -- what isn't seen as a number has none
   no_number : (l : Lexeme) → seen_of l ≢ seen.Number → number_of read l ≡ Some None
   no_number (Num run) never = absurd (never refl)
-  no_number Open never = refl
-  no_number Close never = refl
-  no_number Comma never = refl
-  no_number (Word w) never = refl
+  no_number _ never = refl
 
   pub from_goes : (m : Machine) (s t : S) (b : B) (to : Progress S B) → Stays view s t → Goes read view maker m t b to → Goes read view maker m s b to
   from_goes m s t b to stays h = record {

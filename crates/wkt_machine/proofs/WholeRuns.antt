@@ -76,10 +76,7 @@ module _ {N : Type 0} (read : List ℕ → Option N) where
     where
       at_place : (p : Place) (n : ℕ) (l : Lexeme) → over_at p n ≡ true → move read (at n p) l ≡ None
       at_place place.Geometry zero Open e = refl
-      at_place place.Geometry zero Close e = refl
-      at_place place.Geometry zero Comma e = refl
-      at_place place.Geometry zero (Word w) e = refl
-      at_place place.Geometry zero (Num w) e = refl
+      at_place place.Geometry zero _ e = refl
       at_place p n l e = let no : ⊥ = cc in absurd no
 
   -- a front of a run is a run

@@ -111,7 +111,7 @@ comma_step part.Point d n = None
 comma_step part.Member d n = None
 comma_step p d n = Some (inside p d n, act.Comma p)
 
--- what each lexeme does at each place; no other may stand there
+-- what each lexeme does at each place; no other may come next
 abbrev pub step_at : Place → ℕ → Lexeme → Option (State × Action)
 step_at Kind n (lex.Word w) = kind_step (kind_word w) n
 step_at (Alone p) n (lex.Word w) = dimension_step (dim_word w) p w n

@@ -61,7 +61,7 @@ pub record View (N S : Type 0) : Type 1 where
 
 -- Places in bytes.
 
--- No white space stands there.
+-- No white space comes next.
 abbrev pub IsDark : Bool → List ℕ → ℕ → Type 0
 IsDark feed text at = class_in feed (get_or text at 0) ≢ White
 

@@ -1,4 +1,4 @@
--- The number that the window shows stands there.
+-- The number that the window shows comes next.
 use Rattle.wkt_machine.proofs.Windows.{shown-there}
 use Rattle.wkt_machine.proofs.numbers.read_by.Goals as goal
 

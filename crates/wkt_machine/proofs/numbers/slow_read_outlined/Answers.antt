@@ -1,4 +1,4 @@
--- The number that the window shows stands there.
+-- The number that the window shows comes next.
 use Rattle.std.proofs.Common.{arith, length, ◌-◌, take, drop}
 use Rattle.wkt_machine.proofs.Windows.{none-unrun, padded-shows, shown-there, zero-at}
 use Rattle.wkt_machine.proofs.numbers.slow_read_outlined.Goals as goal

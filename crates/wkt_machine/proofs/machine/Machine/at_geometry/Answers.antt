@@ -1,4 +1,4 @@
--- What ends a geometry is taken, or what stands there stays.
+-- What ends a geometry is taken, or the lexeme is refused where it is.
 use Rattle.std.proofs.Common.{refl, sym, ap, subst, arith}
 use Rattle.wkt_machine.specs.Machines.{state_of, IsSound}
 use Rattle.wkt_machine.specs.declared.machine.LexemeKind.TheVariants as sees

@@ -1,4 +1,4 @@
--- A kind word is taken, or what stands there stays.
+-- A kind word is taken, or the lexeme is refused where it is.
 use Rattle.std.proofs.Common.{refl, sym, ap, ◌∙◌, subst, None, Some, [], ◌∷◌, arith}
 use Rattle.wkt_machine.specs.Events.{Event}
 use Rattle.wkt_machine.specs.Machine.{at}

@@ -1,4 +1,4 @@
--- A number is taken, or what stands there stays.
+-- A number is taken, or the lexeme is refused where it is.
 use Rattle.std.proofs.Common.{refl, sym, ap, ◌∙◌, arith}
 use Rattle.wkt_machine.specs.Machine.{at}
 use Rattle.wkt_machine.specs.Machines.{state_of, place_of}

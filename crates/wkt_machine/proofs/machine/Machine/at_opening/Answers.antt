@@ -1,4 +1,4 @@
--- What begins a part is taken, or what stands there stays.
+-- What begins a part is taken, or the lexeme is refused where it is.
 use Rattle.std.proofs.Common.{refl, sym, ◌∙◌, arith}
 use Rattle.wkt_machine.specs.declared.machine.LexemeKind.TheVariants as sees
 use Rattle.wkt_machine.specs.declared.machine.State.TheVariants as next
