@@ -1,4 +1,4 @@
 pub mod ValueFromEvents
-mod TreeHolds
+pub mod TreeHolds
 pub mod Reading
 pub mod ReadValues

@@ -19,7 +19,7 @@ use Rattle.wkt_types.specs.Tree.{tree, wkt_step, collection_step, Tree as Kept}
 use Rattle.wkt_types.specs.declared.geometry.Wkt.{Wkt}
 use Rattle.wkt_values.specs.Trees.{lists_append, tree_maker, tree_of, Grew, Holds, HoldsWhole, IsLost, HoldsEnded, IsPair, coord_by, coord_of}
 use Rattle.wkt_values.specs.Growing.{Growing, rest, lists_any}
-use Rattle.wkt_values.specs.Values.{AnswersTree, IsRead, OnMemory, OnRefused, WantsMemory, AnswersReader}
+use Rattle.wkt_values.specs.Values.{AnswersTree, IsRead, OnMemory, OnRefused, WantsMemory}
 use Rattle.wkt_sources.specs.Taken.{MachineRefuses, TakesValue}
 use Rattle.wkt_machine.specs.declared.machine.Machine.{Machine}
 use Rattle.wkt_values.specs.declared.tree.Tree.{Tree}
@@ -30,13 +30,11 @@ use Rattle.wkt_read.specs.Answered.{IsFrontTo}
 use Rattle.wkt_types.specs.Held.{numbers_of, HeldPoint}
 use Rattle.wkt_types.specs.Values.{HasDimIfAny, IsWktOf}
 use Rattle.wkt_types.specs.declared.coord.Coord.{Coord}
-use Rattle.wkt_read.specs.declared.error.ReadError.{ReadError}
 use Rattle.wkt_values.specs.declared.tree.WktBuilder.{WktBuilder}
 use Rattle.wkt_machine.specs.declared.part.Part.TheVariants as part
 use Rattle.wkt_types.specs.declared.geometry.Wkt.TheVariants as variants
 use Rattle.wkt_types.specs.declared.geometry.Wkt.TheFolds as folds
 use Rattle.wkt_types.specs.declared.geometry.Wkt.TheOpen as opened
-use Rattle.wkt_read.specs.declared.error.ReadError.TheVariants as reader
 use Rattle.wkt_values.specs.declared.tree.Ended.TheVariants as ended
 use Rattle.wkt_sources.proofs.FrontValues.{taken, refused, front_whole, front_taken, no_front_refused}
 
@@ -65,28 +63,19 @@ module _ {N S : Type 0} (is_value : N → Type 0) (read : List ℕ → Option N)
       subst (λ w. Holds u w ⊎ (IsLost u × (lists_any (events v) ≡ true))) k.is (grew.holds (rest [] None) begins k.may)
 
   module _ (t u : Tree N) (s r : S) (begins : Holds t (rest [] None)) (h : (v : Value N) × TakesValue read view s v r × Grew t (events v) u) where
-    pub read_off : (a : Result (Wkt N) Unread) → AnswersTree u a → IfOk a (λ w. IsRead read view s (tree w) r)
-    read_off (Err e) k = tt
-    read_off (Ok w) (kept, is) = go (grown t u s r h.0 h.1 begins h.2)
+    pub read_off : (w : Wkt N) → AnswersTree u (Ok w) → IsRead read view s (tree w) r
+    read_off w (kept, is) = go (grown t u s r h.0 h.1 begins h.2)
       where
         go : HoldsWhole u [] h.0 ⊎ (IsLost u × (lists_any (events h.0) ≡ true)) → IsRead read view s (tree w) r
         go (inl whole) = (h.0, h.1, is h.0 whole)
         go (inr (lost, lists)) = let clash : false ≡ true = sym kept ∙ lost in cc
 
-    pub wants_memory : (a : Result (Wkt N) Unread) → AnswersTree u a → OnMemory a (WantsMemory read view s r)
-    wants_memory (Ok w) k = tt
-    wants_memory (Err (Refused m)) k = tt
-    wants_memory (Err (Memory e)) lost = (h.0, h.1, go (grown t u s r h.0 h.1 begins h.2))
+    pub wants_memory : (e : AllocError) → AnswersTree u (Err e) → WantsMemory read view s r
+    wants_memory e lost = (h.0, h.1, go (grown t u s r h.0 h.1 begins h.2))
       where
         go : HoldsWhole u [] h.0 ⊎ (IsLost u × (lists_any (events h.0) ≡ true)) → NeedsNoMemory h.0 → ⊥
         go (inl whole) free = let clash : false ≡ true = sym whole.kept ∙ lost in cc
         go (inr (l, lists)) free = let clash : false ≡ true = sym (free_lists h.0 free) ∙ lists in cc
-
--- a tree isn't refused
-pub never_refused : {N : Type 0} (P : Machine → Type 0) (t : Tree N) (a : Result (Wkt N) Unread) → AnswersTree t a → OnRefused a P
-never_refused P t (Ok w) k = tt
-never_refused P t (Err (Refused m)) k = absurd k
-never_refused P t (Err (Memory e)) k = tt
 
 -- what is lent is held
 pub lent : {N : Type 0} (b c : MutBor (Tree N)) (w : Growing N) → b ≡ c → Holds c.now w → Holds b.now w
@@ -150,16 +139,9 @@ module _ {N S : Type 0} (is_value : N → Type 0) (read : List ℕ → Option N)
   pub ended_found_to : (w : Wkt N) → AnswersTree u (Ok w) → IsFrontTo read text (tree w) upto
   ended_found_to w k =
       found_in read view text s begins to.source upto ends w (Ok w) refl
-      (read_off is_value read values view (tree_of b).now u s to.source empty grew_driven (Ok w) k)
+      (read_off is_value read values view (tree_of b).now u s to.source empty grew_driven w k)
 
-  pub answer_found_to : (w : Wkt N) → AnswersReader u (Ok w) → IsFrontTo read text (tree w) upto
-  answer_found_to w k = ended_found_to w k
-
-  lost_driven : (e : AllocError) → AnswersTree u (Err (Memory e)) → (v : Value N) (end : ℕ) → Front read text v end → NeedsNoMemory v → ⊥
+  pub lost_driven : (e : AllocError) → AnswersTree u (Err e) → (v : Value N) (end : ℕ) → Front read text v end → NeedsNoMemory v → ⊥
   lost_driven e k v end is_front free =
       memory_in read view text s begins to.source e (Memory e) (Err (Memory e)) refl refl
-      (wants_memory is_value read values view (tree_of b).now u s to.source empty grew_driven (Err (Memory e)) k) ⊥ v end is_front free
-
-  pub answer_lost_free : (e : ReadError) → AnswersReader u (Err e) → (v : Value N) (end : ℕ) → Front read text v end → NeedsNoMemory v → ⊥
-  answer_lost_free (reader.Text m) k v end is_front free = absurd k
-  answer_lost_free (reader.Memory e) k v end is_front free = lost_driven e k v end is_front free
+      (wants_memory is_value read values view (tree_of b).now u s to.source empty grew_driven e k) ⊥ v end is_front free

@@ -14,10 +14,11 @@ use Rattle.wkt_types.specs.Tree as trees
 use Rattle.wkt_types.specs.Values.{HasDim, HasDimIfAny, IsPointIn, IsLineStringIn, IsPolygonIn, IsUniform, AreUniform, IsWktOf, value_of, values_of, point_numbers, line_string_numbers, polygon_numbers}
 use Rattle.wkt_types.specs.declared.geometry.Wkt.{Wkt}
 use Rattle.wkt_machine.specs.Events.{Event}
-use Rattle.wkt_values.specs.Growing.{Frame, Growing, coord, numbers_by, headed, rest, members_of, joined, opened, with_line, with_point, ended, grow, lists, lists_end, shut, HasMember, HasPoint, MayCome, MayEnd, MayOpen, with_number, MayJoin, with_item as grown_item, MayBeEmpty, without_items, lists_items}
-use Rattle.wkt_values.specs.Trees.{wkt_value, UniformWkt, HoldsFrame, HoldsFrames, coord_by, coord_of, HasOnly, AllIn, HoldsParts, HoldsWhole, HoldsBy, Holds, IsLost, Becomes, Grew, TreeGives, GivesLast, Joins}
+use Rattle.wkt_values.specs.Growing.{Frame, Growing, HasParts, coord, numbers_by, headed, rest, members_of, joined, opened, with_line, with_point, ended, grow, lists, lists_end, shut, HasMember, HasPoint, MayCome, MayEnd, MayOpen, with_number, MayJoin, with_item as grown_item, MayBeEmpty, without_items, lists_items}
+use Rattle.wkt_values.specs.Trees.{wkt_value, UniformWkt, HoldsFrame, HoldsFrames, coord_by, coord_of, HasOnly, AllIn, HoldsParts, HoldsEnded, HoldsWhole, HoldsBy, Holds, IsLost, Becomes, Grew, TreeGives, GivesLast, Joins}
 use Rattle.wkt_machine.specs.declared.part.Part.{Part}
 use Rattle.wkt_machine.specs.declared.part.Part.TheVariants as part
+use Rattle.wkt_values.specs.declared.tree.Ended.{Ended}
 use Rattle.wkt_values.specs.declared.tree.Ended.TheVariants as last
 use Rattle.wkt_values.specs.declared.tree.OpenCollection.{OpenCollection}
 use Rattle.wkt_values.specs.declared.tree.Tree.{Tree}
@@ -51,10 +52,14 @@ some_none : {A : Type 0} (o : Option A) → o ≡ None → IsSome o → ⊥
 some_none None e h = cc
 some_none (Some x) e h = cc
 
+pub none_open : {A C : Type 0} (o : Option A) (cs : List C) (n : ℕ) → n ≡ length cs → (0 < n → IsSome o) → o ≡ None → cs ≡ []
+none_open o [] n e h none = refl
+none_open o (c ∷ cs) n e h none = absurd (some_none o none (h (omega (arith, e))))
+
 none-last : {A : Type 0} (xs : List A) (x : A) → xs ++ (x ∷ []) ≡ [] → ⊥
 none-last xs x e = omega (arith, ap length e, length-append xs (x ∷ []))
 
-last-same : {A : Type 0} (xs ys : List A) (x y : A) → xs ++ (x ∷ []) ≡ ys ++ (y ∷ []) → (xs ≡ ys) × (x ≡ y)
+pub last-same : {A : Type 0} (xs ys : List A) (x y : A) → xs ++ (x ∷ []) ≡ ys ++ (y ∷ []) → (xs ≡ ys) × (x ≡ y)
 last-same [] [] x y e = (refl, let same : x ≡ y = cc in same)
 last-same [] (z ∷ ys) x y e = absurd (omega (arith, ap length e, length-append ys (y ∷ [])))
 last-same (z ∷ xs) [] x y e = absurd (omega (arith, ap length e, length-append xs (x ∷ [])))
@@ -195,10 +200,6 @@ module _ {T : Type 0} where
         (member_joins t (with_item t.outer n d) c d before w (items ∙ ap (λ x. before ++ (x ∷ [])) (sym same)) (ap (λ l. slice_set l n d) items ∙ set_at before x [] d n count) refl members).joins f o value kept only frames is;
   }
 
-  pub none_open : {A : Type 0} (o : Option A) (cs : List (OpenCollection T)) (n : ℕ) → n ≡ length cs → (0 < n → IsSome o) → o ≡ None → cs ≡ []
-  none_open o [] n e h none = refl
-  none_open o (c ∷ cs) n e h none = absurd (some_none o none (h (omega (arith, e))))
-
   -- none is open
   pub none_joins : (t u : Tree T) (w : Wkt T) → t.outer.items ≡ [] → u.is_lost ≡ t.is_lost → Joins t w u
   none_joins t u w none lost = record {
@@ -224,95 +225,56 @@ module _ {T : Type 0} where
       either w f (inl h) = inl (f h)
       either w f (inr l) = inr (l, refl)
 
-  -- a part ends whose items are whole
-  pub whole_point : (t : Tree T) → Becomes false (MayEnd part.Point) (ended part.Point) t (record t { last = last.Point })
-  whole_point t = record {
-    stays = λ h. h;
-    holds = λ w h (p, has).
-        let k = parts_of t w has.grown h in
-        inl (record {
-          kept = k.kept;
-          all_in = k.all_in;
-          whole = (
-            ap (λ d. Value.point d (option_map numbers_of (coord_of t))) k.dim ∙ ap (λ c. Value.point w.dim c) (hand_coord t w k),
-            hand_in t w k p.1,
-            (k.parts.0 ∙ has.coords, k.parts.1 ∙ has.points, k.parts.2 ∙ has.lines, k.parts.3 ∙ has.areas),
-            k.open_ones,
-          );
-        });
-  }
+  -- these parts alone are at hand
+  only_of : (t : Tree T) (w : Growing T) {cs : List (List T)} {ps : List (Option (List T))} {ls : List (List (List T))} {ys : List (List (List (List T)))} → HoldsParts t w → HasParts cs ps ls ys w → HasOnly t cs ps ls ys
+  only_of t w k has = (k.parts.0 ∙ has.coords, k.parts.1 ∙ has.points, k.parts.2 ∙ has.lines, k.parts.3 ∙ has.areas)
 
-  pub whole_line_string : (t : Tree T) → Becomes false (MayEnd part.LineString) (ended part.LineString) t (record t { last = last.LineString })
-  whole_line_string t = record {
-    stays = λ h. h;
-    holds = λ w h has.
-        let k = parts_of t w has.grown h in
-        inl (record {
-          kept = k.kept;
-          all_in = k.all_in;
-          whole = (w.coords, ap (λ d. Value.line_string d w.coords) k.dim, (k.parts.0, k.parts.1 ∙ has.points, k.parts.2 ∙ has.lines, k.parts.3 ∙ has.areas), k.open_ones);
-        });
-  }
+  -- A part ends whose items are whole.
 
-  pub whole_polygon : (t : Tree T) → Becomes false (MayEnd part.Polygon) (ended part.Polygon) t (record t { last = last.Polygon })
-  whole_polygon t = record {
-    stays = λ h. h;
-    holds = λ w h has.
-        let k = parts_of t w has.grown h in
-        inl (record {
-          kept = k.kept;
-          all_in = k.all_in;
-          whole = (w.lines, ap (λ d. Value.polygon d w.lines) k.dim, (k.parts.0 ∙ has.coords, k.parts.1 ∙ has.points, k.parts.2, k.parts.3 ∙ has.areas), k.open_ones);
-        });
-  }
+  ends_by : (p q : Part) (t u s : Tree T) → p ≡ q → u ≡ s → Becomes (lists_end q) (MayEnd q) (ended q) t s → Becomes (lists_end p) (MayEnd p) (ended p) t u
+  ends_by p q t u s e f h = subst (λ p. Becomes (lists_end p) (MayEnd p) (ended p) t u) (sym e) (subst (λ u. Becomes (lists_end q) (MayEnd q) (ended q) t u) (sym f) h)
 
-  pub whole_multi_point : (t : Tree T) → Becomes false (MayEnd part.MultiPoint) (ended part.MultiPoint) t (record t { last = last.MultiPoint })
-  whole_multi_point t = record {
-    stays = λ h. h;
-    holds = λ w h has.
-        let k = parts_of t w has.grown h in
-        inl (record {
-          kept = k.kept;
-          all_in = k.all_in;
-          whole = (w.points, ap (λ d. Value.multi_point d w.points) k.dim, (k.parts.0 ∙ has.coords, k.parts.1, k.parts.2 ∙ has.lines, k.parts.3 ∙ has.areas), k.open_ones);
-        });
-  }
+  -- that of a geometry, which has this value
+  whole_by : (q : Part) (l : Ended) (value : Growing T → Value T) → ((w : Growing T) → MayEnd q w → (w.grown ≡ None) × (ended q w ≡ rest w.outer (Some (value w))))
+      → ((t : Tree T) (w : Growing T) → HoldsParts t w → MayEnd q w → HoldsEnded l (record t { last = l }) w.outer (value w)) → (p : Part) (t u : Tree T) → p ≡ q → u ≡ record t { last = l } → Becomes (lists_end p) (MayEnd p) (ended p) t u
+  whole_by q l value grows whole p t u e f =
+      let s : Tree T = record t { last = l } in
+      ends_by p q t u s e f (record {
+        stays = λ h. h;
+        holds = λ w h may.
+            let (grown, same) = grows w may in
+            let k = parts_of t w grown h in
+            inl (subst (Holds s) (sym same) (record { kept = k.kept; all_in = k.all_in; whole = whole t w k may }));
+      })
 
-  pub whole_multi_line_string : (t : Tree T) → Becomes false (MayEnd part.MultiLineString) (ended part.MultiLineString) t (record t { last = last.MultiLineString })
-  whole_multi_line_string t = record {
-    stays = λ h. h;
-    holds = λ w h has.
-        let k = parts_of t w has.grown h in
-        inl (record {
-          kept = k.kept;
-          all_in = k.all_in;
-          whole = (w.lines, ap (λ d. Value.multi_line_string d w.lines) k.dim, (k.parts.0 ∙ has.coords, k.parts.1 ∙ has.points, k.parts.2, k.parts.3 ∙ has.areas), k.open_ones);
-        });
-  }
+  pub whole_point : (p : Part) (t u : Tree T) → p ≡ part.Point → u ≡ record t { last = last.Point } → Becomes (lists_end p) (MayEnd p) (ended p) t u
+  whole_point = whole_by part.Point last.Point (λ w. Value.point w.dim (coord w.hand)) (λ w may. (may.1.grown, refl)) (λ t w k (p, has).
+      (ap (λ d. Value.point d (option_map numbers_of (coord_of t))) k.dim ∙ ap (λ c. Value.point w.dim c) (hand_coord t w k), hand_in t w k p.1, only_of t w k has, k.open_ones))
 
-  pub whole_multi_polygon : (t : Tree T) → Becomes false (MayEnd part.MultiPolygon) (ended part.MultiPolygon) t (record t { last = last.MultiPolygon })
-  whole_multi_polygon t = record {
-    stays = λ h. h;
-    holds = λ w h has.
-        let k = parts_of t w has.grown h in
-        inl (record {
-          kept = k.kept;
-          all_in = k.all_in;
-          whole = (w.areas, ap (λ d. Value.multi_polygon d w.areas) k.dim, (k.parts.0 ∙ has.coords, k.parts.1 ∙ has.points, k.parts.2 ∙ has.lines, k.parts.3), k.open_ones);
-        });
-  }
+  pub whole_line_string : (p : Part) (t u : Tree T) → p ≡ part.LineString → u ≡ record t { last = last.LineString } → Becomes (lists_end p) (MayEnd p) (ended p) t u
+  whole_line_string = whole_by part.LineString last.LineString (λ w. Value.line_string w.dim w.coords) (λ w has. (has.grown, refl)) (λ t w k has. (w.coords, ap (λ d. Value.line_string d w.coords) k.dim, only_of t w k has, k.open_ones))
 
-  pub whole_collection : (t : Tree T) → Becomes false (MayEnd part.Collection) (ended part.Collection) t (record t { last = last.Collection })
-  whole_collection t = record {
-    stays = λ h. h;
-    holds = λ w h ((f, o, e), has).
-        let k = parts_of t w has.grown h in
-        inl (subst (λ o. Holds (record t { last = last.Collection }) (shut o)) (sym e) (record {
-          kept = k.kept;
-          all_in = k.all_in;
-          whole = (f, refl, (k.parts.0 ∙ has.coords, k.parts.1 ∙ has.points, k.parts.2 ∙ has.lines, k.parts.3 ∙ has.areas), subst (HoldsFrames t.outer.items) e k.open_ones);
-        }));
-  }
+  pub whole_polygon : (p : Part) (t u : Tree T) → p ≡ part.Polygon → u ≡ record t { last = last.Polygon } → Becomes (lists_end p) (MayEnd p) (ended p) t u
+  whole_polygon = whole_by part.Polygon last.Polygon (λ w. Value.polygon w.dim w.lines) (λ w has. (has.grown, refl)) (λ t w k has. (w.lines, ap (λ d. Value.polygon d w.lines) k.dim, only_of t w k has, k.open_ones))
+
+  pub whole_multi_point : (p : Part) (t u : Tree T) → p ≡ part.MultiPoint → u ≡ record t { last = last.MultiPoint } → Becomes (lists_end p) (MayEnd p) (ended p) t u
+  whole_multi_point = whole_by part.MultiPoint last.MultiPoint (λ w. Value.multi_point w.dim w.points) (λ w has. (has.grown, refl)) (λ t w k has. (w.points, ap (λ d. Value.multi_point d w.points) k.dim, only_of t w k has, k.open_ones))
+
+  pub whole_multi_line_string : (p : Part) (t u : Tree T) → p ≡ part.MultiLineString → u ≡ record t { last = last.MultiLineString } → Becomes (lists_end p) (MayEnd p) (ended p) t u
+  whole_multi_line_string = whole_by part.MultiLineString last.MultiLineString (λ w. Value.multi_line_string w.dim w.lines) (λ w has. (has.grown, refl)) (λ t w k has. (w.lines, ap (λ d. Value.multi_line_string d w.lines) k.dim, only_of t w k has, k.open_ones))
+
+  pub whole_multi_polygon : (p : Part) (t u : Tree T) → p ≡ part.MultiPolygon → u ≡ record t { last = last.MultiPolygon } → Becomes (lists_end p) (MayEnd p) (ended p) t u
+  whole_multi_polygon = whole_by part.MultiPolygon last.MultiPolygon (λ w. Value.multi_polygon w.dim w.areas) (λ w has. (has.grown, refl)) (λ t w k has. (w.areas, ap (λ d. Value.multi_polygon d w.areas) k.dim, only_of t w k has, k.open_ones))
+
+  pub whole_collection : (p : Part) (t u : Tree T) → p ≡ part.Collection → u ≡ record t { last = last.Collection } → Becomes (lists_end p) (MayEnd p) (ended p) t u
+  whole_collection p t u e f =
+      let s : Tree T = record t { last = last.Collection } in
+      ends_by p part.Collection t u s e f (record {
+        stays = λ h. h;
+        holds = λ w h ((f, o, e), has).
+            let k = parts_of t w has.grown h in
+            inl (subst (λ o. Holds s (shut o)) (sym e) (record { kept = k.kept; all_in = k.all_in; whole = (f, refl, only_of t w k has, subst (HoldsFrames t.outer.items) e k.open_ones) }));
+      })
 
   pub gives_none : (t : Tree T) (v : Vec (OpenCollection T) Global) (w : Wkt T) → t.outer.items ≡ [] → GivesLast t w (record t { outer = v })
   gives_none t v w none = record { same = refl; gives = λ f o (before, c, items, hf, ho). absurd (none-last before c (sym items ∙ none)) }
@@ -351,16 +313,18 @@ module _ {T : Type 0} where
 
   -- a part that ends is one of several
   pub line_by : (p : Part) (t u : Tree T) → (p ≡ part.Ring) ⊎ ((p ≡ part.Line) ⊎ (p ≡ part.AreaRing)) → Becomes true (λ w. w.grown ≡ None) with_line t u → Becomes (lists_end p) (MayEnd p) (ended p) t u
-  line_by p t u (inl e) h = subst (λ p. Becomes (lists_end p) (MayEnd p) (ended p) t u) (sym e) h
-  line_by p t u (inr (inl e)) h = subst (λ p. Becomes (lists_end p) (MayEnd p) (ended p) t u) (sym e) h
-  line_by p t u (inr (inr e)) h = subst (λ p. Becomes (lists_end p) (MayEnd p) (ended p) t u) (sym e) h
+  line_by p t u (inl e) h = ends_by p part.Ring t u u e refl h
+  line_by p t u (inr (inl e)) h = ends_by p part.Line t u u e refl h
+  line_by p t u (inr (inr e)) h = ends_by p part.AreaRing t u u e refl h
 
   pub point_by : (p : Part) (t u : Tree T) → (p ≡ part.Member) ⊎ (p ≡ part.Bare) → Becomes true HasPoint with_point t u → Becomes (lists_end p) (MayEnd p) (ended p) t u
-  point_by p t u (inl e) h = subst (λ p. Becomes (lists_end p) (MayEnd p) (ended p) t u) (sym e) h
-  point_by p t u (inr e) h = subst (λ p. Becomes (lists_end p) (MayEnd p) (ended p) t u) (sym e) h
+  point_by p t u (inl e) h = ends_by p part.Member t u u e refl h
+  point_by p t u (inr e) h = ends_by p part.Bare t u u e refl h
 
-  pub ends_by : (p q : Part) (t u s : Tree T) → p ≡ q → u ≡ s → Becomes (lists_end q) (MayEnd q) (ended q) t s → Becomes (lists_end p) (MayEnd p) (ended p) t u
-  ends_by p q t u s e f h = subst (λ p. Becomes (lists_end p) (MayEnd p) (ended p) t u) (sym e) (subst (λ u. Becomes (lists_end q) (MayEnd q) (ended q) t u) (sym f) h)
+  pub area_by : (p : Part) (t u : Tree T) → p ≡ part.Area → Becomes true (λ w. w.grown ≡ None) (ended part.Area) t u → Becomes (lists_end p) (MayEnd p) (ended p) t u
+  area_by p t u e h = ends_by p part.Area t u u e refl h
+
+pub ruleset part_ends = (whole_point, whole_line_string, whole_polygon, whole_multi_point, whole_multi_line_string, whole_multi_polygon, point_by)
 
 -- The event after each call.
 module _ {T : Type 0} where

@@ -78,9 +78,7 @@ module _ {N : Type 0} (is_value : N → Type 0) where
   -- its x doesn't matter
   in_anyway : (d : Dimension) (h : Hand N) → IsIn d h → IsIn d (record h { x = None })
   in_anyway XY h i = i
-  in_anyway XYZ h i = i
-  in_anyway XYM h i = i
-  in_anyway XYZM h i = i
+  in_anyway _ h i = i
 
   -- the numbers of a coordinate are at hand
   record Held (d : Dimension) (c : List N) (h : Hand N) : Type 0 where

@@ -139,7 +139,7 @@ pub grow_append : {N : Type 0} (es fs : List (Event N)) (s : Growing N) → grow
 grow_append [] fs s = refl
 grow_append (e ∷ es) fs s = grow_append es fs (grow e s)
 
-may_front : {N : Type 0} (es fs : List (Event N)) (s : Growing N) → MayAll (es ++ fs) s → MayAll es s × MayAll fs (grow_all es s)
+pub may_front : {N : Type 0} (es fs : List (Event N)) (s : Growing N) → MayAll (es ++ fs) s → MayAll es s × MayAll fs (grow_all es s)
 may_front [] fs s h = (tt, h)
 may_front (e ∷ es) fs s (h, hs) = let (k, ks) = may_front es fs (grow e s) hs in ((h, k), ks)
 

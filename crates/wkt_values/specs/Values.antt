@@ -1,5 +1,6 @@
 -- What a source is read as.
 use Rattle.std.specs.Prelude.{◌≡◌, ℕ, List, [], Option, Result, Ok, Err, false}
+use Rattle.std.specs.declared.alloc.AllocError.{AllocError}
 use Rattle.wkt_access.specs.Values.{Value}
 use Rattle.wkt_types.specs.Tree.{Tree as Kept, tree}
 use Rattle.wkt_types.specs.Values.{IsWktOf}
@@ -9,8 +10,6 @@ use Rattle.wkt_values.specs.Trees.{HoldsWhole, IsLost}
 use Rattle.wkt_machine.specs.View.{View}
 use Rattle.wkt_machine.specs.declared.machine.Machine.{Machine}
 use Rattle.wkt_values.specs.declared.tree.Tree.{Tree}
-use Rattle.wkt_read.specs.declared.error.ReadError.{ReadError}
-use Rattle.wkt_read.specs.declared.error.ReadError.TheVariants as reader
 use Rattle.wkt_values.specs.declared.value.Unread.{Unread}
 use Rattle.wkt_values.specs.declared.value.Unread.TheVariants.{Refused, Memory}
 use Rattle.wkt_sources.specs.Taken.{TakesValue}
@@ -28,16 +27,9 @@ OnMemory (Err (Refused m)) P = Unit {0}
 OnMemory (Err (Memory e)) P = P
 
 -- The value that ended, or that it is lost.
-abbrev pub AnswersTree : {T : Type 0} → Tree T → Result (Wkt T) Unread → Type 0
+abbrev pub AnswersTree : {T : Type 0} → Tree T → Result (Wkt T) AllocError → Type 0
 AnswersTree {T} t (Ok w) = (t.is_lost ≡ false) × ((v : Value T) → HoldsWhole t [] v → IsWktOf v (tree w))
-AnswersTree t (Err (Refused m)) = ⊥
-AnswersTree t (Err (Memory e)) = IsLost t
-
--- The value that ended, or that it is lost, as a reader returns it.
-abbrev pub AnswersReader : {T : Type 0} → Tree T → Result (Wkt T) ReadError → Type 0
-AnswersReader {T} t (Ok w) = (t.is_lost ≡ false) × ((v : Value T) → HoldsWhole t [] v → IsWktOf v (tree w))
-AnswersReader t (Err (reader.Text m)) = ⊥
-AnswersReader t (Err (reader.Memory e)) = IsLost t
+AnswersTree t (Err e) = IsLost t
 
 module _ {N S : Type 0} (read : List ℕ → Option N) (view : View N S) where
   -- The tree is what the value is read as that the lexemes which are taken stand for.

@@ -7,15 +7,15 @@ ghost use Rattle.wkt_read.specs.Answered.{IsFrontTo, HasBadNumber, OnText, OnMes
 ghost use Rattle.wkt_read.specs.Front.{Front, HasNoFront, NeedsNoMemory};
 ghost use Rattle.wkt_read.specs.Items.{bad_number};
 ghost use Rattle.wkt_read.specs.Refusal.{IsTextRefused, IfText};
-ghost use Rattle.wkt_values.specs.Values.{AnswersReader};
 
 use crate::tree::{Tree, WktBuilder};
-use std::alloc::{AllocError, Global};
+use crate::value::answer;
+use std::alloc::Global;
 use wkt_machine::drive::drive;
 use wkt_num::{OfType, WktNum};
 use wkt_read::{Message, ReadError};
 use wkt_sources::{ByteCursor, message_at};
-use wkt_types::{Coord, Point, Wkt};
+use wkt_types::Wkt;
 
 /// The geometry at the front of the text, and where its last lexeme ends, in bytes: what `Wkt::read_front` returns. It
 /// looks at bytes behind the front, and is faster.
@@ -62,20 +62,9 @@ fn front_of<T: WktNum>(alloc: Global, text: &str) -> Result<(Wkt<T>, usize), Rea
     match drive::<T, ByteCursor<'_, false>, WktBuilder<'_, T>>(source, WktBuilder::new(&mut tree)) {
         Ok(over) => {
             let end = over.source.at;
-            let grown = over.builder.into_tree();
-            // Most geometries are points of two numbers: their parts are written where they stay.
-            if let Some((x, y)) = grown.pair() {
-                let coord = Coord {
-                    x,
-                    y,
-                    z: None,
-                    m: None,
-                };
-                return Ok((Wkt::Point(Point::new(Some(coord), grown.dim())), end));
-            }
-            match answer(grown) {
+            match answer(over.builder.into_tree()) {
                 Ok(geometry) => Ok((geometry, end)),
-                Err(error) => Err(error),
+                Err(error) => Err(ReadError::Memory(error)),
             }
         }
         Err(stop) => {
@@ -83,24 +72,4 @@ fn front_of<T: WktNum>(alloc: Global, text: &str) -> Result<(Wkt<T>, usize), Rea
             Err(ReadError::Text(said.text()))
         }
     }
-}
-
-/// What has grown.
-///
-/// Outlined: only this path zeroes the result slot.
-#[inline(always)]
-fn answer<T: WktNum>(grown: &mut Tree<T>) -> Result<Wkt<T>, ReadError>
-    ensures { AnswersReader grown.old result }
-{
-    answer_outlined(grown)
-}
-
-#[inline(never)]
-fn answer_outlined<T: WktNum>(grown: &mut Tree<T>) -> Result<Wkt<T>, ReadError>
-    ensures { AnswersReader grown.old result }
-{
-    if grown.is_lost() {
-        return Err(ReadError::Memory(AllocError));
-    }
-    Ok(grown.geometry())
 }

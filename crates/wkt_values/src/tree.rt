@@ -60,6 +60,9 @@ pub struct Tree<T> {
 }
 
 impl<T: WktNum> Tree<T> {
+    // `drive` is inlined into `front_of` only while what is `inline(always)` in it is small, which is worth a tenth of `read_whole` on
+    // lines of points. So what seldom ends isn't.
+
     /// Nothing has come yet.
     #[inline(always)]
     pub fn new(alloc: Global) -> Tree<T>
@@ -171,7 +174,7 @@ impl<T: WktNum> Tree<T> {
     }
 
     /// A line, or a ring, ends.
-    #[inline(always)]
+    #[inline]
     fn end_line(&mut self)
         ensures { Becomes true (λ w. w.grown ≡ None) with_line self.old self.new }
     {
@@ -316,6 +319,7 @@ impl<T: WktNum> Tree<T> {
 
     /// A part ends whose items are whole.
     #[inline(always)]
+    #[tactic(auto, using(crate::proofs::TreeHolds::part_ends))]
     fn end(&mut self, part: Part)
         ensures { Becomes (lists_end part) (MayEnd part) (ended part) self.old self.new }
     {

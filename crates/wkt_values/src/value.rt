@@ -10,7 +10,7 @@ use std::alloc::{AllocError, Global};
 use wkt_machine::drive::drive;
 use wkt_machine::{FastSource, Machine, Progress};
 use wkt_num::WktNum;
-use wkt_types::Wkt;
+use wkt_types::{Coord, Point, Wkt};
 
 /// Why there is no value.
 #[derive(Drop)]
@@ -23,12 +23,29 @@ pub enum Unread {
 
 /// What has grown.
 #[inline(always)]
-fn answer<T: WktNum>(builder: WktBuilder<'_, T>) -> Result<Wkt<T>, Unread>
-    ensures { AnswersTree (tree_of builder.entry).now result }
+pub(crate) fn answer<T: WktNum>(tree: &mut Tree<T>) -> Result<Wkt<T>, AllocError>
+    ensures { AnswersTree tree.old result }
 {
-    let tree = builder.into_tree();
+    // Most geometries are points of two numbers: their parts are written where they stay.
+    if let Some((x, y)) = tree.pair() {
+        let coord = Coord {
+            x,
+            y,
+            z: None,
+            m: None,
+        };
+        return Ok(Wkt::Point(Point::new(Some(coord), tree.dim())));
+    }
+    answer_outlined(tree)
+}
+
+/// Outlined: only this path zeroes the result slot.
+#[inline(never)]
+fn answer_outlined<T: WktNum>(tree: &mut Tree<T>) -> Result<Wkt<T>, AllocError>
+    ensures { AnswersTree tree.old result }
+{
     if tree.is_lost() {
-        return Err(Unread::Memory(AllocError));
+        return Err(AllocError);
     }
     Ok(tree.geometry())
 }
@@ -52,7 +69,10 @@ pub fn read<T: WktNum, S: FastSource<T>>(alloc: Global, source: S) -> (Result<Wk
                 builder,
                 ..
             } = over;
-            (answer(builder), source)
+            match answer(builder.into_tree()) {
+                Ok(geometry) => (Ok(geometry), source),
+                Err(error) => (Err(Unread::Memory(error)), source),
+            }
         }
         Err(at) => {
             let Progress {

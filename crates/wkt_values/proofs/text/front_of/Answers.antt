@@ -3,13 +3,12 @@ use Rattle.std.proofs.Common.{[], None, refl, ap, ◌∙◌, subst, arith, lengt
 use Rattle.wkt_read.proofs.OnePlacing.{spanned-few}
 use Rattle.wkt_read.proofs.HeaderPlaces.{front-some, front-within, front-boundary}
 use Rattle.wkt_read.proofs.Refusals.{said_bad}
-use Rattle.wkt_types.specs.declared.geometry.Wkt.TheVariants as geometry
 use Rattle.wkt_sources.specs.Views.{bytes_view}
 use Rattle.wkt_values.specs.Trees.{tree_maker, tree_of}
 use Rattle.wkt_values.specs.Growing.{rest}
-use Rattle.wkt_values.specs.Values.{AnswersReader}
+use Rattle.wkt_values.specs.Values.{AnswersTree}
 use Rattle.wkt_sources.proofs.ByteViews.{whole_left}
-use Rattle.wkt_values.proofs.ReadValues.{pair_made, lent, ended_found_to, answer_found_to, answer_lost_free}
+use Rattle.wkt_values.proofs.ReadValues.{lent, ended_found_to, lost_driven}
 use Rattle.wkt_sources.proofs.FrontValues.{refused}
 use Rattle.wkt_machine.proofs.RoomForRest.{free_room}
 use Rattle.wkt_sources.proofs.TableMessages.{stops_there, stops_message, stops_no_front}
@@ -25,29 +24,12 @@ drive-requires-clause-depth g c =
 pub drive-requires-clause-room : goal.drive-requires-clause-room
 drive-requires-clause-room g c = free_room (bytes_view false) (tree_maker g.T.WktNum.read) c.new-source.result c.new.result (λ n. tt) (λ c x. refl) (λ never. absurd never)
 
-pub returns-in-Some-clause-found : goal.returns-in-Some-clause-found
-returns-in-Some-clause-found g c =
-    let text = ap (λ x. x.now) c.new-source.ensures.text ∙ c.as_bytes.ensures.value in
-    ended_found_to g.T.WktNum.is_value g.T.WktNum.read g.met.T.WktNum.reads_values (bytes_view false) c.args.text.now c.new-source.result (whole_left c.args.text.now c.new-source.result text c.new-source.ensures.at) c.new.result
-    c.in-Ok.over c.in-Ok.ensures.on c.in-Ok.ensures.over (lent (tree_of c.new.result) _ (rest [] None) c.new.ensures c.new-tree.ensures) c.into_tree-grown.result.now (ap (λ t. t.now) c.into_tree-grown.ensures) _ (λ end e. e)
-    (geometry.Point c.new-in-Some.result)
-    (pair_made c.into_tree-grown.result.now _ _ c.in-Some.ensures c.new-in-Some.result c.new-in-Some.ensures.coord (c.new-in-Some.ensures.dim ∙ c.dim.ensures))
-
-pub returns-in-Some-clause-some : goal.returns-in-Some-clause-some
-returns-in-Some-clause-some g c = let f = returns-in-Some-clause-found g c in front-some g.T.WktNum.read c.args.text.now f.0 _ f.1
-
-pub returns-in-Some-clause-within : goal.returns-in-Some-clause-within
-returns-in-Some-clause-within g c = let f = returns-in-Some-clause-found g c in front-within g.T.WktNum.read c.args.text.now f.0 _ f.1
-
-pub returns-in-Some-clause-boundary : goal.returns-in-Some-clause-boundary
-returns-in-Some-clause-boundary g c = let f = returns-in-Some-clause-found g c in front-boundary g.T.WktNum.read c.args.text.now f.0 _ c.utf8.text f.1
-
 pub returns-in-Ok-answer-clause-found : goal.returns-in-Ok-answer-clause-found
 returns-in-Ok-answer-clause-found g c =
     let text = ap (λ x. x.now) c.new-source.ensures.text ∙ c.as_bytes.ensures.value in
-    answer_found_to g.T.WktNum.is_value g.T.WktNum.read g.met.T.WktNum.reads_values (bytes_view false) c.args.text.now c.new-source.result (whole_left c.args.text.now c.new-source.result text c.new-source.ensures.at) c.new.result
-    c.in-Ok.over c.in-Ok.ensures.on c.in-Ok.ensures.over (lent (tree_of c.new.result) _ (rest [] None) c.new.ensures c.new-tree.ensures) c.into_tree-grown.result.now (ap (λ t. t.now) c.into_tree-grown.ensures) _ (λ end e. e)
-    c.in-Ok-answer.geometry (subst (AnswersReader c.into_tree-grown.result.now) c.in-Ok-answer.is c.answer.ensures)
+    ended_found_to g.T.WktNum.is_value g.T.WktNum.read g.met.T.WktNum.reads_values (bytes_view false) c.args.text.now c.new-source.result (whole_left c.args.text.now c.new-source.result text c.new-source.ensures.at) c.new.result
+    c.in-Ok.over c.in-Ok.ensures.on c.in-Ok.ensures.over (lent (tree_of c.new.result) _ (rest [] None) c.new.ensures c.new-tree.ensures) c.into_tree.result.now (ap (λ t. t.now) c.into_tree.ensures) _ (λ end e. e)
+    c.in-Ok-answer.geometry (subst (AnswersTree c.into_tree.result.now) c.in-Ok-answer.is c.answer.ensures)
 
 pub returns-in-Ok-answer-clause-some : goal.returns-in-Ok-answer-clause-some
 returns-in-Ok-answer-clause-some g c = let f = returns-in-Ok-answer-clause-found g c in front-some g.T.WktNum.read c.args.text.now f.0 _ f.1
@@ -61,9 +43,9 @@ returns-in-Ok-answer-clause-boundary g c = let f = returns-in-Ok-answer-clause-f
 pub returns-in-Ok-clause-free : goal.returns-in-Ok-clause-free
 returns-in-Ok-clause-free g c = λ v end front free.
     let text = ap (λ x. x.now) c.new-source.ensures.text ∙ c.as_bytes.ensures.value in
-    absurd (answer_lost_free g.T.WktNum.is_value g.T.WktNum.read g.met.T.WktNum.reads_values (bytes_view false) c.args.text.now c.new-source.result (whole_left c.args.text.now c.new-source.result text c.new-source.ensures.at) c.new.result
-    c.in-Ok.over c.in-Ok.ensures.on c.in-Ok.ensures.over (lent (tree_of c.new.result) _ (rest [] None) c.new.ensures c.new-tree.ensures) c.into_tree-grown.result.now (ap (λ t. t.now) c.into_tree-grown.ensures) c.in-Ok.over.source.at (λ end e. e)
-    c.in-Err-answer.error (subst (AnswersReader c.into_tree-grown.result.now) c.in-Err-answer.is c.answer.ensures) v end front free)
+    absurd (lost_driven g.T.WktNum.is_value g.T.WktNum.read g.met.T.WktNum.reads_values (bytes_view false) c.args.text.now c.new-source.result (whole_left c.args.text.now c.new-source.result text c.new-source.ensures.at) c.new.result
+    c.in-Ok.over c.in-Ok.ensures.on c.in-Ok.ensures.over (lent (tree_of c.new.result) _ (rest [] None) c.new.ensures c.new-tree.ensures) c.into_tree.result.now (ap (λ t. t.now) c.into_tree.ensures) c.in-Ok.over.source.at (λ end e. e)
+    c.in-Err-answer.error (subst (AnswersTree c.into_tree.result.now) c.in-Err-answer.is c.answer.ensures) v end front free)
 
 pub message_at-said-requires : goal.message_at-said-requires
 message_at-said-requires g c =
