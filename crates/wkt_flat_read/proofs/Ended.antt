@@ -179,33 +179,18 @@ module _ {T : Type 0} where
     named (Some kind) = refused (mismatched (codes "GeometryCollection") (found_name kind))
 
     pub other_is : (t : Tree T) (kind : Found) → kind_of (value_of t) ≡ Some kind → flat_collection E t ≡ refused (mismatched (codes "GeometryCollection") (found_name kind))
-    other_is (Tree.point p) kind e = ap (λ o. named o) e
-    other_is (Tree.line_string p) kind e = ap (λ o. named o) e
-    other_is (Tree.polygon p) kind e = ap (λ o. named o) e
-    other_is (Tree.multi_point p) kind e = ap (λ o. named o) e
-    other_is (Tree.multi_line_string p) kind e = ap (λ o. named o) e
-    other_is (Tree.multi_polygon p) kind e = ap (λ o. named o) e
     other_is (Tree.collection ts d) kind e = let no : ⊥ = cc in absurd no
+    other_is _ kind e = ap (λ o. named o) e
 
     -- a collection
     pub collection_is : (t : Tree T) → kind_of (value_of t) ≡ None → (ts : Flats T) → plain E (value_of t) ≡ Flat.collection ts → flat_collection E t ≡ unless (holds_empty (value_of t)) ts
     collection_is (Tree.collection ts d) none fs e = flats_are ts ∙ ap (λ fs. unless (hold_empty (values_of ts)) fs) (let same : plains E (values_of ts) ≡ fs = cc in same)
-    collection_is (Tree.point p) none fs e = let no : ⊥ = cc in absurd no
-    collection_is (Tree.line_string p) none fs e = let no : ⊥ = cc in absurd no
-    collection_is (Tree.polygon p) none fs e = let no : ⊥ = cc in absurd no
-    collection_is (Tree.multi_point p) none fs e = let no : ⊥ = cc in absurd no
-    collection_is (Tree.multi_line_string p) none fs e = let no : ⊥ = cc in absurd no
-    collection_is (Tree.multi_polygon p) none fs e = let no : ⊥ = cc in absurd no
+    collection_is _ none fs e = let no : ⊥ = cc in absurd no
 
     -- what is flat but for an empty point is a multipoint, if it is no collection
     pub multi_point_is : (v : Value T) (kind : Found) → kind_of v ≡ Some kind → holds_empty v ≡ true → kind ≡ found.MultiPoint
     multi_point_is (Value.multi_point d ps) kind e h = cc
-    multi_point_is (Value.point d c) kind e h = let no : ⊥ = cc in absurd no
-    multi_point_is (Value.line_string d c) kind e h = let no : ⊥ = cc in absurd no
-    multi_point_is (Value.polygon d c) kind e h = let no : ⊥ = cc in absurd no
-    multi_point_is (Value.multi_line_string d c) kind e h = let no : ⊥ = cc in absurd no
-    multi_point_is (Value.multi_polygon d c) kind e h = let no : ⊥ = cc in absurd no
-    multi_point_is (Value.collection d c) kind e h = let no : ⊥ = cc in absurd no
+    multi_point_is _ kind e h = let no : ⊥ = cc in absurd no
 
 module _ {T : Type 0} (E : Coord T → Coord T → Bool) where
   -- the value that ended has the kind of what ended
@@ -222,12 +207,7 @@ module _ {T : Type 0} (E : Coord T → Coord T → Bool) where
   -- a collection has the flat value of its members
   members_are : (v : Value T) → kind_of E v ≡ None → (ts : Flats T) × (plain E v ≡ Flat.collection ts)
   members_are (Value.collection d vs) e = (plains E vs, refl)
-  members_are (Value.point d vs) e = let no : ⊥ = cc in absurd no
-  members_are (Value.line_string d vs) e = let no : ⊥ = cc in absurd no
-  members_are (Value.polygon d vs) e = let no : ⊥ = cc in absurd no
-  members_are (Value.multi_point d vs) e = let no : ⊥ = cc in absurd no
-  members_are (Value.multi_line_string d vs) e = let no : ⊥ = cc in absurd no
-  members_are (Value.multi_polygon d vs) e = let no : ⊥ = cc in absurd no
+  members_are _ e = let no : ⊥ = cc in absurd no
 
   module _ (t : FlatTree T) where
     pub refused_collection : t.is_refused ≡ true → GivesCollection E t RefusedCollection
@@ -275,9 +255,4 @@ module _ {T : Type 0} (E : Coord T → Coord T → Bool) where
         go last.Collection same none (f, is, only, are_open) =
             ap (plain E) (sym is) ∙ ap (λ ts. Flat.collection ts) (sym (members-plain E f.members)) ∙ ap (λ ms. Flat.collection (flats_of ms)) (sym (gives.last same f [] are_open).0) ∙ ap (λ ts. Flat.collection ts) (sym are)
         go last.NoMembers same none (d, is, only, are_open) = ap (plain E) (sym is) ∙ ap (λ gs. Flat.collection (flat_members gs)) (sym (gives.none same).0) ∙ ap (λ ts. Flat.collection ts) (sym are)
-        go last.Point same none rest = let no : ⊥ = cc in absurd no
-        go last.LineString same none rest = let no : ⊥ = cc in absurd no
-        go last.Polygon same none rest = let no : ⊥ = cc in absurd no
-        go last.MultiPoint same none rest = let no : ⊥ = cc in absurd no
-        go last.MultiLineString same none rest = let no : ⊥ = cc in absurd no
-        go last.MultiPolygon same none rest = let no : ⊥ = cc in absurd no
+        go _ same none rest = let no : ⊥ = cc in absurd no

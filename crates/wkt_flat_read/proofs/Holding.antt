@@ -15,13 +15,10 @@ use Rattle.wkt_machine.specs.declared.part.Part.{Part}
 use Rattle.wkt_machine.specs.declared.part.Part.TheVariants as part
 use Rattle.wkt_flat_read.specs.Trees.{flat_line, flat_area, flat_point, flat_points, plain, is_empty, some_empty, holds_empty, coord_by, coord_of, point_at, members, opened, frames, frames_hold, some_holds, FlatHasOnly, FlatIsLost, FlatHoldsParts, FlatHoldsEnded, FlatHoldsWhole, FlatHoldsBy, FlatHolds, FlatBecomes, FlatGrew, FlatGives, FlatGivesLast, GivesMembers, FlatJoins}
 use Rattle.wkt_values.specs.declared.tree.Ended.TheVariants as last
+use Rattle.wkt_values.proofs.TreeHolds.{last-same}
 use Rattle.wkt_flat_read.specs.declared.tree.FlatTree.{FlatTree}
 use Rattle.wkt_flat_read.proofs.Ended.{or_false, or_true, or_assoc, unmap-last, none-last, line-append, points-append, empty-last, holds-last, members-hold, members-plain, hand_line, hand_point, hand_empty}
 use Rattle.wkt_machine.specs.declared.part.Axis.{Axis}
-
-some_none : {A : Type 0} (o : Option A) → o ≡ None → IsSome o → ⊥
-some_none None e h = cc
-some_none (Some x) e h = cc
 
 module _ {T : Type 0} (E : Coord T → Coord T → Bool) where
   pub parts_of : (t : FlatTree T) (w : Growing T) → w.grown ≡ None → FlatHolds E t w → FlatHoldsParts E t w
@@ -122,14 +119,6 @@ module _ {T : Type 0} (E : Coord T → Coord T → Bool) where
         let both : map members v.items ++ (members c ∷ []) ≡ frames E o ++ (map (plain E) f.members ∷ []) = sym image ∙ ap (map members) (sym items) ∙ h in
         let (same, one) = last-same (map members v.items) (frames E o) (members c) (map (plain E) f.members) both in (one, same);
   }
-    where
-      last-same : {A : Type 0} (xs ys : List A) (x y : A) → xs ++ (x ∷ []) ≡ ys ++ (y ∷ []) → (xs ≡ ys) × (x ≡ y)
-      last-same [] [] x y e = (refl, let same : x ≡ y = cc in same)
-      last-same [] (z ∷ ys) x y e = absurd (omega (arith, ap length e, length-append ys (y ∷ [])))
-      last-same (z ∷ xs) [] x y e = absurd (omega (arith, ap length e, length-append xs (x ∷ [])))
-      last-same (z ∷ xs) (w ∷ ys) x y e =
-          let (a, b) = last-same xs ys x y (cc) in
-          (let same : z ∷ xs ≡ w ∷ ys = cc in same, b)
 
   pub gives_none : (t : FlatTree T) (v : Vec (Vec (Geometry T) Global) Global) (c : Vec (Geometry T) Global) → t.outer.items ≡ [] → FlatGivesLast E t c (record t { outer = v })
   gives_none t v c none = record { same = refl; gives = λ f o h. absurd (none-last members t.outer.items (frames E o) (map (plain E) f.members) none h) }
@@ -178,10 +167,6 @@ module _ {T : Type 0} (E : Coord T → Coord T → Bool) where
           open_ones = ap (map members) new ∙ map-append members before (list ∷ []) ∙ ap (λ l. l ++ (members list ∷ [])) image ∙ ap (λ x. frames E o ++ (x ∷ [])) more;
         });
   }
-
-  pub none_open : {A : Type 0} (o : Option A) (cs : List (Vec (Geometry T) Global)) (n : ℕ) → n ≡ length cs → (0 < n → IsSome o) → o ≡ None → cs ≡ []
-  none_open o [] n e h none = refl
-  none_open o (c ∷ cs) n e h none = absurd (some_none o none (h (omega (arith, e))))
 
   -- none is parts_open
   pub none_joins : (t u : FlatTree T) (g : Geometry T) → t.outer.items ≡ [] → u.is_lost ≡ t.is_lost → FlatJoins E t g u
@@ -268,15 +253,15 @@ module _ {T : Type 0} (E : Coord T → Coord T → Bool) where
   no_opening t part.Collection not = absurd (not refl)
   no_opening t p not = record { stays = λ h. h; holds = λ w h m. inl h }
 
-  -- a part that ends is one of several
-  pub line_by : (p : Part) (t u : FlatTree T) → (p ≡ part.Ring) ⊎ ((p ≡ part.Line) ⊎ (p ≡ part.AreaRing)) → FlatBecomes E (λ w. w.grown ≡ None) with_line t u → FlatBecomes E (MayEnd p) (ended p) t u
-  line_by p t u (inl e) h = subst (λ p. FlatBecomes E (MayEnd p) (ended p) t u) (sym e) h
-  line_by p t u (inr (inl e)) h = subst (λ p. FlatBecomes E (MayEnd p) (ended p) t u) (sym e) h
-  line_by p t u (inr (inr e)) h = subst (λ p. FlatBecomes E (MayEnd p) (ended p) t u) (sym e) h
-
-  pub point_by : (p : Part) (t u : FlatTree T) → (p ≡ part.Member) ⊎ (p ≡ part.Bare) → FlatBecomes E HasPoint with_point t u → FlatBecomes E (MayEnd p) (ended p) t u
-  point_by p t u (inl e) h = subst (λ p. FlatBecomes E (MayEnd p) (ended p) t u) (sym e) h
-  point_by p t u (inr e) h = subst (λ p. FlatBecomes E (MayEnd p) (ended p) t u) (sym e) h
-
   pub ends_by : (p q : Part) (t u s : FlatTree T) → p ≡ q → u ≡ s → FlatBecomes E (MayEnd q) (ended q) t s → FlatBecomes E (MayEnd p) (ended p) t u
   ends_by p q t u s e f h = subst (λ p. FlatBecomes E (MayEnd p) (ended p) t u) (sym e) (subst (λ u. FlatBecomes E (MayEnd q) (ended q) t u) (sym f) h)
+
+  -- a part that ends is one of several
+  pub line_by : (p : Part) (t u : FlatTree T) → (p ≡ part.Ring) ⊎ ((p ≡ part.Line) ⊎ (p ≡ part.AreaRing)) → FlatBecomes E (λ w. w.grown ≡ None) with_line t u → FlatBecomes E (MayEnd p) (ended p) t u
+  line_by p t u (inl e) h = ends_by p part.Ring t u u e refl h
+  line_by p t u (inr (inl e)) h = ends_by p part.Line t u u e refl h
+  line_by p t u (inr (inr e)) h = ends_by p part.AreaRing t u u e refl h
+
+  pub point_by : (p : Part) (t u : FlatTree T) → (p ≡ part.Member) ⊎ (p ≡ part.Bare) → FlatBecomes E HasPoint with_point t u → FlatBecomes E (MayEnd p) (ended p) t u
+  point_by p t u (inl e) h = ends_by p part.Member t u u e refl h
+  point_by p t u (inr e) h = ends_by p part.Bare t u u e refl h

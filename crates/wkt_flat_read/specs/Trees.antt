@@ -18,10 +18,10 @@ use Rattle.wkt_convert.specs.Kinds.{IsFlattened}
 use Rattle.wkt_convert.specs.declared.flattened.Flattened.{Flattened}
 use Rattle.wkt_convert.specs.declared.flattened.Found.{Found}
 use Rattle.wkt_machine.specs.Events.{Event}
-use Rattle.wkt_values.specs.Growing.{Frame, Growing, grow_all, joined, members_of, MayAll, grow}
+use Rattle.wkt_values.specs.Growing.{Frame, Growing, grow_all, joined, members_of, MayAll}
 use Rattle.wkt_values.specs.declared.tree.Ended.{Ended}
 use Rattle.wkt_flat_read.specs.declared.tree.FlatTree.{FlatTree}
-use Rattle.wkt_values.specs.Trees.{grow_append}
+use Rattle.wkt_values.specs.Trees.{grow_append, may_front}
 use Rattle.wkt_machine.specs.Makers.{Maker}
 use Rattle.wkt_flat_read.specs.declared.flat_builder.FlatBuilder.{FlatBuilder}
 use Rattle.wkt_convert.specs.declared.flattened.Found.TheVariants as found
@@ -249,10 +249,6 @@ module _ {T : Type 0} (E : Coord T → Coord T → Bool) where
 -- the tree that is lent
 abbrev pub tree_of : {T : Type 0} → FlatBuilder T → MutBor (FlatTree T)
 tree_of g = g.tree
-
-may_front : {N : Type 0} (es fs : List (Event N)) (s : Growing N) → MayAll (es ++ fs) s → MayAll es s × MayAll fs (grow_all es s)
-may_front [] fs s h = (tt, h)
-may_front (e ∷ es) fs s (h, hs) = let (k, ks) = may_front es fs (grow e s) hs in ((h, k), ks)
 
 module _ {T : Type 0} (E : Coord T → Coord T → Bool) where
   pub grew_none : (t : FlatTree T) → FlatGrew E t [] t

@@ -53,6 +53,9 @@ fn polygon<T: WktNum>(alloc: Global, rings: Vec<LineString<T>>) -> Result<Polygo
 }
 
 impl<T: WktNum> FlatTree<T> {
+    // `drive` is inlined into `front_of` only while what is `inline(always)` in it is small, which is worth a tenth of
+    // `try_from_wkt_str` on lines of points. So what seldom ends isn't.
+
     /// Nothing has come yet.
     #[inline(always)]
     pub fn new(alloc: Global) -> FlatTree<T>
@@ -121,7 +124,7 @@ impl<T: WktNum> FlatTree<T> {
     }
 
     /// A point of a multipoint ends.
-    #[inline(always)]
+    #[inline(never)]
     #[tactic(auto, using(crate::proofs::Holding::point_ends, crate::proofs::Holding::empty_point_ends))]
     fn end_point(&mut self)
         ensures { FlatBecomes (coord_eq T.eq) HasPoint with_point self.old self.new }
@@ -148,7 +151,7 @@ impl<T: WktNum> FlatTree<T> {
     }
 
     /// A polygon of a multipolygon ends.
-    #[inline(always)]
+    #[inline(never)]
     fn end_area(&mut self)
         ensures { FlatBecomes (coord_eq T.eq) (λ w. w.grown ≡ None) (ended kind.Area) self.old self.new }
     {
@@ -163,7 +166,7 @@ impl<T: WktNum> FlatTree<T> {
     }
 
     /// A collection opens.
-    #[inline(always)]
+    #[inline(never)]
     pub(crate) fn open_collection(&mut self)
         ensures { FlatBecomes (coord_eq T.eq) (MayOpen kind.Collection) (opened kind.Collection) self.old self.new }
     {

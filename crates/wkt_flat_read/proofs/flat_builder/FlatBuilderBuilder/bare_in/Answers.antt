@@ -1,4 +1,4 @@
--- The number that stands there, in a parenthesis.
+-- The number that comes next, in a parenthesis.
 use Rattle.wkt_flat_read.proofs.flat_builder.FlatBuilderBuilder.bare_in.Goals as goal
 
 pub returns-in-Some-clause-some : goal.returns-in-Some-clause-some

@@ -1,4 +1,4 @@
--- The number that stands there.
+-- The number that comes next.
 use Rattle.std.proofs.Common.{refl}
 use Rattle.wkt_flat.specs.Equal.{coord_eq}
 use Rattle.wkt_machine.specs.Events.{Event}
