@@ -7,7 +7,6 @@ use Rattle.wkt_read.specs.Spanned.{Spanned, end_after}
 use Rattle.wkt_events.specs.Remaining.{remaining_spanned}
 use Rattle.wkt_dialects.specs.declared.dialects.Dialects.{Dialects}
 use Rattle.wkt_dialects.specs.declared.lexeme.Found.{Found}
-use Rattle.wkt_dialects.specs.declared.lexeme.Kind.{Kind}
 use Rattle.wkt_dialects.specs.declared.lexeme.Kind.TheVariants as kind
 use Rattle.std.proofs.Math.Seq.{drop-append_seam}
 use Rattle.wkt_dialects.specs.Dialects.{counts, is_nan, nans, nans_within, begins_with, is_open, is_close, numbers_there, first_numbers, open_behind}
@@ -115,14 +114,14 @@ module _ (text : List ℕ) (from b count : ℕ) (o k : Found) (opens : IsFound t
       ∙ ap (begins_with is_close) (drop-append_seam past.taken (remaining_spanned false text b) ∙ closes.next)
       ∙ e
 
-  pub within-is : (t : Bool) → nans count (remaining_spanned false text o.end) ≡ true → is_close (lexeme_in text k) ≡ t → nans_within count all ≡ t
-  within-is t nan e =
+  pub within_is : (t : Bool) → nans count (remaining_spanned false text o.end) ≡ true → is_close (lexeme_in text k) ≡ t → nans_within count all ≡ t
+  within_is t nan e =
       ap (λ x. x && nans count (drop 1 all) && begins_with is_close (drop (count + 1) all)) opened
       ∙ ap (λ x. true && x && begins_with is_close (drop (count + 1) all)) (inner ∙ nan)
       ∙ ap (λ x. true && true && x) (closed t e)
 
-  pub within-past : IsPastSome text from (count + 2) k.end
-  within-past = record {
+  pub within_past : IsPastSome text from (count + 2) k.end
+  within_past = record {
     taken = first ∷ (past.taken ++ (last-one ∷ []));
     order = omega (arith, opens.bytes.order, opens.between.order, past.order, closes.between.order, closes.bytes.order);
     inside = closes.bytes.inside;
@@ -136,10 +135,3 @@ module _ (text : List ℕ) (from b count : ℕ) (o k : Found) (opens : IsFound t
       ends-with : (n : ℕ) (ps : List Spanned) → end_after n (ps ++ (last-one ∷ [])) ≡ k.end
       ends-with n [] = refl
       ends-with n (q ∷ ps) = ends-with q.end ps
-
-pub not-close : (k : Kind) (w : List ℕ) → (k ≡ kind.Close → ⊥) → is_close (of_kind k w) ≡ false
-not-close kind.Open w h = refl
-not-close kind.Close w h = absurd (h refl)
-not-close kind.Comma w h = refl
-not-close kind.Number w h = refl
-not-close kind.Word w h = refl

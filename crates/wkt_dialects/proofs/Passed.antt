@@ -1,5 +1,5 @@
 -- What a loop over the bytes of a number has passed.
-use Rattle.std.proofs.Common.{◌≡◌, ◌≢◌, ℕ, zero, suc, ◌+◌, ◌-◌, ◌*◌, ◌<◌, ◌≤◌, Bool, true, false, ◌&&◌, min, if◌then◌else◌, List, [], ◌∷◌, ◌++◌, length, take, drop, get_or, Some, None, refl, sym, ap, ◌∙◌, arith, nat_le, nat_lt, ◌^◌, length-append, Result, Ok, Err, IfOk, is_ok, not, append_assoc, drop-cons}
+use Rattle.std.proofs.Common.{◌≡◌, ◌≢◌, ℕ, zero, suc, ◌+◌, ◌-◌, ◌*◌, ◌<◌, ◌≤◌, Bool, true, false, ◌&&◌, if◌then◌else◌, List, [], ◌∷◌, ◌++◌, length, take, drop, get_or, Some, None, refl, sym, ap, ◌∙◌, arith, nat_lt, ◌^◌, length-append, Result, Ok, Err, IfOk, not, append_assoc, drop-cons}
 use Rattle.std.specs.Char.{digit_value, is_ascii_digit}
 use Rattle.std.specs.Str.{all_ascii_digits}
 use Rattle.std.specs.Str.Parse.{AllDigits, digits_value}
@@ -8,8 +8,7 @@ use Rattle.std.proofs.lemmas.Str.Parse.{digit_at}
 use Rattle.std.proofs.lemmas.Bool.Decides.{nat_tests}
 use Rattle.std.proofs.Math.Seq.{take-suc}
 use Rattle.std.proofs.Math.ListN.{drop_of_length-le}
-use Rattle.std.proofs.lemmas.List.{take_all}
-use borrow.Author.Tests.{ne_eqb, eq-eqb, leb-true, leb-false, lt-ltb}
+use borrow.Author.Tests.{ne_eqb, eq-eqb, lt-ltb}
 use Rattle.wkt_num.specs.Whole.{is_numeral}
 use Rattle.wkt_num.specs.DecimalLaws.{value_append}
 use Rattle.wkt_num.specs.Decimal.{before_point, after_point, zeros}
@@ -26,12 +25,6 @@ take-more bs i h = ap (λ k. take k bs) {x = i + 1} {y = suc i} (omega arith) �
 -- Digits.
 pub digits-none : (bs : List ℕ) (i : ℕ) → i < length bs → all_ascii_digits (drop i bs) ≡ all_ascii_digits bs → is_ascii_digit (get_or bs i 0) ≡ false → all_ascii_digits bs ≡ false
 digits-none bs i h e f = sym e ∙ ap all_ascii_digits (at-drop bs i h) ∙ ap (λ b. b && all_ascii_digits (drop (i + 1) bs)) f
-
-pub digits-on : (bs : List ℕ) (i : ℕ) → i < length bs → all_ascii_digits (drop i bs) ≡ all_ascii_digits bs → is_ascii_digit (get_or bs i 0) ≡ true → all_ascii_digits (drop (i + 1) bs) ≡ all_ascii_digits bs
-digits-on bs i h e f = sym (ap all_ascii_digits (at-drop bs i h) ∙ ap (λ b. b && all_ascii_digits (drop (i + 1) bs)) f) ∙ e
-
-pub digits-all : (bs : List ℕ) (i : ℕ) → length bs ≤ i → all_ascii_digits (drop i bs) ≡ all_ascii_digits bs → all_ascii_digits bs ≡ true
-digits-all bs i h e = sym e ∙ ap all_ascii_digits (drop_of_length-le bs h)
 
 -- An exponent.
 pub no-e-on : (bs : List ℕ) (i : ℕ) → i < length bs → HasNoE bs i → is_e (get_or bs i 0) ≡ false → HasNoE bs (i + 1)
@@ -82,19 +75,16 @@ no-point-all bs i h k = record {
 }
 
 -- A value.
-pub digit-low : (bs : List ℕ) (i : ℕ) → AllDigits 10 bs → i < length bs → 48 ≤ get_or bs i 0
-digit-low bs i d h = (digit_at bs i d h).0
+pub digit_low : (bs : List ℕ) (i : ℕ) → AllDigits 10 bs → i < length bs → 48 ≤ get_or bs i 0
+digit_low bs i d h = (digit_at bs i d h).0
 
-pub value-more : (bs : List ℕ) (i : ℕ) → i < length bs → AllDigits 10 bs → digits_value 10 (take (i + 1) bs) ≡ digits_value 10 (take i bs) * 10 + (get_or bs i 0 - 48)
-value-more bs i h d =
+pub value_more : (bs : List ℕ) (i : ℕ) → i < length bs → AllDigits 10 bs → digits_value 10 (take (i + 1) bs) ≡ digits_value 10 (take i bs) * 10 + (get_or bs i 0 - 48)
+value_more bs i h d =
     let r = digit_at bs i d h in
     ap (digits_value 10) (take-more bs i h) ∙ value_append 0 (take i bs) (get_or bs i 0 ∷ []) ∙ ap (λ k. digits_value 10 (take i bs) * 10 + k) (value-of (get_or bs i 0) r.0 r.1)
   where
     value-of : (b : ℕ) → 48 ≤ b → b ≤ 57 → digit_value b ≡ b - 48
     value-of b low high = grind (arith, nat_tests)
-
-pub value-all : (bs : List ℕ) (i : ℕ) → i ≡ length bs → digits_value 10 (take i bs) ≡ digits_value 10 bs
-value-all bs i e = ap (digits_value 10) (take_all i bs (omega arith))
 
 pub ruleset passed_e = (no-e-on, e-there, no-e-all)
 
@@ -104,28 +94,6 @@ pub ruleset passed_point = (no-point-on, point-there, no-point-all)
 pub appended : {A E : Type 0} (r : Result A E) (new x y : List ℕ) → x ≡ y → IfOk r (λ _. new ≡ x) → IfOk r (λ _. new ≡ y)
 appended (Ok a) new x y e h = h ∙ e
 appended (Err b) new x y e h = tt
-
-pub left-chain : (out i1 i2 i3 i4 f a z b : List ℕ) → i1 ≡ out ++ a → i2 ≡ i1 ++ (46 ∷ []) → i3 ≡ i2 ++ z → i4 ≡ i3 ++ b → i4 ++ f ≡ out ++ (a ++ (46 ∷ (z ++ (b ++ f))))
-left-chain out i1 i2 i3 i4 f a z b e1 e2 e3 e4 =
-    ap (λ l. l ++ f) (e4 ∙ ap (λ l. l ++ b) (e3 ∙ ap (λ l. l ++ z) (e2 ∙ ap (λ l. l ++ (46 ∷ [])) e1)))
-    ∙ simp append_assoc
-
-pub right-chain : (out i1 i2 i3 i4 w a z b : List ℕ) → i1 ≡ out ++ w → i2 ≡ i1 ++ a → i3 ≡ i2 ++ z → i4 ≡ i3 ++ (46 ∷ []) → i4 ++ b ≡ out ++ ((w ++ (a ++ z)) ++ (46 ∷ b))
-right-chain out i1 i2 i3 i4 w a z b e1 e2 e3 e4 =
-    ap (λ l. l ++ b) (e4 ∙ ap (λ l. l ++ (46 ∷ [])) (e3 ∙ ap (λ l. l ++ z) (e2 ∙ ap (λ l. l ++ a) e1)))
-    ∙ simp append_assoc
-
-pub take-min : (x : ℕ) (f : List ℕ) → take (min x (length f)) f ≡ take x f
-take-min x f = elim (nat_le x (length f)) as (λ b. nat_le x (length f) ≡ b → take (min x (length f)) f ≡ take x f) [
-  | true ↦ λ e. ap (λ n. take n f) (omega (arith, leb-true x (length f) e))
-  | false ↦ λ e. ap (λ n. take n f) {x = min x (length f)} {y = length f} (omega (arith, leb-false x (length f) e)) ∙ take_all (length f) f (omega arith) ∙ sym (take_all x f (omega (arith, leb-false x (length f) e)))
-] refl
-
-pub drop-min : (x : ℕ) (f : List ℕ) → drop (min x (length f)) f ≡ drop x f
-drop-min x f = elim (nat_le x (length f)) as (λ b. nat_le x (length f) ≡ b → drop (min x (length f)) f ≡ drop x f) [
-  | true ↦ λ e. ap (λ n. drop n f) (omega (arith, leb-true x (length f) e))
-  | false ↦ λ e. drop_of_length-le f (omega (arith, leb-false x (length f) e)) ∙ sym (drop_of_length-le f (omega (arith, leb-false x (length f) e)))
-] refl
 
 -- Zeros.
 pub zeros-put : (out : List ℕ) (n : ℕ) → 0 < n → (out ++ (48 ∷ [])) ++ zeros (n - 1) ≡ out ++ zeros n
@@ -161,10 +129,6 @@ pub some-first : (a b : List ℕ) → (length a ≡ 0 → ⊥) → all_ascii_dig
 some-first a b some e = ap (λ t. t && all_ascii_digits (a ++ b)) (lt-ltb 0 (length (a ++ b)) (omega (arith, length-append a b, some))) ∙ parts-digits a b ∙ ap (λ t. t && all_ascii_digits b) e
 
 pub ruleset both_parts = (first-not, none-first, some-first)
-
--- The sums and products of a value that is cut.
-pub value-cut : (V most v d : ℕ) → v ≡ min V most → most < 2 ^ 64 → min most (min (min (v * 10) (2 ^ 64 - 1) + d) (2 ^ 64 - 1)) ≡ min (V * 10 + d) most
-value-cut V most v d e h = omega arith
 
 pub not-true : (b : Bool) → not b ≡ true → b ≡ false
 not-true true e = cc

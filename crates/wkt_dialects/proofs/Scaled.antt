@@ -62,8 +62,8 @@ pub without_e : (bs : List ℕ) → after_e bs ≡ None → (k most D : ℕ) →
 unfolding read_exponents
 without_e bs e k most D = ap (λ o. read_by_e o k most D bs) e
 
-pub exponents-keep : ExponentsKeep
-exponents-keep k most D bs u e = without_e bs (kept k most D bs u e) k most D ∙ e
+pub exponents_keep : ExponentsKeep
+exponents_keep k most D bs u e = without_e bs (kept k most D bs u e) k most D ∙ e
 
 with_e : (bs x : List ℕ) → after_e bs ≡ Some x → (k most D : ℕ) → read_decimal k most D bs ≡ None
 with_e bs x e k most D = go (read_decimal k most D bs) refl

@@ -104,5 +104,5 @@ ended-most upto (p ∷ ps) = go (ended-most upto ps) (nat_le p.end upto)
     go ih true = omega (arith, ih)
     go ih false = omega arith
 
-pub few-enough : (d : Dialects) (text other : List ℕ) (upto : ℕ) → IsRestAs d text other → ended_before upto (spanned other) ≤ length (lexemes_as d text)
-few-enough d text other upto h = omega (arith, ended-most upto (spanned other), length-lexemes (spanned other), length-lexemes (lexemes_as d text), as-many d _ _ h.lexemes)
+pub few_enough : (d : Dialects) (text other : List ℕ) (upto : ℕ) → IsRestAs d text other → ended_before upto (spanned other) ≤ length (lexemes_as d text)
+few_enough d text other upto h = omega (arith, ended-most upto (spanned other), length-lexemes (spanned other), length-lexemes (lexemes_as d text), as-many d _ _ h.lexemes)

@@ -43,7 +43,7 @@ abbrev pub counts : Dialects → Lexeme → Bool
 counts d (lex.Num run) = true
 counts d l = d.nan && is_nan l
 
--- How many numbers stand there, one behind the other.
+-- How many numbers come next, one behind the other.
 abbrev pub numbers_there : Dialects → List Spanned → ℕ
 numbers_there d [] = 0
 numbers_there d (p ∷ ps) = if counts d p.lexeme then suc (numbers_there d ps) else 0
@@ -152,7 +152,7 @@ begins_with is (p ∷ ps) = is p.lexeme
 abbrev pub nans_within : ℕ → List Spanned → Bool
 nans_within k ps = begins_with is_open ps && nans k (drop 1 ps) && begins_with is_close (drop (k + 1) ps)
 
--- How many lexemes stand there that are an empty point: where one may stand, as many nans as its dimension has, in parentheses, or in a multipoint without them.
+-- How many of the next lexemes are an empty point: where one may stand, as many nans as its dimension has, in parentheses, or in a multipoint without them.
 abbrev pub nan_point : Spot → List Spanned → ℕ
 nan_point (spot.Headed kind.Point d) ps = if nans_within (size d) ps then size d + 2 else 0
 nan_point (spot.Begins d) ps = if nans (size d) ps then size d else (if nans_within (size d) ps then size d + 2 else 0)

@@ -17,13 +17,13 @@ pub record HasNoPoint (body : List ℕ) (n : ℕ) : Type 0 where
   pub before : before_point body ≡ take n body ++ before_point (drop n body)
   pub after : after_point body ≡ after_point (drop n body)
 
--- The first e or E stands there.
+-- The first e or E is at this place.
 pub record IsE (number : List ℕ) (at : ℕ) : Type 0 where
   pub inside : at < length number
   pub before : before_e number ≡ take at number
   pub after : after_e number ≡ Some (drop (at + 1) number)
 
--- The point stands there, or nowhere.
+-- The point is at this place, or nowhere.
 pub record IsPoint (body : List ℕ) (at : ℕ) : Type 0 where
   pub inside : at ≤ length body
   pub before : before_point body ≡ take at body

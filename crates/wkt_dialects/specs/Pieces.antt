@@ -64,7 +64,7 @@ pub record TakesPiece (d : Dialects) (s : Spot) (text : List ℕ) (from : ℕ) (
   pub reads : read_from d s text from ≡ record { lexeme = lexeme_as p.piece lexeme; end = p.end } ∷ read_from d p.spot text p.end
   pub spelled : p.piece ≡ piece.Same → HasBytes text p.start p.end × SpellsLexeme (slice_range text p.start p.end) (drop p.end text) lexeme
 
--- None stands there.
+-- None is there.
 abbrev pub TakesAny : Dialects → Spot → List ℕ → ℕ → Option Step → Type 0
 TakesAny d s text from None = remaining_spanned false text from ≡ []
 TakesAny d s text from (Some p) = TakesPiece d s text from p

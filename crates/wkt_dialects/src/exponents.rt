@@ -97,6 +97,7 @@ fn are_numeral(whole: &[u8], fraction: &[u8]) -> bool
 }
 
 /// The number of these digits, but at most so many.
+#[tactic(auto, using(crate::proofs::Passed::digit_low, crate::proofs::Passed::value_more))]
 fn value_up_to(digits: &[u8], most: usize) -> usize
     requires { IsNumeral 10 digits.now }
     ensures { result ≡ min (digits_value 10 digits.now) most }

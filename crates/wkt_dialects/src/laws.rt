@@ -13,6 +13,7 @@ pub fn one_value_as()
 {}
 
 /// A number that is read without exponents is read as the same with them.
+#[tactic(auto, using(crate::proofs::Scaled::exponents_keep))]
 pub fn exponents_keep()
     ensures { ExponentsKeep }
 {}

@@ -43,6 +43,7 @@ fn nans(count: usize, text: &[u8], from: usize) -> Option<usize>
 }
 
 /// Where the parenthesis behind so many of them closes, if they stand in one.
+#[tactic(auto, using(crate::proofs::Looks::within_is, crate::proofs::Looks::within_past))]
 fn nans_within(count: usize, text: &[u8], from: usize) -> Option<usize>
     requires inside { from ≤ length text.now }
     requires few { count ≤ 4 }

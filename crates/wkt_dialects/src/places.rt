@@ -53,6 +53,7 @@ fn lexemes_before(text: &[u8], upto: usize) -> usize
 
 /// The place in a text without its SRID of a place in `other`, the text that it is read as: where the lexeme ends that is
 /// the last one before it, and from where to where the bytes of the next one stand, or where the text ends.
+#[tactic(auto, using(crate::proofs::Writing::few_enough))]
 pub fn place_in(dialects: Dialects, text: &[u8], other: &[u8], at: usize) -> (usize, usize, usize)
     requires { IsRestAs dialects text.now other.now }
     ensures { IsPlace dialects text.now (ended_before at (spanned other.now)) result.0 result.1 result.2 }

@@ -6,7 +6,7 @@ ghost use Rattle.wkt_dialects.specs.Dialects.{spot_behind, goes_on, dimensioned}
 use wkt_access::Dimension;
 use wkt_types::GeometryType;
 
-/// Where a lexeme stands, as far as an empty point may stand there.
+/// Where a lexeme stands, as far as an empty point may be there.
 #[derive(Clone, Copy)]
 pub enum Spot {
     Elsewhere,
