@@ -199,8 +199,8 @@ number-of most ds false false false false e x h = cc
 number-of most ds false false false true true x h = cc
 number-of most ds false false false true false x h = (x, places-of most ds (places_in false ds) refl h)
 
-pub fewer-is-read : FewerIsRead
-fewer-is-read most w h =
+pub fewer_is_read : FewerIsRead
+fewer_is_read most w h =
     let ds = without_leading_sign w in
     let f = number-of most ds (begins_word (codes "NAN") ds || (begins_word (codes "INF") ds || begins (codes "1.#") ds)) (is_missing ds) (begins_dash ds) (begins_number ds) (has_exponent ds) refl h in
     let same = plus-same w f.0 in

@@ -2,7 +2,6 @@
 -- characters.
 use Rattle.std.proofs.Common.{◌≡◌, ◌≢◌, ℕ, if◌then◌else◌, slice_range, Some, ◌+◌, ◌≤◌, ◌<◌, List, [], ◌∷◌, ◌++◌, length, drop, get_or, add-one, refl, ap, ◌∙◌, sym, subst, append_assoc, arith, length-append, IsUtf8, IsCharBoundary, Option, inl, inr, append-nil, None, false}
 use Rattle.std.proofs.Math.Seq.{drop-cons}
-use Rattle.std.proofs.Math.ListN.{drop_of_length-le}
 use Rattle.std.proofs.lemmas.Str.{IsCharBoundary-at_seam}
 use Rattle.std.proofs.lemmas.Bool.{cases_eq, cases_lt}
 use Rattle.std.proofs.lemmas.List.{length-drop, drop_all, drop_more, drop_at}
@@ -61,9 +60,6 @@ all_more (y ∷ xs) x h e = (h.0, all_more xs x h.1 e)
 next_byte : (text : List ℕ) (at : ℕ) → at < length text → drop at text ≡ get_or text at 0 ∷ drop (at + 1) text
 next_byte text at h = rw add-one (drop-cons text at 0 h)
 
-pub none_yet : (text : List ℕ) (from : ℕ) → from ≤ length text → IsWhiteTo text from from
-none_yet text from h = record { gap = []; within = h; split = refl; white = tt }
-
 pub one_more : (text : List ℕ) (from at : ℕ) → IsWhiteTo text from at → at < length text → class_of (get_or text at 0) ≡ White → IsWhiteTo text from (at + 1)
 one_more text from at w h e = record {
   gap = w.gap ++ (get_or text at 0 ∷ []);
@@ -79,15 +75,6 @@ stops_at text from at w h e = record {
   split = w.split;
   white = w.white;
   stops = subst (StartsOther White) (sym (next_byte text at h)) e;
-}
-
-pub stops_end : (text : List ℕ) (from at : ℕ) → IsWhiteTo text from at → length text ≤ at → IsPastWhite text from at
-stops_end text from at w h = record {
-  gap = w.gap;
-  within = w.within;
-  split = w.split;
-  white = w.white;
-  stops = subst (StartsOther White) (sym (drop_of_length-le text h)) tt;
 }
 
 -- The place of a refusal is cut between characters.
@@ -165,7 +152,7 @@ past_dark text from to between inside dark =
     let gap = gap_between text from to between inside in
     record { gap = gap.bytes; within = inside; split = gap.split; white = gap.white; stops = starts_dark text to dark }
 
--- where the lexeme ends that stands there
+-- where the next lexeme ends
 pub ends_mark : (text : List ℕ) (at b : ℕ) (l : Lexeme) → b ≡ get_or text at 0 → class_of b ≡ Mark l → EndsLexeme text at (at + 1)
 ends_mark text at b l is mark =
     let takes = takes-mark false text at l (ap (class_in false) (sym is) ∙ classes.mark-in false b l mark) in

@@ -63,7 +63,7 @@ kind_hint w =
     else (if begins (codes "(") w || begins_signed w then Some hint.NoKind
     else None))))))))
 
--- An e of either case stands there.
+-- An e of either case is at the place.
 abbrev pub has_exponent : List ℕ → Bool
 has_exponent = list_any (λ b. b == 101 || b == 69)
 

@@ -1,4 +1,4 @@
--- White space, whether a text is accepted, what follows its geometry, and what is told of a text in which the machine
+-- White space, whether a text is accepted, what follows its geometry, and what is reported of a text in which the machine
 -- stops.
 use Rattle.std.specs.Prelude.{◌≡◌, ℕ, ◌≤◌, List, ◌++◌, length, drop, ◌<◌, ◌⊎◌, Option, Bool, true, [], ◌∷◌, false}
 use Rattle.wkt_num.specs.Bytes.{White, AllWhite}
@@ -45,7 +45,7 @@ module _ {N : Type 0} (read : List ℕ → Option N) where
     pub past : IsPastWhite text end at
     pub more : at < length text
 
-  -- The text begins with no geometry: where it is refused, what could stand there, and with which message.
+  -- The text begins with no geometry: where it is refused, what could come next, and with which message.
   pub record IsRefusalOf (text : List ℕ) (r : Refusal) : Type 0 where
     pub none : HasNoFront read text
     pub place : IsRefusedAt read text r.start r.end r.expected
@@ -62,7 +62,7 @@ module _ {N : Type 0} (read : List ℕ → Option N) where
 abbrev pub IsPaddedFor : List ℕ → List ℕ → Type 0
 IsPaddedFor text walked = (walked ≡ text) ⊎ ((more : List ℕ) × (walked ≡ text ++ (0 ∷ more)))
 
--- What is told of a text in which the machine stops. Only private contracts cite these words.
+-- What is reported of a text in which the machine stops. Only private contracts cite these words.
 
 -- The first of the lexemes ends there; or there is none, and nothing has an end.
 abbrev pub EndsFirst : List Spanned → ℕ → ℕ → Type 0

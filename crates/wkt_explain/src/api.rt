@@ -33,13 +33,13 @@ pub fn message_by<N: Numbers>(numbers: N, text: &str) -> Message
     }
 }
 
-/// Where a text is refused, with which message, and what could stand there; `None` where it has a geometry at its
+/// Where a text is refused, with which message, and what could come next; `None` where it has a geometry at its
 /// front. It takes no memory, and no stack for nesting.
 ///
 /// The place is the lexeme that is too much: those before it are a beginning of a geometry, and with it no geometry
 /// can come any more, whatever lexemes follow (over a number type that has a value: `wkt::laws::dead_for_good`). Where
 /// the text ends too early, at its end or its first NUL, the place is empty. What is expected there is exactly what
-/// could stand there, and the place is cut between characters. The message is that of `from_str`, and the one that the
+/// could come next, and the place is cut between characters. The message is that of `from_str`, and the one that the
 /// table of `docs/GRAMMAR.md` has for the place.
 ///
 /// ```text

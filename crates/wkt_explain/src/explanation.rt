@@ -7,7 +7,7 @@ use std::fmt;
 use std::fmt::Formatter;
 use wkt_read::{Expected, Message};
 
-/// Where a text is refused, with which message, and what could stand there.
+/// Where a text is refused, with which message, and what could come next.
 #[derive(Clone, Copy, PartialEq, Eq, Debug)]
 pub struct Refusal {
     /// The message with which the readers refuse it.
@@ -16,7 +16,7 @@ pub struct Refusal {
     pub start: usize,
     /// Where it ends. Where the text ends too early, this is `start`.
     pub end: usize,
-    /// What could stand there in its place.
+    /// What could come next in its place.
     pub expected: Expected,
 }
 
@@ -31,7 +31,7 @@ pub struct Explanation<'a> {
     pub start: usize,
     /// Where it ends. Where the text ends too early, this is `start`.
     pub end: usize,
-    /// What could stand there in its place.
+    /// What could come next in its place.
     pub expected: Expected,
 }
 
@@ -60,7 +60,7 @@ impl<'a> Explanation<'a> {
     }
 }
 
-/// The line in which the place is, and below it a mark under the place and what could stand there.
+/// The line in which the place is, and below it a mark under the place and what could come next.
 ///
 /// ```text
 /// POINT(1)

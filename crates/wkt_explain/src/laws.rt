@@ -15,6 +15,7 @@ pub fn refused_has_no_front<T: WktNum>()
 {}
 
 /// A number whose hint is `Fewer` is read with 18 places.
+#[tactic(auto, using(crate::proofs::Fewer::fewer_is_read))]
 pub fn fewer_is_read()
     ensures { FewerIsRead }
 {}

@@ -19,6 +19,7 @@ use wkt_read::words::{is_white, kind_in};
 use wkt_sources::{ByteCursor, message_at};
 
 /// The first place from here on where no white space stands.
+#[tactic(auto, using(crate::proofs::StopsAreRefusals::one_more, crate::proofs::StopsAreRefusals::stops_at))]
 pub(crate) fn past_white(text: &[u8], from: usize) -> usize
     requires within { from ≤ length text.now }
     ensures { IsPastWhite text.now from result }
