@@ -1,12 +1,12 @@
 -- What a text builder has written, and what it makes of events.
 use Rattle.std.proofs.Common.{refl, sym, ap, subst, ◌∙◌, arith, inl, inr}
-use Rattle.std.specs.Prelude.{◌≡◌, ℕ, ◌+◌, ◌≤◌, List, ◌++◌, length, take, IsUtf8, ◌-◌, ◌*◌, ◌<◌, [], ◌∷◌, get_or, slice_range, Option, IsTrue}
+use Rattle.std.specs.Prelude.{◌≡◌, ℕ, ◌+◌, ◌≤◌, List, ◌++◌, length, take, IsUtf8, ◌-◌, ◌*◌, ◌<◌, [], ◌∷◌, get_or, slice_range, Option, IfSome, IfNone, IsTrue}
 use Rattle.std.specs.List.{AllByRecursion}
 use Rattle.std.proofs.lemmas.Bool.{cases_lt}
 use Rattle.wkt_canonical.specs.Written.{EventsWritten, write, write_all}
 use Rattle.wkt_canonical.specs.declared.text_builder.TextBuilder.{TextBuilder}
 use Rattle.wkt_read.specs.Lexemes.{starts_number, without_plus}
-use Rattle.wkt_events.specs.Remaining.{IsRunEnd, IsNumberAt}
+use Rattle.wkt_events.specs.Remaining.{IsRunEnd, IsNumberAt, NoNumber}
 use Rattle.wkt_machine.specs.Events.{Event}
 use Rattle.wkt_machine.specs.Makers.{Maker}
 use Rattle.wkt_machine.specs.Room.{number_cost}
@@ -155,3 +155,9 @@ pub record Numbered {P N : Type 0} (read : List ℕ → Option N) (num : N → L
   pub utf8 : length after.out.now ≡ length before.out.now → IsUtf8 (num number)
   pub stuck : length after.out.now < length before.out.now → number_cost (without_plus (slice_range text at end)) ≤ length (num number)
   pub room : (m : ℕ) → m ≤ 2 * (length text - end) + 1 → before.len + m + number_cost (without_plus (slice_range text at end)) + 63 ≤ length before.out.now → after.len + m + 64 ≤ length after.out.now
+
+-- The number that stands there was put, and its end is returned; or none stands there, and the text builder is as it was.
+pub record PutsNumber {P N : Type 0} (read : List ℕ → Option N) (num : N → List ℕ) (text : List ℕ) (at : ℕ) (before after : TextBuilder P) (end : Option ℕ) : Type 0 where
+  pub some : IfSome end (Numbered read num text at before after)
+  pub none : IfNone end (NoNumber read text at)
+  pub nothing : IfNone end (after ≡ before)

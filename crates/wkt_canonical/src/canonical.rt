@@ -6,8 +6,8 @@ ghost use Rattle.wkt_canonical.specs.Through.{IfEnds, IfNothing, IfWritten, Stop
 use crate::room::has_room;
 use crate::space::Space;
 use crate::text_builder::TextBuilder;
+use wkt_machine::Machine;
 use wkt_machine::drive::drive;
-use wkt_machine::{Machine, Progress};
 use wkt_num::{Numbers, OfType, WktNum};
 use wkt_read::Message;
 use wkt_sources::{ByteCursor, message_at};
@@ -64,26 +64,6 @@ pub fn canonical_into_by<N: Numbers>(
     }
 }
 
-/// As [`canonical_into`], and with its message where the text has no geometry at its front: no byte is read twice for it.
-///
-/// # Errors
-/// [`NoRoom`], as there.
-#[inline(always)]
-pub fn canonical_or_message<N: Numbers>(
-    numbers: N,
-    text: &str,
-    buffer: &mut [u8],
-) -> Result<Result<TextWritten, Message>, NoRoom>
-    ensures writes { WritesOrSays (N.read numbers) (N.num numbers) text.now buffer.old buffer.new result }
-    ensures room { IfWritten result (λ w. w.len + 64 ≤ length buffer.new) }
-    ensures whole { length buffer.new ≡ length buffer.old }
-{
-    if !has_room(buffer.len(), text.len()) {
-        return Err(NoRoom);
-    }
-    canonical_in_room(numbers, text, buffer)
-}
-
 /// The same, into a buffer that surely is long enough, which isn't looked at.
 ///
 /// # Errors
@@ -114,7 +94,12 @@ pub fn canonical_in_room<N: Numbers>(
     }
 }
 
-/// The same as [`canonical_or_message`], in the one place that most calls share: into that the machine is built, however large it is.
+/// As [`canonical_into`], and with its message where the text has no geometry at its front: no byte is read twice for it.
+///
+/// It isn't inlined: in the one place that most calls share the machine is built in, however large it is.
+///
+/// # Errors
+/// [`NoRoom`], as there.
 #[inline(never)]
 pub fn canonical_or_message_outlined<N: Numbers>(
     numbers: N,
@@ -125,7 +110,10 @@ pub fn canonical_or_message_outlined<N: Numbers>(
     ensures room { IfWritten result (λ w. w.len + 64 ≤ length buffer.new) }
     ensures whole { length buffer.new ≡ length buffer.old }
 {
-    canonical_or_message(numbers, text, buffer)
+    if !has_room(buffer.len(), text.len()) {
+        return Err(NoRoom);
+    }
+    canonical_in_room(numbers, text, buffer)
 }
 
 /// Writes the canonical text of the geometry that the text begins with behind the first `len` bytes, and returns where
@@ -235,23 +223,15 @@ pub(crate) fn write_next<N: Numbers, const LF_ENDS: bool>(
         builder,
     ) {
         Ok(over) => {
-            let Progress {
-                source,
-                machine: _,
-                builder,
-            } = over;
-            let TextBuilder {
-                out,
-                len,
-                polygon: _,
-                numbers: _,
-            } = builder;
+            let end = over.source.at;
+            let builder = over.builder;
+            let (out, len) = (builder.out, builder.len);
             if out.len() < whole {
                 return Next::NoRoom;
             }
             space.out = out;
             space.len = len;
-            Next::Ends(source.at)
+            Next::Ends(end)
         }
         Err(stop) => Next::Nothing(stop.machine, stop.source.at),
     }

@@ -12,7 +12,7 @@ mod text_builder;
 
 pub use canonical::{
     NoRoom, TextWritten, canonical_in_room, canonical_into, canonical_into_by,
-    canonical_or_message, canonical_or_message_outlined, write_canonical, write_front,
+    canonical_or_message_outlined, write_canonical, write_front,
 };
 pub use room::{
     SPARE, has_room, lengthen, make_room, room_for, widen, write_growing, write_growing_by,

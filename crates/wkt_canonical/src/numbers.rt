@@ -1,10 +1,9 @@
 //! Numbers, as their texts.
 ghost use Rattle.std.specs.Bool.{OnTrue};
-ghost use Rattle.std.specs.Prelude.{◌≡◌, ◌+◌, ◌-◌, ◌*◌, ◌<◌, ◌≤◌, length, slice_range, IfSome, IfNone};
+ghost use Rattle.std.specs.Prelude.{◌≡◌, ◌+◌, ◌-◌, ◌*◌, ◌<◌, ◌≤◌, length, slice_range};
 ghost use Rattle.wkt_read.specs.Lexemes.{without_plus};
-ghost use Rattle.wkt_events.specs.Remaining.{NoNumber};
 ghost use Rattle.wkt_machine.specs.Room.{shortest};
-ghost use Rattle.wkt_canonical.specs.TextBuilderMaker.{HasBytes, WritesNumber, Numbered, HasSpace};
+ghost use Rattle.wkt_canonical.specs.TextBuilderMaker.{HasBytes, WritesNumber, PutsNumber, HasSpace};
 
 use crate::space::Space;
 use crate::text_builder::TextBuilder;
@@ -36,24 +35,17 @@ impl<'a, N: Numbers> TextBuilder<'a, N> {
         requires { HasBytes self (length (N.num self.numbers number)) }
         ensures { WritesNumber (N.num self.entry.numbers) self.entry number result }
     {
-        let TextBuilder {
-            out,
-            len,
-            polygon,
-            numbers,
-        } = self;
         let mut space = Space {
-            out,
-            len,
+            out: self.out,
+            len: self.len,
             failures: 0,
         };
         // There is room for it.
-        let _ = numbers.write_number(number, &mut space);
+        let _ = self.numbers.write_number(number, &mut space);
         TextBuilder {
             out: space.out,
             len: space.len,
-            polygon,
-            numbers,
+            ..self
         }
     }
 
@@ -62,42 +54,27 @@ impl<'a, N: Numbers> TextBuilder<'a, N> {
     fn other_number(self, text: &[u8], at: usize) -> (Self, Option<usize>)
         requires at { at ≤ length text.now }
         requires room { HasSpace self text.now at }
-        ensures some { IfSome result.1 (Numbered (N.read self.entry.numbers) (N.num self.entry.numbers) text.now at self.entry result.0) }
-        ensures none { IfNone result.1 (NoNumber (N.read self.entry.numbers) text.now at) }
-        ensures nothing { IfNone result.1 (result.0 ≡ self.entry) }
+        ensures { PutsNumber (N.read self.entry.numbers) (N.num self.entry.numbers) text.now at self.entry result.0 result.1 }
     {
         let Some((number, end)) = number_there(self.numbers, text, at) else {
             return (self, None);
         };
         let run = past_plus(text, at, end);
-        let TextBuilder {
-            out,
-            len,
-            polygon,
-            numbers,
-        } = self;
-        let before = len;
         let mut space = Space {
-            out,
-            len,
+            out: self.out,
+            len: self.len,
             failures: 0,
         };
-        match numbers.write_number(number, &mut space) {
+        match self.numbers.write_number(number, &mut space) {
             Ok(()) => {
                 let (out, len) = (space.out, space.len);
                 // Each byte of the run was given room for two. A longer text has to leave room for what follows.
-                if len - before < 2 * (end - run) || leaves_room(out, len, text, end) {
-                    let builder = TextBuilder {
-                        out,
-                        len,
-                        polygon,
-                        numbers,
-                    };
-                    return (builder, Some(end));
+                if len - self.len < 2 * (end - run) || leaves_room(out, len, text, end) {
+                    return (TextBuilder { out, len, ..self }, Some(end));
                 }
-                (TextBuilder::stuck(numbers, out), Some(end))
+                (TextBuilder::stuck(self.numbers, out), Some(end))
             }
-            Err(_) => (TextBuilder::stuck(numbers, space.out), Some(end)),
+            Err(_) => (TextBuilder::stuck(self.numbers, space.out), Some(end)),
         }
     }
 
@@ -106,9 +83,7 @@ impl<'a, N: Numbers> TextBuilder<'a, N> {
     pub(crate) fn put_number(self, text: &[u8], at: usize) -> (Self, Option<usize>)
         requires at { at ≤ length text.now }
         requires room { HasSpace self text.now at }
-        ensures some { IfSome result.1 (Numbered (N.read self.entry.numbers) (N.num self.entry.numbers) text.now at self.entry result.0) }
-        ensures none { IfNone result.1 (NoNumber (N.read self.entry.numbers) text.now at) }
-        ensures nothing { IfNone result.1 (result.0 ≡ self.entry) }
+        ensures { PutsNumber (N.read self.entry.numbers) (N.num self.entry.numbers) text.now at self.entry result.0 result.1 }
     {
         // Of these types it isn't known that a text that is kept is UTF-8.
         if !self.numbers.reads_texts() {
@@ -128,24 +103,15 @@ impl<'a, N: Numbers> TextBuilder<'a, N> {
     fn slow_number(self, text: &[u8], at: usize) -> (Self, Option<usize>)
         requires at { at ≤ length text.now }
         requires room { HasSpace self text.now at }
-        ensures some { IfSome result.1 (Numbered (N.read self.entry.numbers) (N.num self.entry.numbers) text.now at self.entry result.0) }
-        ensures none { IfNone result.1 (NoNumber (N.read self.entry.numbers) text.now at) }
-        ensures nothing { IfNone result.1 (result.0 ≡ self.entry) }
+        ensures { PutsNumber (N.read self.entry.numbers) (N.num self.entry.numbers) text.now at self.entry result.0 result.1 }
     {
         let polygon = self.polygon;
         let numbers = self.numbers;
         let (builder, end) = self.slow_number_outlined(text, at);
-        let TextBuilder {
-            out,
-            len,
-            polygon: _,
-            numbers: _,
-        } = builder;
         let builder = TextBuilder {
-            out,
-            len,
             polygon,
             numbers,
+            ..builder
         };
         (builder, end)
     }
@@ -156,9 +122,7 @@ impl<'a, N: Numbers> TextBuilder<'a, N> {
     fn slow_number_outlined(self, text: &[u8], at: usize) -> (Self, Option<usize>)
         requires at { at ≤ length text.now }
         requires room { HasSpace self text.now at }
-        ensures some { IfSome result.1 (Numbered (N.read self.entry.numbers) (N.num self.entry.numbers) text.now at self.entry result.0) }
-        ensures none { IfNone result.1 (NoNumber (N.read self.entry.numbers) text.now at) }
-        ensures nothing { IfNone result.1 (result.0 ≡ self.entry) }
+        ensures { PutsNumber (N.read self.entry.numbers) (N.num self.entry.numbers) text.now at self.entry result.0 result.1 }
     {
         // No number stands where a parenthesis closes, or the text ends.
         if !is_of_run(byte_at(text, at)) {

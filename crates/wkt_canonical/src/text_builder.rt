@@ -61,23 +61,13 @@ impl<'a, N: Numbers> TextBuilder<'a, N> {
 
     // Not `always`: LLVM inlines it by itself, and so it doesn't count in the size above which `always` is dropped.
     #[inline]
-    pub(crate) fn put(self, byte: u8) -> Self
+    pub(crate) fn put(mut self, byte: u8) -> Self
         requires { HasBytes self 1 }
         ensures { Extends self.entry (byte ∷ []) result }
     {
-        let TextBuilder {
-            out,
-            len,
-            polygon,
-            numbers,
-        } = self;
-        out[len] = byte;
-        TextBuilder {
-            out,
-            len: len + 1,
-            polygon,
-            numbers,
-        }
+        self.out[self.len] = byte;
+        self.len += 1;
+        self
     }
 
     /// Writes the first `n` bytes of a window.
@@ -88,40 +78,25 @@ impl<'a, N: Numbers> TextBuilder<'a, N> {
         requires room { HasBytes self 32 }
         ensures { Extends self.entry (take n window.now) result }
     {
-        let TextBuilder {
-            out,
-            len,
-            polygon,
-            numbers,
-        } = self;
+        let (out, len) = (self.out, self.len);
         u8x32::from_slice(window).copy_to_slice(&mut out[len..]);
         TextBuilder {
             out,
             len: len + n,
-            polygon,
-            numbers,
+            ..self
         }
     }
 
     #[inline(always)]
-    fn put_all(self, text: &[u8]) -> Self
+    fn put_all(mut self, text: &[u8]) -> Self
         requires { HasBytes self (length text.now) }
         ensures { Extends self.entry text.now result }
     {
-        let TextBuilder {
-            out,
-            len,
-            polygon,
-            numbers,
-        } = self;
-        let end = len + text.len();
-        out[len..end].copy_from_slice(text);
-        TextBuilder {
-            out,
-            len: end,
-            polygon,
-            numbers,
-        }
+        let at = self.len;
+        let end = at + text.len();
+        self.out[at..end].copy_from_slice(text);
+        self.len = end;
+        self
     }
 
     /// The word of a whole geometry.
@@ -166,18 +141,7 @@ impl<'a, N: Numbers> TextBuilder<'a, N> {
     fn back_to(self, len: usize) -> Self
         ensures { result ≡ record self.entry { len = len } }
     {
-        let TextBuilder {
-            out,
-            len: _,
-            polygon,
-            numbers,
-        } = self;
-        TextBuilder {
-            out,
-            len,
-            polygon,
-            numbers,
-        }
+        TextBuilder { len, ..self }
     }
 
     /// What stands before a number of a coordinate.
@@ -199,17 +163,9 @@ impl<'a, N: Numbers> TextBuilder<'a, N> {
         ensures becomes { TextBuilderBecomes self.entry (opened true (written_of self.entry)) result }
         ensures len { result.len ≡ self.entry.len + 1 }
     {
-        let TextBuilder {
-            out,
-            len,
-            polygon: _,
-            numbers,
-        } = self;
         let builder = TextBuilder {
-            out,
-            len,
-            polygon: len,
-            numbers,
+            polygon: self.len,
+            ..self
         };
         builder.put(b'(')
     }
@@ -236,17 +192,9 @@ impl<'a, N: Numbers> TextBuilder<'a, N> {
         if !self.is_hollow() {
             return self.put(b')');
         }
-        let TextBuilder {
-            out,
-            len: _,
-            polygon,
-            numbers,
-        } = self;
         let builder = TextBuilder {
-            out,
-            len: polygon,
-            polygon,
-            numbers,
+            len: self.polygon,
+            ..self
         };
         builder.put_empty(part)
     }
