@@ -6,7 +6,7 @@ use Rattle.std.proofs.Math.Seq.{take-add}
 use Rattle.std.proofs.lemmas.List.{drop_more, take_at, drop_at, length-append, drop-drop}
 use Rattle.std.proofs.lemmas.List.Concat.{flat_map-append}
 use Rattle.wkt_access.specs.declared.dimensions.Dimension.{Dimension}
-use Rattle.wkt_access.specs.declared.dimensions.Dimension.TheVariants.{XY, XYZ, XYM, XYZM}
+use Rattle.wkt_access.specs.declared.dimensions.Dimension.TheVariants.{XY}
 use Rattle.wkt_access.specs.Values.{size, Value}
 use Rattle.wkt_fill.specs.Arrays.{joined, offsets, numbers_in, parts_of, IsGiven, from_on, up_to, between, Ascend, AreOffsetsTo, AreWhole, coordinate_at, ring_at, polygon_at, polygons_in, AreRingsOfOne, HasParts, HasPartsOf}
 use Rattle.wkt_fill.specs.declared.given.Given.{Given}
@@ -114,21 +114,15 @@ between-offsets {A = A} item offs (xs ∷ xss) i n e h =
 
 times : (d : Dimension) (i : ℕ) → suc i * size d ≡ size d + i * size d
 times XY i = omega arith
-times XYZ i = omega arith
-times XYM i = omega arith
-times XYZM i = omega arith
+times _ i = omega arith
 
 pub next-times : (d : Dimension) (i : ℕ) → (i + 1) * size d ≡ i * size d + size d
 next-times XY i = omega arith
-next-times XYZ i = omega arith
-next-times XYM i = omega arith
-next-times XYZM i = omega arith
+next-times _ i = omega arith
 
 pub fewer : (d : Dimension) (i n : ℕ) → i < n → i * size d + size d ≤ n * size d
 fewer XY i n lt = omega (arith, lt)
-fewer XYZ i n lt = omega (arith, lt)
-fewer XYM i n lt = omega (arith, lt)
-fewer XYZM i n lt = omega (arith, lt)
+fewer _ i n lt = omega (arith, lt)
 
 abbrev pub cut : Dimension → List ℤ → ℕ → List ℤ
 cut d numbers i = take (size d) (drop (i * size d) numbers)
@@ -174,9 +168,7 @@ offset-within offs end h k lt =
 
 times-within : (d : Dimension) (a n : ℕ) → a ≤ n → a * size d ≤ n * size d
 times-within XY a n le = omega (arith, le)
-times-within XYZ a n le = omega (arith, le)
-times-within XYM a n le = omega (arith, le)
-times-within XYZM a n le = omega (arith, le)
+times-within _ a n le = omega (arith, le)
 
 module _ (g : Given) (w : AreWhole g) (k : ℕ) where
   pub ring-order : k + 1 < length g.rings.now → slice_index g.rings.now k ≤ slice_index g.rings.now (k + 1)

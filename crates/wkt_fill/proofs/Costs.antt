@@ -6,7 +6,7 @@ use Rattle.wkt_num.specs.Decimal.{IsUnits}
 use Rattle.wkt_access.specs.Values.{Value, size}
 use Rattle.wkt_access.specs.WellFormed.{LineStringFits, PolygonFits, PointFits, IsWellFormed}
 use Rattle.wkt_access.specs.declared.dimensions.Dimension.{Dimension}
-use Rattle.wkt_access.specs.declared.dimensions.Dimension.TheVariants.{XY, XYZ, XYM, XYZM}
+use Rattle.wkt_access.specs.declared.dimensions.Dimension.TheVariants.{XY}
 use Rattle.wkt_machine.specs.Events.{Event, numbers, further, listed, perhaps, events}
 use Rattle.wkt_machine.specs.declared.part.Part.{Part}
 use Rattle.wkt_machine.specs.declared.part.Part.TheVariants as part
@@ -17,9 +17,7 @@ use Rattle.wkt_fill.proofs.Owing.{cost-append}
 
 positive : (d : Dimension) → 1 ≤ size d
 positive XY = omega arith
-positive XYZ = omega arith
-positive XYM = omega arith
-positive XYZM = omega arith
+positive _ = omega arith
 
 total : {A : Type 0} → (A → ℕ) → List A → ℕ
 total w [] = 0

@@ -128,9 +128,7 @@ module _ (s t : EventWriter) where
 
   counted-more : (a : Axis) (n : ℕ) → counted a n ≤ n + 1
   counted-more axis.X n = omega arith
-  counted-more axis.Y n = omega arith
-  counted-more axis.Z n = omega arith
-  counted-more axis.M n = omega arith
+  counted-more _ n = omega arith
 
   -- a number more
   pub push-becomes : (a : Axis) (x : ℤ) → t.places ≡ s.places → t.numbers.ghost_name ≡ s.numbers.ghost_name → t.events ≡ s.events → t.event_count ≡ s.event_count → t.dimension ≡ s.dimension

@@ -288,67 +288,29 @@ begin = record { numbers = refl; rings = refl; polygons = refl; coordinates = re
 abbrev from : GeometryType → (v : Value ℤ) → Headed
 from k v = record { kind = k; dimension = dim_of v; flat = nothing }
 
+-- the arrays that a value's events lead to, where they hold its parts
+held : (v : Value ℤ) {a b : Headed} (parts : List (List (List (List ℤ)))) → b ≡ a → parts_of v ≡ Some parts → a.kind ≡ kind_of v → a.dimension ≡ dim_of v → is_collection a.kind ≡ false → Holds a.flat parts [] [] → IsHeld v b ⊎ IsCollected v b
+held v parts e flat kind_is dimension_is one holds = inl (subst (IsHeld v) (sym e) (record { parts = parts; flat = flat; kind_is = kind_is; dimension_is = dimension_is; one = one; holds = holds }))
+
 -- The arrays of a value's events are its arrays, or it is a collection.
 pub outcome : (P : ℤ → Type 0) (v : Value ℤ) → IsWellFormed P v → IsHeld v (arrays_of (events v)) ⊎ IsCollected v (arrays_of (events v))
 outcome P (Value.point d c) fit =
-    inl (subst (IsHeld (Value.point d c)) (sym (point-does d part.Point c (from kind.Point (Value.point d c))))
-    (record {
-      parts = (option_to_list c ∷ []) ∷ [];
-      flat = refl;
-      kind_is = refl;
-      dimension_is = refl;
-      one = refl;
-      holds = polygon-more _ [] (option_to_list c ∷ []) (ring-more _ [] [] (option_to_list c) (coordinates-hold P kind.Point refl d (option_to_list c) (point-fits P kind.Point refl d c fit) nothing [] [] [] begin));
-    }))
+    held (Value.point d c) ((option_to_list c ∷ []) ∷ []) (point-does d part.Point c (from kind.Point (Value.point d c))) refl refl refl refl
+    (polygon-more _ [] (option_to_list c ∷ []) (ring-more _ [] [] (option_to_list c) (coordinates-hold P kind.Point refl d (option_to_list c) (point-fits P kind.Point refl d c fit) nothing [] [] [] begin)))
 outcome P (Value.line_string d cs) fit =
-    inl (subst (IsHeld (Value.line_string d cs)) (sym (line-does d part.LineString cs (from kind.LineString (Value.line_string d cs))))
-    (record {
-      parts = (cs ∷ []) ∷ [];
-      flat = refl;
-      kind_is = refl;
-      dimension_is = refl;
-      one = refl;
-      holds = polygon-more _ [] (cs ∷ []) (ring-more _ [] [] cs (coordinates-hold P kind.LineString refl d cs fit nothing [] [] [] begin));
-    }))
+    held (Value.line_string d cs) ((cs ∷ []) ∷ []) (line-does d part.LineString cs (from kind.LineString (Value.line_string d cs))) refl refl refl refl
+    (polygon-more _ [] (cs ∷ []) (ring-more _ [] [] cs (coordinates-hold P kind.LineString refl d cs fit nothing [] [] [] begin)))
 outcome P (Value.polygon d rs) fit =
-    inl (subst (IsHeld (Value.polygon d rs)) (sym (lines-do d part.Polygon part.Ring rs (from kind.Polygon (Value.polygon d rs))))
-    (record {
-      parts = rs ∷ [];
-      flat = refl;
-      kind_is = refl;
-      dimension_is = refl;
-      one = refl;
-      holds = polygon-more _ [] rs (lines-hold P kind.Polygon refl d part.Ring (λ b. refl) rs fit nothing [] [] begin);
-    }))
+    held (Value.polygon d rs) (rs ∷ []) (lines-do d part.Polygon part.Ring rs (from kind.Polygon (Value.polygon d rs))) refl refl refl refl
+    (polygon-more _ [] rs (lines-hold P kind.Polygon refl d part.Ring (λ b. refl) rs fit nothing [] [] begin))
 outcome P (Value.multi_point d ms) fit =
-    inl (subst (IsHeld (Value.multi_point d ms)) (sym (listed-does part.MultiPoint (perhaps part.Member (numbers d)) (λ k. put_point k part.Member d) (point-does d part.Member) ms (from kind.MultiPoint (Value.multi_point d ms))))
-    (record {
-      parts = map option_to_list ms ∷ [];
-      flat = refl;
-      kind_is = refl;
-      dimension_is = refl;
-      one = refl;
-      holds = polygon-more _ [] (map option_to_list ms) (members-hold P kind.MultiPoint refl d ms fit nothing [] [] begin);
-    }))
+    held (Value.multi_point d ms) (map option_to_list ms ∷ []) (listed-does part.MultiPoint (perhaps part.Member (numbers d)) (λ k. put_point k part.Member d) (point-does d part.Member) ms (from kind.MultiPoint (Value.multi_point d ms))) refl refl refl refl
+    (polygon-more _ [] (map option_to_list ms) (members-hold P kind.MultiPoint refl d ms fit nothing [] [] begin))
 outcome P (Value.multi_line_string d ls) fit =
-    inl (subst (IsHeld (Value.multi_line_string d ls)) (sym (lines-do d part.MultiLineString part.Line ls (from kind.MultiLineString (Value.multi_line_string d ls))))
-    (record {
-      parts = ls ∷ [];
-      flat = refl;
-      kind_is = refl;
-      dimension_is = refl;
-      one = refl;
-      holds = polygon-more _ [] ls (lines-hold P kind.MultiLineString refl d part.Line (λ b. refl) ls fit nothing [] [] begin);
-    }))
+    held (Value.multi_line_string d ls) (ls ∷ []) (lines-do d part.MultiLineString part.Line ls (from kind.MultiLineString (Value.multi_line_string d ls))) refl refl refl refl
+    (polygon-more _ [] ls (lines-hold P kind.MultiLineString refl d part.Line (λ b. refl) ls fit nothing [] [] begin))
 outcome P (Value.multi_polygon d ps) fit =
-    inl (subst (IsHeld (Value.multi_polygon d ps)) (sym (listed-does part.MultiPolygon (listed part.Area (listed part.AreaRing (numbers d))) (λ k. put_lines k part.Area part.AreaRing d) (lines-do d part.Area part.AreaRing) ps (from kind.MultiPolygon (Value.multi_polygon d ps))))
-    (record {
-      parts = ps;
-      flat = refl;
-      kind_is = refl;
-      dimension_is = refl;
-      one = refl;
-      holds = polygons-hold P kind.MultiPolygon refl d ps fit nothing [] begin;
-    }))
+    held (Value.multi_polygon d ps) ps (listed-does part.MultiPolygon (listed part.Area (listed part.AreaRing (numbers d))) (λ k. put_lines k part.Area part.AreaRing d) (lines-do d part.Area part.AreaRing) ps (from kind.MultiPolygon (Value.multi_polygon d ps))) refl refl refl refl
+    (polygons-hold P kind.MultiPolygon refl d ps fit nothing [] begin)
 outcome P (Value.collection d vs) fit =
     inr (subst (IsCollected (Value.collection d vs)) (sym (collected (geometries vs) (from kind.GeometryCollection (Value.collection d vs)) refl)) (record { none = refl; some = refl; empty = refl; one_ring = refl; one_polygon = refl }))

@@ -1,4 +1,4 @@
--- The arrays of the front of a text, and a number that stands there.
+-- The arrays of the front of a text, and a number that comes next.
 use Rattle.std.proofs.Common.{ℕ, ℤ, ◌+◌, ◌-◌, ◌≤◌, List, [], length, take, drop, refl, sym, subst, ◌∙◌, to_z, of_z, w64, ◌≡◌, ◌≢◌, ◌⊎◌, inl, inr, ◌++◌, suc, zero, ap, arith, Option, Some, Bool, true, false, IfSome}
 use Rattle.std.specs.Prelude.{IsUtf8}
 use Rattle.std.proofs.lemmas.List.{take_rest, append-nil}
@@ -22,7 +22,7 @@ use Rattle.wkt_machine.specs.Events.{events}
 use Rattle.wkt_fill.specs.Arrays.{joined, numbers_in, offsets, HasLarge, LackPlaces, IsUnheld}
 use Rattle.wkt_fill.proofs.EventsToArrays.{IsHeld, IsCollected, outcome}
 
--- A number that is read from its first bytes stands there.
+-- A number that is read from its first bytes comes next.
 
 pub makes-fast : (D : ℕ) (text : List ℕ) (at : ℕ) (axis : Axis) (end : ℕ) (units : ℤ) (s t : ArrayBuilder) → at ≤ length text → BeginsUnits D (take (length text - at) (drop at text)) units end
     → ArrayBuilderBecomes s (on (λ k. put k axis (to_z w64 (of_z w64 units))) (view s)) t → MakesNumber (read_decimal 127 36 D) array_builder_maker s text at axis t (at + end)

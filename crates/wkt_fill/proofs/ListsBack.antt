@@ -28,12 +28,7 @@ kind_at n = kind.GeometryCollection
 
 kind_back : (k : GeometryType) → kind_at (kind_index k) ≡ k
 kind_back kind.Point = refl
-kind_back kind.LineString = refl
-kind_back kind.Polygon = refl
-kind_back kind.MultiPoint = refl
-kind_back kind.MultiLineString = refl
-kind_back kind.MultiPolygon = refl
-kind_back kind.GeometryCollection = refl
+kind_back _ = refl
 
 abbrev dim_at : ℕ → Dimension
 dim_at zero = dim.XY
@@ -43,24 +38,15 @@ dim_at n = dim.XYZM
 
 dim_back : (d : Dimension) → dim_at (dimension_index d) ≡ d
 dim_back dim.XY = refl
-dim_back dim.XYZ = refl
-dim_back dim.XYM = refl
-dim_back dim.XYZM = refl
+dim_back _ = refl
 
 dim_few : (d : Dimension) → dimension_index d ≤ 3
 dim_few dim.XY = omega arith
-dim_few dim.XYZ = omega arith
-dim_few dim.XYM = omega arith
-dim_few dim.XYZM = omega arith
+dim_few _ = omega arith
 
 kind_few : (k : GeometryType) → kind_index k ≤ 6
 kind_few kind.Point = omega arith
-kind_few kind.LineString = omega arith
-kind_few kind.Polygon = omega arith
-kind_few kind.MultiPoint = omega arith
-kind_few kind.MultiLineString = omega arith
-kind_few kind.MultiPolygon = omega arith
-kind_few kind.GeometryCollection = omega arith
+kind_few _ = omega arith
 
 begins-one : (k l : GeometryType) (d e : Dimension) → begins k d ≡ begins l e → (k ≡ l) × (d ≡ e)
 begins-one k l d e h =
@@ -77,9 +63,7 @@ no-end k d h = let a = dim_few d in let b = kind_few k in omega (arith, h, a, b)
 
 times-some : (d : Dimension) (n : ℕ) → n ≤ n * size d
 times-some dim.XY n = omega arith
-times-some dim.XYZ n = omega arith
-times-some dim.XYM n = omega arith
-times-some dim.XYZM n = omega arith
+times-some _ n = omega arith
 
 module _ (P : ℤ → Type 0) (d : Dimension) where
   coordinates-one : (cs ds : List (List ℤ)) → LineStringFits P d cs → LineStringFits P d ds → length cs ≡ length ds → joined cs ≡ joined ds → cs ≡ ds

@@ -10,13 +10,23 @@ use Rattle.wkt_access.specs.declared.dimensions.Dimension.{Dimension}
 use Rattle.wkt_types.specs.declared.geometry_type.GeometryType.{GeometryType}
 use Rattle.wkt_types.specs.declared.geometry_type.GeometryType.TheVariants as kind
 use Rattle.wkt_read.specs.Header.{kind_of, dim_of}
-use Rattle.wkt_fill.specs.Arrays.{parts_of, joined, offsets, numbers_in, IsGiven, from_on, coordinate_at, ring_at, polygon_at, polygons_in, AreWhole, AreRingsOfOne, HasParts, HasPartsOf}
+use Rattle.wkt_fill.specs.Arrays.{parts_of, joined, offsets, between, AreOffsetsTo, numbers_in, IsGiven, from_on, coordinate_at, ring_at, polygon_at, polygons_in, AreWhole, AreRingsOfOne, HasParts, HasPartsOf}
 use Rattle.wkt_fill.specs.declared.given.Given.{Given}
 use Rattle.wkt_fill.proofs.Between.{from-list, from-length, climbs, joined-between, offsets-between, joined-cuts, numbers-flat, fewer}
 
 from-all : {A : Type 0} (P : A → Type 0) (item : ℕ → A) (i n : ℕ) → ((k : ℕ) → k < i + n → P (item k)) → AllByRecursion P (from_on item i n)
 from-all P item i zero h = tt
 from-all P item i (suc n) h = (h i (omega arith), from-all P item (i + 1) n (λ k lt. h k (omega (arith, lt))))
+
+-- what holds of all items holds of those between two offsets
+between-all : {A : Type 0} (P : A → Type 0) (item : ℕ → A) (offs : List ℕ) (end : ℕ) → AreOffsetsTo offs end → ((k : ℕ) → k < end → P (item k)) → (i : ℕ) → i < length offs - 1 → AllByRecursion P (between item offs i)
+between-all P item offs end o each i lt =
+    let from : ℕ = slice_index offs i in
+    let to : ℕ = slice_index offs (i + 1) in
+    let up = o.ascend i (omega (arith, lt)) in
+    let rest = climbs item offs o.ascend (i + 1) (length offs - 1 - (i + 1)) (omega (arith, lt)) in
+    let last : slice_index offs (i + 1 + (length offs - 1 - (i + 1))) ≡ end = ap (slice_index offs) {x = i + 1 + (length offs - 1 - (i + 1))} {y = length offs - 1} (omega (arith, lt)) ∙ o.last in
+    from-all P item from (to - from) (λ k less. each k (omega (arith, less, up, rest, last)))
 
 all-take : {A : Type 0} (P : A → Type 0) (n : ℕ) (xs : List A) → AllByRecursion P xs → AllByRecursion P (take n xs)
 all-take P zero xs h = tt
@@ -69,22 +79,10 @@ module _ (places : ℕ) (g : Given) (w : AreWhole g) (units : AllByRecursion (Is
       )
 
   ring-fits : (k : ℕ) → k < length g.rings.now - 1 → LineStringFits (IsUnits places) g.dimension (ring_at g k)
-  ring-fits k lt =
-      let from : ℕ = slice_index g.rings.now k in
-      let to : ℕ = slice_index g.rings.now (k + 1) in
-      let up = w.rings.ascend k (omega (arith, lt)) in
-      let rest = climbs (coordinate_at g) g.rings.now w.rings.ascend (k + 1) (length g.rings.now - 1 - (k + 1)) (omega (arith, lt)) in
-      let last : slice_index g.rings.now (k + 1 + (length g.rings.now - 1 - (k + 1))) ≡ w.coordinates = ap (slice_index g.rings.now) {x = k + 1 + (length g.rings.now - 1 - (k + 1))} {y = length g.rings.now - 1} (omega (arith, lt)) ∙ w.rings.last in
-      from-all (CoordFits (IsUnits places) g.dimension) (coordinate_at g) from (to - from) (λ i less. coordinate-fits i (omega (arith, less, up, rest, last)))
+  ring-fits = between-all (CoordFits (IsUnits places) g.dimension) (coordinate_at g) g.rings.now w.coordinates w.rings coordinate-fits
 
   polygon-fits : (k : ℕ) → k < length g.polygons.now - 1 → PolygonFits (IsUnits places) g.dimension (polygon_at g k)
-  polygon-fits k lt =
-      let from : ℕ = slice_index g.polygons.now k in
-      let to : ℕ = slice_index g.polygons.now (k + 1) in
-      let up = w.polygons.ascend k (omega (arith, lt)) in
-      let rest = climbs (ring_at g) g.polygons.now w.polygons.ascend (k + 1) (length g.polygons.now - 1 - (k + 1)) (omega (arith, lt)) in
-      let last : slice_index g.polygons.now (k + 1 + (length g.polygons.now - 1 - (k + 1))) ≡ length g.rings.now - 1 = ap (slice_index g.polygons.now) {x = k + 1 + (length g.polygons.now - 1 - (k + 1))} {y = length g.polygons.now - 1} (omega (arith, lt)) ∙ w.polygons.last in
-      from-all (LineStringFits (IsUnits places) g.dimension) (ring_at g) from (to - from) (λ i less. ring-fits i (omega (arith, less, up, rest, last)))
+  polygon-fits = between-all (LineStringFits (IsUnits places) g.dimension) (ring_at g) g.polygons.now (length g.rings.now - 1) w.polygons ring-fits
 
   polygons-fit : AllByRecursion (PolygonFits (IsUnits places) g.dimension) (polygons_in g)
   polygons-fit = from-all (PolygonFits (IsUnits places) g.dimension) (polygon_at g) 0 (length g.polygons.now - 1 - 0) (λ k lt. polygon-fits k (omega (arith, lt)))

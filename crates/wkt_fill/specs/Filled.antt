@@ -86,13 +86,8 @@ end_part p a = end_ring a
 
 -- Nothing of a collection is held.
 abbrev pub is_collection : GeometryType → Bool
-is_collection kind.Point = false
-is_collection kind.LineString = false
-is_collection kind.Polygon = false
-is_collection kind.MultiPoint = false
-is_collection kind.MultiLineString = false
-is_collection kind.MultiPolygon = false
 is_collection kind.GeometryCollection = true
+is_collection k = false
 
 abbrev pub put : GeometryType → Axis → ℤ → FlatArrays → FlatArrays
 put k a x f = if is_collection k then f else push a x f
@@ -145,14 +140,7 @@ put-keeps k place y a = either (is_collection k) a (push place y a) (λ x c. Con
 
 part-keeps : (p : Part) (a : FlatArrays) → KeepsNumbers a (end_part p a)
 part-keeps part.Point a x c = c
-part-keeps part.LineString a x c = c
-part-keeps part.Polygon a x c = c
-part-keeps part.MultiPoint a x c = c
-part-keeps part.MultiLineString a x c = c
-part-keeps part.MultiPolygon a x c = c
-part-keeps part.Collection a x c = c
-part-keeps part.Area a x c = c
-part-keeps p a x c = c
+part-keeps _ a x c = c
 
 ended-keeps : (k : GeometryType) (p : Part) (a : FlatArrays) → KeepsNumbers a (ended k p a)
 ended-keeps k p a = either (is_collection k) a (end_part p a) (part-keeps p a)

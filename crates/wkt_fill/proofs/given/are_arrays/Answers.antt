@@ -6,7 +6,7 @@ use Rattle.wkt_num.specs.Decimal.{IsUnits}
 use Rattle.wkt_num.specs.Whole.{IsSigned}
 use Rattle.wkt_access.specs.Values.{Value, size}
 use Rattle.wkt_access.specs.declared.dimensions.Dimension.{Dimension}
-use Rattle.wkt_access.specs.declared.dimensions.Dimension.TheVariants.{XY, XYZ, XYM, XYZM}
+use Rattle.wkt_access.specs.declared.dimensions.Dimension.TheVariants.{XY}
 use Rattle.wkt_fill.specs.Arrays.{IsGiven, AreOffsetsTo, AreWhole}
 use Rattle.wkt_fill.specs.declared.given.Given.{Given}
 use Rattle.wkt_fill.proofs.Between.{whole-of, has-parts}
@@ -15,9 +15,7 @@ use Rattle.wkt_fill.proofs.given.are_arrays.Goals as goal
 
 positive : (d : Dimension) → 0 < size d
 positive XY = omega arith
-positive XYZ = omega arith
-positive XYM = omega arith
-positive XYZM = omega arith
+positive _ = omega arith
 
 wider : (x : ℤ) → IsSigned 63 x → IsSigned 127 x
 wider (pos n) h = omega (arith, h)

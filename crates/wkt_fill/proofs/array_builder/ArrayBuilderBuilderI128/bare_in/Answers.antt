@@ -1,4 +1,4 @@
--- The number that stands there, in a parenthesis.
+-- The number that comes next, in a parenthesis.
 use Rattle.std.proofs.Common.{◌≡◌, rules, subst, to_z, of_z}
 use Rattle.std.specs.Int.{w128}
 use Rattle.wkt_machine.specs.declared.part.Axis.TheVariants as axis

@@ -1,4 +1,4 @@
--- The number that stands there was put.
+-- The number that comes next was put.
 use Rattle.std.proofs.Common.{◌≡◌, rules, subst, to_z, of_z, [], ◌∷◌}
 use Rattle.std.specs.Int.{w128}
 use Rattle.wkt_machine.specs.Events.{Event}
