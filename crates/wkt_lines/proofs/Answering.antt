@@ -2,7 +2,6 @@
 use Rattle.std.proofs.Common.{◌≡◌, ◌≢◌, ℕ, List, [], ◌∷◌, ◌++◌, sym, ◌∙◌, ap, subst, take, length, refl, append_assoc, Option, Result, Ok, Err, OnOk, zero, suc, ◌+◌, ◌-◌, ◌<◌, ◌≤◌, drop, arith, Bool, true, false, IsUtf8, set, Some, inl, inr, codes, ◌⊎◌, get_or}
 use Rattle.std.specs.Prelude.{IfOk, ◌==◌, if◌then◌else◌, IfSome}
 use Rattle.std.proofs.lemmas.List.{append-nil, take_more_set, drop_all}
-use Rattle.std.proofs.Math.Seq.{take-append_seam}
 use Rattle.std.proofs.lemmas.Str.{IsUtf8-append, IsUtf8-from_is_utf8, is_utf8-from_IsUtf8}
 use Rattle.std.specs.Io.KnownBytes.{Appends}
 use Rattle.std.specs.Str.{is_utf8}
@@ -10,7 +9,7 @@ use lib.Utf8.{encode}
 use Rattle.wkt_lines.specs.Lines.{input_lines, before_feed, after_feed, EndsText}
 use Rattle.wkt_lines.specs.Output.{IsAnswer}
 use Rattle.wkt_lines.specs.Replies.{AreReplies, BreaksReply, AddsReplyLine, BreaksReplyLine, BreaksReplies, RepliesLine, RepliesAll, RepliesBefore, ArePartReplies, PartReplied, PutsAnswer, OnSink, OnAnswerMemory}
-use Rattle.wkt_num.specs.Sink.{Sink, Adds, Breaks, GrewBy, next_count}
+use Rattle.wkt_num.specs.Sink.{Sink, Adds, Breaks, next_count}
 use Rattle.wkt_lines.specs.declared.answer.AnswerError.{AnswerError}
 use Rattle.wkt_lines.proofs.Outcomes.{lines_step}
 use Rattle.wkt_lines.specs.declared.answer.AnswerError.TheVariants as answered
@@ -51,15 +50,6 @@ module _ (is : List ℕ → List ℕ → Type 0) where
   one_reply [] out line answer h a = (answer, [], ap (λ xs. xs ++ (answer ++ 10 ∷ [])) h ∙ sym (append-nil (answer ++ 10 ∷ [])), a, refl)
   one_reply (l ∷ ls) out line answer (b, rest, e, a, r) k =
       (b, rest ++ (answer ++ 10 ∷ []), ap (λ xs. xs ++ (answer ++ 10 ∷ [])) e ∙ append_assoc (b ++ 10 ∷ []) rest (answer ++ 10 ∷ []), a, one_reply ls rest line answer r k)
-
--- the answer to a line that is the first
-pub reply_to_first : (is : List ℕ → List ℕ → Type 0) (rest line old new : List ℕ) → line ≡ before_feed rest → (answer : List ℕ) → is line answer → new ≡ old ++ (answer ++ 10 ∷ [])
-    → (a : List ℕ) × is (before_feed rest) a × (new ≡ old ++ (a ++ 10 ∷ []))
-reply_to_first is rest line old new e answer one added = (answer, subst (λ (l : List ℕ). is l answer) e one, added)
-
--- what grew, cut to what it was
-pub grew_cut : (old bs new : List ℕ) (n : ℕ) → n ≡ length old → GrewBy old bs new → take n new ≡ old
-grew_cut old bs new n e h = ap (λ (xs : List ℕ). take n xs) h.grown ∙ (ap (λ (m : ℕ). take m (old ++ h.part)) e ∙ take-append_seam old h.part)
 
 -- what was written is an answer
 module _ {S A : Type 0} (sink : Sink S) where
@@ -172,9 +162,9 @@ line-of : (b : ℕ) (rest : List ℕ) (t : Bool) → (b == 10) ≡ t → before_
 line-of b rest true e h = refl
 line-of b rest false e h = ap (λ t. if t then [] else b ∷ before_feed (before_feed rest)) e ∙ ap (λ l. b ∷ l) h
 
-pub line-alone : (rest : List ℕ) → before_feed (before_feed rest) ≡ before_feed rest
-line-alone [] = refl
-line-alone (b ∷ rest) = line-of b rest (b == 10) refl (line-alone rest)
+pub line_alone : (rest : List ℕ) → before_feed (before_feed rest) ≡ before_feed rest
+line_alone [] = refl
+line_alone (b ∷ rest) = line-of b rest (b == 10) refl (line_alone rest)
 
 -- the answer to a part's first line is the whole's
 pub first-of : {N : Type 0} (read : List ℕ → Option N) (num : N → List ℕ) (part rest written : List ℕ) → before_feed part ≡ before_feed rest → AnswersFirst read num part written → AnswersFirst read num rest written

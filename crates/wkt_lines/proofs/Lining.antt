@@ -36,27 +36,6 @@ whole_at xs at p h e =
     let same : suc (at - 1) ≡ at = omega (arith, p) in
     inr (take (at - 1) xs, ap (λ (n : ℕ). take n xs) (sym same) ∙ (take_one xs (at - 1) (omega (arith, p, h)) ∙ ap (λ (b : ℕ). take (at - 1) xs ++ (b ∷ [])) e))
 
--- none from here on
-pub none_from : (xs : List ℕ) (at : ℕ) → ((k : ℕ) → at ≤ k → k < length xs → get_or xs k 0 ≢ 10) → HasNoFeed (drop at xs)
-none_from xs at h k below =
-    let in_it : at + k < length xs = omega (arith, below, length-drop at xs) in
-    let n : get_or xs (at + k) 0 ≢ 10 = h (at + k) (omega arith) in_it in
-    λ e. n (sym (get_or-drop at xs k 0) ∙ e)
-
--- none before a place, and none from it on
-pub none_at_all : (xs : List ℕ) (seen : ℕ) → seen ≤ length xs → HasNoFeed (take seen xs) → ((k : ℕ) → seen ≤ k → k < length xs → get_or xs k 0 ≢ 10) → HasNoFeed xs
-none_at_all xs seen s h g k below = elim (cases_lt k seen) [
-  | inl l ↦ λ e. h k (omega (arith, l, length-take-le seen xs s)) (get_or-take seen xs k 0 l ∙ e)
-  | inr m ↦ g k m below
-]
-
--- one byte more that is none
-pub none_more : (xs : List ℕ) (at : ℕ) → 0 < at → get_or xs (at - 1) 0 ≢ 10 → ((k : ℕ) → at ≤ k → k < length xs → get_or xs k 0 ≢ 10) → (k : ℕ) → at - 1 ≤ k → k < length xs → get_or xs k 0 ≢ 10
-none_more xs at p n h k low high = elim (cases_lt k at) [
-  | inl l ↦ let same : k ≡ at - 1 = omega (arith, l, low, p) in λ e. n (ap (λ (j : ℕ). get_or xs j 0) (sym same) ∙ e)
-  | inr m ↦ h k m high
-]
-
 -- what was there before has none
 pub seen_none : (n : ℕ) (front fresh more : List ℕ) → n ≡ length front → more ≡ front ++ fresh → HasNoFeed front → HasNoFeed (take n more)
 seen_none n front fresh more e f h =
@@ -189,10 +168,10 @@ pub ends-tested : (bs : List ℕ) (from n : ℕ) → from ≤ length (before_fee
     → IsUtf8 (take (from + n - from) (drop from bs)) → EndsText bs from (from + n)
 ends-tested bs from n inside within before after u = ends-later bs from inside (take (length bs - from) (drop from bs)) (take_rest bs from) n within before after (subst IsUtf8 (part bs from n) u)
 
-pub none-tested : (bs : List ℕ) (from n : ℕ) → from ≤ length (before_feed bs) → n ≤ length (take (length bs - from) (drop from bs))
+pub none_tested : (bs : List ℕ) (from n : ℕ) → from ≤ length (before_feed bs) → n ≤ length (take (length bs - from) (drop from bs))
     → take n (take (length bs - from) (drop from bs)) ≡ before_feed (take (length bs - from) (drop from bs)) → drop (n + 1) (take (length bs - from) (drop from bs)) ≡ after_feed (take (length bs - from) (drop from bs))
     → (IsUtf8 (take (from + n - from) (drop from bs)) → ⊥) → IsUtf8 (drop from (before_feed bs)) → ⊥
-none-tested bs from n inside within before after h = no-text bs from inside (take (length bs - from) (drop from bs)) (take_rest bs from) n within before after (λ u. h (subst IsUtf8 (sym (part bs from n)) u))
+none_tested bs from n inside within before after h = no-text bs from inside (take (length bs - from) (drop from bs)) (take_rest bs from) n within before after (λ u. h (subst IsUtf8 (sym (part bs from n)) u))
 
 -- Lines that come one by one.
 

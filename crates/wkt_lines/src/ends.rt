@@ -63,6 +63,7 @@ pub fn ends_there(rest: &[u8], at: usize) -> bool
 
 /// Where the first line ends, if what it has from `from` on is UTF-8.
 #[inline(never)]
+#[tactic(auto, using(crate::proofs::Lining::none_tested))]
 pub fn text_end(rest: &[u8], from: usize) -> Option<usize>
     requires inside { from ≤ length rest.now }
     requires line { from ≤ length (before_feed rest.now) }

@@ -51,6 +51,7 @@ fn first<T: WktNum>(output: &mut OutputBuffer, rest: &[u8]) -> Result<usize, All
 
 /// Answers a first line that is long: the slow path.
 #[inline(never)]
+#[tactic(auto, using(crate::proofs::Answering::line_alone))]
 fn slow_first<T: WktNum>(output: &mut OutputBuffer, rest: &[u8]) -> Result<usize, AllocError>
     ensures answers { IfOk result (λ taken. AnswersFirst T.read T.num rest.now (output_text output.new)) }
     ensures line { IfOk result (λ taken. taken ≡ length (before_feed rest.now) + 1) }

@@ -20,6 +20,7 @@ const ANSWERED_AT_ONCE: usize = 1_048_576;
 
 /// How many bytes some whole lines take at the front of an input, with their line feeds: those that end within its first
 /// MiB, or the first. Zero where no line feed is left.
+#[tactic(auto, using(crate::proofs::Lining::first_whole))]
 pub(crate) fn whole_lines(rest: &[u8]) -> usize
     ensures within { result ≤ length rest.now }
     ensures whole { IsWholeLines (take result rest.now) }
@@ -39,6 +40,7 @@ pub(crate) fn whole_lines(rest: &[u8]) -> usize
 }
 
 /// Before bytes at the end in which no line feed stands, of 32 each.
+#[tactic(auto, using(crate::proofs::Lining::none_window))]
 fn before_no_feeds(bytes: &[u8], seen: usize) -> usize
     requires { seen ≤ length bytes.now }
     ensures seen { seen ≤ result }

@@ -4,6 +4,7 @@ ghost use Rattle.wkt_lines.specs.Laws.{OneOutput, OutputOfParts, PartsOfOutput};
 use wkt_num::{Numbers, WktNum};
 
 /// An input has at most one output.
+#[tactic(auto, using(crate::proofs::Outcomes::same_answers))]
 pub fn one_output<T: WktNum>()
     ensures { OneOutput T.read T.num }
 {
@@ -12,6 +13,7 @@ pub fn one_output<T: WktNum>()
 }
 
 /// The output for an input that is cut after line feeds is the outputs for the parts, one after the other.
+#[tactic(auto, using(crate::proofs::Outcomes::parts_make, crate::proofs::Outcomes::parts_of))]
 pub fn output_of_parts<T: WktNum>()
     ensures joined { OutputOfParts T.read T.num }
     ensures cut { PartsOfOutput T.read T.num }
@@ -23,6 +25,7 @@ pub fn one_output_by<N: Numbers>()
 {}
 
 /// As [`output_of_parts`], with numbers of any kind.
+#[tactic(auto, using(crate::proofs::Outcomes::parts_make, crate::proofs::Outcomes::parts_of))]
 pub fn output_of_parts_by<N: Numbers>()
     ensures joined { (numbers : N) → OutputOfParts (N.read numbers) (N.num numbers) }
     ensures cut { (numbers : N) → PartsOfOutput (N.read numbers) (N.num numbers) }

@@ -58,6 +58,7 @@ impl<R: ByteSource> Lines<R> {
     /// `Read` where the source failed, and `Memory` where there is none for a block or for a line that is longer.
     /// Nothing is lost then: the line that was to come is the next, and a later call goes on. Nothing is tried again.
     /// A source that never ends a line is answered as `Memory` after 2^64 - 1 calls.
+    #[tactic(auto, using(crate::proofs::Lining::gives))]
     pub fn advance(&mut self) -> Result<bool, ReadAllError>
         ensures line { IfOk result
             (λ some. some ≡ true → GivesLine (to_come R.left self.old) (to_come R.left self.new) (line_of self.new)) }

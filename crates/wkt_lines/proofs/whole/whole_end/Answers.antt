@@ -1,11 +1,8 @@
 -- The front alone counts, or white space stands behind it.
-use Rattle.std.proofs.Common.{◌≤◌, arith, inl, inr, subst}
+use Rattle.std.proofs.Common.{◌≤◌, arith, inr, subst}
 use Rattle.wkt_num.specs.Bytes.{AllWhite}
 use Rattle.wkt_lines.proofs.Wholes.{behind}
 use Rattle.wkt_lines.proofs.whole.whole_end.Goals as goal
-
-pub returns-then-front : goal.returns-then-front
-returns-then-front c = (c.in_ok-line.ensures, inl c.if-front.true)
 
 pub returns-then-is_blank : goal.returns-then-is_blank
 returns-then-is_blank c =

@@ -1,9 +1,0 @@
--- The outputs of whole lines, joined, are the output of all, and the other way round.
-use Rattle.wkt_lines.proofs.Outcomes.{parts_make, parts_of}
-use Rattle.wkt_lines.proofs.laws.output_of_parts.Goals as goal
-
-pub returns-clause-joined : goal.returns-clause-joined
-returns-clause-joined g c = λ parts outs last out w h k. parts_make g.T.WktNum.read g.T.WktNum.num parts outs last out w h k
-
-pub returns-clause-cut : goal.returns-clause-cut
-returns-clause-cut g c = λ parts last z w h. parts_of g.T.WktNum.read g.T.WktNum.num parts last z w h
