@@ -253,7 +253,7 @@ def by_hand(groups):
     hint_numbers = [(row.name, str(row.number)) for row in groups["hint"] if row.number]
     constants = [(row.constant, str(row.number)) for row in groups["status"] if row.constant]
     source, spec = "crates/wkt_read/src/messages.rt", "crates/wkt_read/specs/Messages.antt"
-    answer = "crates/wkt_calls/specs/Answer.antt"
+    lists = "crates/wkt_fill/specs/EventLists.antt"
     return [
         (source, "texts", r'Message::(\w+) => "(.*)",$', text),
         (source, "numbers", r"Message::(\w+) => (\d+),$", number),
@@ -268,11 +268,11 @@ def by_hand(groups):
         ("crates/wkt_read/specs/Items.antt", "the message of a number", r'^bad_number = codes "(.*)"$', bad),
         ("crates/wkt_read/specs/Words.antt", "words", r'^words (\w+) = codes "(.*)"$', expected),
         ("crates/wkt_read/src/expected.rt", "words", r'Expected::(\w+) => "(.*)",$', expected),
-        (answer, "kinds", r"^kind_number kind\.(\w+) = (\d+)$", [(row.name, str(row.number)) for row in kinds]),
+        (lists, "kinds", r"^kind_index kind\.(\w+) = (\d+)$", [(row.name, str(row.number)) for row in kinds]),
         (
-            answer,
+            lists,
             "dimensions",
-            r"^dimension_number (\w+) = (\d+)$",
+            r"^dimension_index dim\.(\w+) = (\d+)$",
             [(row.name, str(row.number)) for row in dimensions],
         ),
         ("crates/wkt_calls/src/status.rt", "statuses", r"^pub const (\w+): u32 = (\d+);$", constants),

@@ -17,7 +17,7 @@ use wkt_calls::fill::copy_out;
 use wkt_calls::given_text::{GivenArrays, copy_out_text_at};
 use wkt_calls::infer::infer;
 use wkt_calls::lines::{self, answer_some, is_last};
-use wkt_calls::options::{MOST_ASKED, ends_as_asked, has_places};
+use wkt_calls::options::{MOST_ASKED, has_places};
 use wkt_calls::sizes::WktSizes;
 use wkt_calls::status::{DONE, MEMORY, NO_PLACES, NOT_COLUMN, NOT_WHOLE, SMALL};
 use wkt_num::Places;
@@ -92,14 +92,7 @@ pub extern "C" fn wkt_same_ends(
         Ok(compared) => {
             *end = compared.end;
             *other_end = compared.other_end;
-            if !ends_as_asked(one, compared.end, places) {
-                return NOT_WHOLE;
-            }
-            if !ends_as_asked(other, compared.other_end, places) {
-                return NOT_WHOLE;
-            }
-            *same = if compared.same { 1 } else { 0 };
-            DONE
+            compared.report(one, other, places, same)
         }
         Err(status) => status,
     }

@@ -3,10 +3,10 @@ ghost use Rattle.std.specs.Prelude.{◌≡◌, ◌≤◌, ◌<◌, ◌≢◌, �
 ghost use Rattle.wkt_calls.specs.Answer.{places_in, asks_whole, EndsAsAsked, RefusesAt};
 ghost use Rattle.wkt_calls.specs.EventCalls.{AreWritten, HasNoRoomFor, HasMoreAfter};
 
-use wkt_calls::events_call::events_in;
-use wkt_calls::options::has_places;
+use wkt_calls::events_call::front_events_asked;
+use wkt_calls::options::{ends_as_asked, has_places};
 use wkt_calls::status::{DONE, NO_PLACES, NOT_WHOLE, SMALL};
-use wkt_fill::WktUnits;
+use wkt_fill::{EventRoom, WktUnits};
 
 /// Writes the events and the numbers of the geometry that `text` begins with, which may be a collection, to the fronts of
 /// `events` and `numbers`, how many there are to `event_count` and `number_count`, and to `end` where the geometry ends in
@@ -37,13 +37,24 @@ pub extern "C" fn wkt_read_events(
     if !has_places(places) {
         return NO_PLACES;
     }
-    events_in(
-        text,
-        places,
-        events,
-        numbers,
-        event_count,
-        number_count,
-        end,
-    )
+    let mut room = EventRoom {
+        events: &mut *events,
+        numbers: &mut *numbers,
+    };
+    match front_events_asked(text, places, &mut room) {
+        Ok(counts) => {
+            let (told, read) = (counts.events, counts.numbers);
+            *event_count = told;
+            *number_count = read;
+            *end = counts.end;
+            if !ends_as_asked(text, counts.end, places) {
+                return NOT_WHOLE;
+            }
+            if told > events.len() || read > numbers.len() {
+                return SMALL;
+            }
+            DONE
+        }
+        Err(status) => status,
+    }
 }

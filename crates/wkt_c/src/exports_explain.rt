@@ -9,7 +9,7 @@ use wkt_calls::status::{DONE, NO_PLACES, NOT_WHOLE};
 use wkt_explain::Problem;
 
 /// Reports where `text` is refused: from byte `start` to byte `stop` is the lexeme that is too much, or nothing, where the
-/// text ends too early; `message` is the number of the message, and `expected` that of what could stand there. The
+/// text ends too early; `message` is the number of the message, and `expected` that of what could come next. The
 /// status is 29 where the text isn't refused. Numbers are decimals of so many places; with 256 more the whole text is to be
 /// one geometry: where more than white space follows it, that is from `start` to `stop`, and the status is 30.
 #[unsafe(no_mangle)]

@@ -8,9 +8,9 @@ ghost use Rattle.wkt_calls.specs.Calls.{AnswersCanonical, AnswersSame};
 use wkt_calls::arrays_call::arrays_short;
 use wkt_calls::canonical::{SHORT, canonical_short};
 use wkt_calls::compare::same_short;
-use wkt_calls::options::{ends_as_asked, has_places};
+use wkt_calls::options::has_places;
 use wkt_calls::sizes::WktSizes;
-use wkt_calls::status::{DONE, MEMORY, NO_PLACES, NOT_WHOLE};
+use wkt_calls::status::{MEMORY, NO_PLACES};
 
 /// Does what `wkt_canonical` does, without a room: the status is 22 for a text of more than 200 bytes.
 #[unsafe(no_mangle)]
@@ -47,16 +47,7 @@ pub extern "C" fn wkt_same_short(one: &[u8], other: &[u8], places: u32, same: &m
         return MEMORY;
     }
     match same_short(one, other, places) {
-        Ok(compared) => {
-            if !ends_as_asked(one, compared.end, places) {
-                return NOT_WHOLE;
-            }
-            if !ends_as_asked(other, compared.other_end, places) {
-                return NOT_WHOLE;
-            }
-            *same = if compared.same { 1 } else { 0 };
-            DONE
-        }
+        Ok(compared) => compared.report(one, other, places, same),
         Err(status) => status,
     }
 }

@@ -1,6 +1,7 @@
 -- A text has no more numbers, rings and polygons than its bytes have place for.
-use Rattle.std.proofs.Common.{◌≡◌, ◌+◌, ◌*◌, ◌≤◌, ◌⊎◌, inl, inr, ℕ, ℤ, List, [], ◌∷◌, ◌++◌, Option, Some, None, Bool, true, false, cond, length, map, refl, sym, ap, ◌∙◌, subst, arith, append-nil, length-append}
+use Rattle.std.proofs.Common.{◌≡◌, ◌+◌, ◌*◌, ◌≤◌, ◌⊎◌, inl, inr, ℕ, ℤ, List, [], ◌∷◌, ◌++◌, Option, Some, None, Bool, true, false, cond, length, map, replicate, refl, sym, ap, ◌∙◌, subst, arith, append-nil, length-append}
 use Rattle.std.specs.Prelude.{option_to_list, ◌==◌, ◌||◌}
+use Rattle.std.proofs.lemmas.List.{length-replicate}
 use Rattle.wkt_num.specs.Bytes.{Lexeme, Open, Close, Comma, Word, Num, Nul, White, Mark, Run, class_of, IsRun}
 use Rattle.wkt_access.specs.declared.dimensions.Dimension.{Dimension}
 use Rattle.wkt_access.specs.declared.dimensions.Dimension.TheVariants as dim
@@ -12,7 +13,9 @@ use Rattle.wkt_read.proofs.Headers.{no_word_mark}
 use Rattle.wkt_read.proofs.HeaderPlaces.{upper-length}
 use Rattle.wkt_fill.specs.Arrays.{parts_of, joined, offsets, numbers_in, LackPlaces}
 use Rattle.wkt_calls.specs.Answer.{read_at}
-use Rattle.wkt_calls.specs.Arrays.{HasNoPlaceFor}
+use Rattle.wkt_calls.specs.Arrays.{HasNoPlaceFor, AnswersArrays}
+use Rattle.wkt_calls.specs.declared.sizes.WktSizes.{WktSizes}
+use Rattle.wkt_calls.proofs.Padded.{the-zero}
 
 -- How many bytes lexemes take at least.
 
@@ -69,26 +72,14 @@ gap_some [] [] after r h = absurd (r.0 refl)
 gap_some [] (b ∷ bs) after r h = absurd (h r.1.0)
 gap_some (a ∷ gap) body after r h = omega arith
 
-one_between : (l : Lexeme) (ls : List Lexeme) → between l ls ≤ 1
-one_between (Num r) (Num s ∷ ls) = omega arith
-one_between (Num r) [] = omega arith
-one_between (Num r) (Open ∷ ls) = omega arith
-one_between (Num r) (Close ∷ ls) = omega arith
-one_between (Num r) (Comma ∷ ls) = omega arith
-one_between (Num r) (Word s ∷ ls) = omega arith
-one_between Open ls = omega arith
-one_between Close ls = omega arith
-one_between Comma ls = omega arith
-one_between (Word s) ls = omega arith
-
 -- the next lexeme is a number
 abbrev BeginsNumber : List Lexeme → Type 0
 BeginsNumber [] = ⊥
 BeginsNumber (Num r ∷ ls) = Unit {0}
 BeginsNumber (l ∷ ls) = ⊥
 
-between_number : (l : Lexeme) (ls : List Lexeme) → (between l ls ≡ 0) ⊎ BeginsNumber ls
-between_number (Num r) (Num s ∷ ls) = inr tt
+between_number : (l : Lexeme) (ls : List Lexeme) → (between l ls ≡ 0) ⊎ ((between l ls ≡ 1) × BeginsNumber ls)
+between_number (Num r) (Num s ∷ ls) = inr (refl, tt)
 between_number (Num r) [] = inl refl
 between_number (Num r) (Open ∷ ls) = inl refl
 between_number (Num r) (Close ∷ ls) = inl refl
@@ -122,7 +113,7 @@ takes_least text (l ∷ ls) rest (gap, body, after, e, white, inr (run, boundary
     let weighs : weight l ≤ length body = subst (λ k. weight k ≤ length body) (sym is) (run_weight body run) in
     let tail : between l ls + (least ls + length rest) ≤ length after = elim (between_number l ls) [
       | inl none ↦ omega (arith, none, low)
-      | inr number ↦ let more = high boundary number in let most = one_between l ls in omega (arith, more, most)
+      | inr (one, number) ↦ let more = high boundary number in omega (arith, more, one)
     ] in (
       omega (arith, long, weighs, tail),
       λ stops _. let some = gap_some gap body after run (subst IsBoundary e stops) in omega (arith, long, weighs, tail, some),
@@ -371,3 +362,24 @@ room_enough read text v end numbers rings polygons f n r p (inr (inr (parts, is,
 
 pub place_enough : (places : ℕ) (text : List ℕ) (n r p : ℕ) → HasNoPlaceFor places text n r p → length text ≤ 2 * n → length text + 5 ≤ 4 * r → length text + 6 ≤ 6 * p → ⊥
 place_enough places text n r p h a b c = room_enough (read_at places) text h.value h.end n r p h.front a b c h.lack
+
+-- so many places that were cleared
+pub cleared-places : {A : Type 0} (none : A) (places : ℕ) (text : List ℕ) (n r p : ℕ) → HasNoPlaceFor places text (length (replicate n none)) (length (replicate r the-zero)) (length (replicate p the-zero)) → HasNoPlaceFor places text n r p
+cleared-places none places text n r p h =
+    subst (λ k. HasNoPlaceFor places text k r p) (length-replicate n none)
+    (subst (λ k. HasNoPlaceFor places text (length (replicate n none)) k p) (length-replicate r the-zero)
+    (subst (λ k. HasNoPlaceFor places text (length (replicate n none)) (length (replicate r the-zero)) k) (length-replicate p the-zero) h))
+
+-- an answer to a call that lacks less
+pub lacking-more : {options status : ℕ} {text : List ℕ} {Full Fuller : Type 0} {sizes sizes' : WktSizes} {numbers numbers' : List ℤ} {rings rings' polygons polygons' : List ℕ} → (Full → Fuller)
+    → AnswersArrays options text Full status sizes sizes' numbers numbers' rings rings' polygons polygons' → AnswersArrays options text Fuller status sizes sizes' numbers numbers' rings rings' polygons polygons'
+lacking-more fuller a = record {
+  filled = a.filled;
+  small = a.small;
+  as_asked = a.as_asked;
+  more = a.more;
+  memory = λ is. fuller (a.memory is);
+  others = a.others;
+  kept = a.kept;
+  sizes_kept = a.sizes_kept;
+}

@@ -1,12 +1,12 @@
 -- Neither list of a value is longer than half of its text.
 use Rattle.std.proofs.Common.{◌≡◌, ◌+◌, ◌*◌, ◌≤◌, ◌^◌, ◌-◌, ℕ, List, [], ◌∷◌, ◌++◌, Option, Some, None, length, map, flat_map, option_to_list, refl, ap, arith, length-append, IsUtf8}
 use Rattle.std.proofs.lemmas.List.{length-map}
-use Rattle.wkt_num.specs.Bytes.{Lexeme, Open, Close, Comma, Word}
+use Rattle.wkt_num.specs.Bytes.{Lexeme, Close}
 use Rattle.wkt_access.specs.declared.dimensions.Dimension.{Dimension}
 use Rattle.wkt_access.specs.Values.{Value, Values}
 use Rattle.wkt_types.specs.declared.geometry_type.GeometryType.{GeometryType}
 use Rattle.wkt_types.specs.declared.geometry_type.GeometryType.TheVariants as kind
-use Rattle.wkt_read.specs.Grammar.{Listed, Perhaps, Header, WithHeader, Coord, Ring, Poly, Member, StandFor, Geometries, Further}
+use Rattle.wkt_read.specs.Grammar.{Listed, Perhaps, WithHeader, Coord, Ring, Poly, Member, StandFor, Geometries, Further}
 use Rattle.wkt_read.specs.Front.{Front}
 use Rattle.wkt_machine.specs.Machine.{part_of}
 use Rattle.wkt_machine.specs.Room.{header_cost}
@@ -17,7 +17,7 @@ use Rattle.wkt_fill.specs.declared.event_writer.EventRoom.{EventRoom}
 use Rattle.wkt_fill.specs.declared.front_events.EventCounts.{EventCounts}
 use Rattle.wkt_calls.specs.Answer.{read_at}
 use Rattle.wkt_calls.specs.EventCalls.{AreInRooms}
-use Rattle.wkt_calls.proofs.Few.{least, least_on, weight, between, takes_least, costs, numbers_cost, empty_cost, listed_cost, perhaps_cost, coord_cost, coord_four, ring_cost, ring_five, poly_cost, member_cost, member_four, costs-length, numbers-joined, numbers-in, headed}
+use Rattle.wkt_calls.proofs.Few.{least, least_on, takes_least, costs, numbers_cost, empty_cost, listed_cost, perhaps_cost, coord_cost, coord_four, ring_cost, ring_five, poly_cost, member_cost, member_four, costs-length, numbers-joined, numbers-in, headed}
 
 kind_some : (k : GeometryType) → 8 ≤ header_cost (part_of k)
 kind_some kind.Point = omega arith
@@ -91,6 +91,14 @@ halves-add es fs ns ms a b bytes h g le = record {
 }
 
 module _ {N : Type 0} (read : List ℕ → Option N) where
+  rings-half : (k : GeometryType) (d : Dimension) (rs : List (List (List N))) (ls : List Lexeme) → WithHeader k d (λ b. Poly read d b rs) ls → AreHalf (whole k d (map length rs)) (numbers_in rs) (least ls)
+  rings-half k d rs ls h =
+      let some = begun k d _ (2 * length rs) (λ b k. rings-six read d b rs k) ls h in
+      let same = length-map rs length in
+      let one : costs (λ cs. 2 * length (joined cs)) rs + 1 ≤ least ls = headed read _ d _ _ (λ b k. listed_cost (Ring read d) (λ cs. 2 * length (joined cs)) (ring-numbers read d) b rs k) ls h in
+      let sum = costs-flat joined rs in
+      half k d (map length rs) (numbers_in rs) (least ls) (omega (arith, some, same)) (omega (arith, one, sum))
+
   mutual
     value-half : (v : Value N) (ls : List Lexeme) → StandFor read ls v → AreHalf (event_list v) (number_list v) (least ls)
     value-half (Value.point d c) ls h =
@@ -103,18 +111,8 @@ module _ {N : Type 0} (read : List ℕ → Option N) where
         let one : costs numbers_cost cs + 1 ≤ least ls = headed read _ d _ _ (λ b k. listed_cost (Coord read d) numbers_cost (coord_cost read d) b cs k) ls h in
         let sum = numbers-joined cs in
         half kind.LineString d (length cs ∷ []) (joined cs) (least ls) (omega (arith, five)) (omega (arith, one, sum))
-    value-half (Value.polygon d rs) ls h =
-        let some = begun kind.Polygon d _ (2 * length rs) (λ b k. rings-six read d b rs k) ls h in
-        let same = length-map rs length in
-        let one : costs (λ cs. 2 * length (joined cs)) rs + 1 ≤ least ls = headed read _ d _ _ (λ b k. listed_cost (Ring read d) (λ cs. 2 * length (joined cs)) (ring-numbers read d) b rs k) ls h in
-        let sum = costs-flat joined rs in
-        half kind.Polygon d (map length rs) (numbers_in rs) (least ls) (omega (arith, some, same)) (omega (arith, one, sum))
-    value-half (Value.multi_line_string d rs) ls h =
-        let some = begun kind.MultiLineString d _ (2 * length rs) (λ b k. rings-six read d b rs k) ls h in
-        let same = length-map rs length in
-        let one : costs (λ cs. 2 * length (joined cs)) rs + 1 ≤ least ls = headed read _ d _ _ (λ b k. listed_cost (Ring read d) (λ cs. 2 * length (joined cs)) (ring-numbers read d) b rs k) ls h in
-        let sum = costs-flat joined rs in
-        half kind.MultiLineString d (map length rs) (numbers_in rs) (least ls) (omega (arith, some, same)) (omega (arith, one, sum))
+    value-half (Value.polygon d rs) ls h = rings-half kind.Polygon d rs ls h
+    value-half (Value.multi_line_string d rs) ls h = rings-half kind.MultiLineString d rs ls h
     value-half (Value.multi_point d ms) ls h =
         let some : costs (λ _. 2) ms + 1 + 4 ≤ least ls = begun kind.MultiPoint d _ _ (λ b k. listed_cost (Member read d) (λ _. 2) (λ ls m k. let four = member_four read d ls m k in omega (arith, four)) b ms k) ls h in
         let two = costs-length 2 ms in

@@ -4,18 +4,10 @@ use Rattle.std.specs.Str.{IsAscii}
 use Rattle.std.proofs.lemmas.List.{get_or-drop, length-replicate}
 use Rattle.std.proofs.lemmas.Str.{IsUtf8-append, IsUtf8-from_ascii, IsAscii-take, IsAscii-drop}
 use Rattle.std.proofs.Math.Seq.{take-append-add, take-append_seam}
-use Rattle.wkt_num.specs.Bytes.{Lexeme, class_of}
 use Rattle.wkt_access.specs.Values.{Value}
 use Rattle.wkt_read.specs.Front.{Front, HasNoFront}
-use Rattle.wkt_read.specs.Grammar.{StandFor}
-use Rattle.wkt_read.specs.Lexemes.{IsSplit}
 use Rattle.wkt_read.specs.Refusal.{IsRefusedWith}
-use Rattle.wkt_read.specs.Spanned.{Spanned, lexemes_of, end_after, AreEnds, joined, after_run, front, spanned_from, spanned}
 use Rattle.wkt_read.specs.declared.messages.Message.{Message}
-use Rattle.wkt_read.proofs.HeaderPlaces.{front-of-lexemes}
-use Rattle.wkt_read.proofs.OneForm.{taken_begin, front_one}
-use Rattle.wkt_read.proofs.Splits.{split_one}
-use Rattle.wkt_read.proofs.Placings.{spanned-split, spanned-ends}
 use Rattle.wkt_explain.specs.Problems.{IsPaddedFor}
 use Rattle.wkt_read.specs.Messages.{message_number}
 use Rattle.wkt_read.proofs.Refusals.{with_bad}
@@ -26,7 +18,7 @@ use Rattle.wkt_read.specs.declared.messages.Message.TheVariants as message
 pub front-inside : {N : Type 0} (read : List ℕ → Option N) (text : List ℕ) (v : Value N) (end : ℕ) → Front read text v end → end ≤ length text
 front-inside read text v end f = omega (arith, f.ends)
 
-abbrev the-zero : ℕ
+abbrev pub the-zero : ℕ
 the-zero = 0
 
 -- cleared bytes

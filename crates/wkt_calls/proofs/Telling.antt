@@ -1,5 +1,5 @@
 -- What a text builder writes that is sent the arrays of the caller, who is answered so.
-use Rattle.std.proofs.Common.{◌+◌, ◌++◌, ◌≤◌, ◌/◌, ◌%◌, ◌^◌, ◌==◌, ℕ, zero, suc, ℤ, pos, negsuc, Bool, true, false, [], ◌∷◌, length, arith, length-append, if◌then◌else◌, ◌≡◌, ◌*◌, List, refl, sym, ap, ◌∙◌, subst, ◌⊎◌, inl, inr}
+use Rattle.std.proofs.Common.{◌+◌, ◌++◌, ◌≤◌, ◌/◌, ◌%◌, ◌^◌, ◌==◌, ℕ, zero, suc, ℤ, pos, negsuc, Bool, true, false, [], ◌∷◌, length, arith, length-append, if◌then◌else◌, ◌≡◌, ◌*◌, List, sym, ap, ◌∙◌, subst, ◌⊎◌, inl, inr}
 use Rattle.std.specs.Prelude.{int_lt}
 use Rattle.std.specs.Fmt.{decimal, sign_text}
 use Rattle.std.proofs.lemmas.Fmt.{length-decimal-le_wide}
@@ -14,7 +14,6 @@ use Rattle.wkt_access.specs.WellFormed.{IsWellFormed}
 use Rattle.wkt_access.specs.Shapes.{shape_of, canon}
 use Rattle.wkt_access.specs.Texts.{shape_text}
 use Rattle.wkt_access.specs.declared.dimensions.Dimension.{Dimension}
-use Rattle.wkt_access.specs.declared.dimensions.Dimension.TheVariants.{XY, XYZ, XYM, XYZM}
 use Rattle.wkt_write.proofs.Writable.{canon_well_formed, writable}
 use Rattle.wkt_types.specs.declared.geometry_type.GeometryType.{GeometryType}
 use Rattle.wkt_read.specs.Front.{Front}
@@ -31,7 +30,6 @@ use Rattle.wkt_fill.proofs.Costs.{given-cost}
 use Rattle.wkt_calls.specs.Answer.{kind_number, dimension_number, IsHandedOut, HasNoRoom}
 use Rattle.wkt_calls.specs.Arrays.{AreArrays}
 use Rattle.wkt_calls.specs.ColumnArrays.{IsTextOf, AreOfSome}
-use Rattle.wkt_types.specs.declared.geometry_type.GeometryType.TheVariants as kind
 use Rattle.wkt_calls.specs.Rows.{CopiesOutText}
 
 -- How long the text of a number of 64 bits is, at most.
@@ -69,51 +67,16 @@ number-length D (negsuc n) h = magnitude-length D (int_lt (negsuc n) (pos 0)) (s
 
 -- What a text builder writes that is sent the arrays of the caller.
 
--- a number is that of one kind, and of one dimension
-kind_at : ℕ → GeometryType
-kind_at n =
-    if n == 0 then kind.Point
-    else if n == 1 then kind.LineString
-    else if n == 2 then kind.Polygon
-    else if n == 3 then kind.MultiPoint
-    else if n == 4 then kind.MultiLineString
-    else if n == 5 then kind.MultiPolygon
-    else kind.GeometryCollection
-
-kind_back : (k : GeometryType) → kind_at (kind_number k) ≡ k
-unfolding kind_at
-kind_back kind.Point = refl
-kind_back kind.LineString = refl
-kind_back kind.Polygon = refl
-kind_back kind.MultiPoint = refl
-kind_back kind.MultiLineString = refl
-kind_back kind.MultiPolygon = refl
-kind_back kind.GeometryCollection = refl
-
-one-kind : (k l : GeometryType) → kind_number k ≡ kind_number l → k ≡ l
-one-kind k l e = sym (kind_back k) ∙ ap kind_at e ∙ kind_back l
-
-dimension_at : ℕ → Dimension
-dimension_at n = if n == 0 then XY else if n == 1 then XYZ else if n == 2 then XYM else XYZM
-
-dimension_back : (d : Dimension) → dimension_at (dimension_number d) ≡ d
-unfolding dimension_at
-dimension_back XY = refl
-dimension_back XYZ = refl
-dimension_back XYM = refl
-dimension_back XYZM = refl
-
-one-dimension : (d e : Dimension) → dimension_number d ≡ dimension_number e → d ≡ e
-one-dimension d e is = sym (dimension_back d) ∙ ap dimension_at is ∙ dimension_back e
-
-module _ (D : ℕ) (g : Given) (kind dimension : ℕ) (k : kind ≡ kind_number g.kind) (d : dimension ≡ dimension_number g.dimension) where
+-- the numbers are those of one kind and of one dimension
+module _ (D : ℕ) (g : Given) (kind dimension : ℕ) (k : kind ≡ kind_number g.kind) (d : dimension ≡ dimension_number g.dimension)
+    (one_kind : (l : GeometryType) → kind ≡ kind_number l → g.kind ≡ l) (one_dimension : (e : Dimension) → dimension ≡ dimension_number e → g.dimension ≡ e) where
   is-given : (v : Value ℤ) → IsWellFormed (IsUnits D) v → AreArrays v kind dimension g.numbers.now g.rings.now g.polygons.now → IsGiven D g v
   is-given v fits are = record {
     fits = fits;
     parts = are.parts;
     flat = are.flat;
-    kind_is = one-kind g.kind (kind_of v) (sym k ∙ are.kind_is);
-    dimension_is = one-dimension g.dimension (dim_of v) (sym d ∙ are.dimension_is);
+    kind_is = one_kind (kind_of v) are.kind_is;
+    dimension_is = one_dimension (dim_of v) are.dimension_is;
     numbers_are = are.numbers_are;
     rings_are = are.rings_are;
     polygons_are = are.polygons_are;

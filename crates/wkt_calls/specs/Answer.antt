@@ -6,9 +6,7 @@ use Rattle.wkt_access.specs.Values.{Value}
 use Rattle.wkt_access.specs.Shapes.{shape_of, canon}
 use Rattle.wkt_access.specs.Texts.{shape_text}
 use Rattle.wkt_access.specs.declared.dimensions.Dimension.{Dimension}
-use Rattle.wkt_access.specs.declared.dimensions.Dimension.TheVariants.{XY, XYZ, XYM, XYZM}
 use Rattle.wkt_types.specs.declared.geometry_type.GeometryType.{GeometryType}
-use Rattle.wkt_types.specs.declared.geometry_type.GeometryType.TheVariants as kind
 use Rattle.wkt_read.specs.Front.{Front, HasNoFront}
 use Rattle.wkt_read.specs.Answered.{HasBadNumber}
 use Rattle.wkt_read.specs.Header.{Named, NoSpace, NoParen, header_rule, IsUnsupported}
@@ -16,6 +14,7 @@ use Rattle.wkt_read.specs.Messages.{message_number}
 use Rattle.wkt_read.specs.Refusal.{IsRefusedWith}
 use Rattle.wkt_read.specs.declared.messages.Message.{Message}
 use Rattle.wkt_canonical.specs.Canonical.{IsCanonicalTo}
+use Rattle.wkt_fill.specs.EventLists.{kind_index, dimension_index}
 
 -- What a number of a text is read as, and how it is printed, where numbers are decimals of so many places.
 abbrev pub read_at : ℕ → List ℕ → Option ℤ
@@ -119,22 +118,12 @@ abbrev pub same_number : Bool → ℕ
 same_number true = 1
 same_number false = 0
 
--- The number of a kind.
+-- The number of a kind, and that of a dimension, as events have them.
 abbrev pub kind_number : GeometryType → ℕ
-kind_number kind.Point = 0
-kind_number kind.LineString = 1
-kind_number kind.Polygon = 2
-kind_number kind.MultiPoint = 3
-kind_number kind.MultiLineString = 4
-kind_number kind.MultiPolygon = 5
-kind_number kind.GeometryCollection = 6
+kind_number = kind_index
 
--- The number of a dimension.
 abbrev pub dimension_number : Dimension → ℕ
-dimension_number XY = 0
-dimension_number XYZ = 1
-dimension_number XYM = 2
-dimension_number XYZM = 3
+dimension_number = dimension_index
 
 -- The text is UTF-8, and its header names the kind and the dimension of these numbers.
 pub record IsHeaderOf (text : List ℕ) (k d : ℕ) : Type 0 where

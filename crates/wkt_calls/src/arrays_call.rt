@@ -17,14 +17,6 @@ pub const FEW_ARRAYS: usize = 64;
 /// How long a text may be whose arrays are made in the least room, which is cleared for each call.
 const FEWEST_ARRAYS: usize = 32;
 
-/// Whether the arrays of a text are made on the stack.
-#[inline(always)]
-pub fn is_short(text: &[u8]) -> bool
-    ensures { result ≡ false → 64 < length text.now }
-{
-    text.len() <= FEW_ARRAYS
-}
-
 /// Copies out the arrays of a text, which are made in the room first.
 #[inline(always)]
 pub fn arrays_in(
@@ -136,42 +128,17 @@ pub fn arrays_short(
     if find_point(text, places, &mut point) {
         return copy_out_point(text, places, point, sizes, numbers, rings, polygons);
     }
-    arrays_few(text, places, sizes, numbers, rings, polygons)
-}
-
-/// The arrays of a short text that may be no point. It is apart since its rooms are cleared for each call.
-#[inline(never)]
-fn arrays_few(
-    text: &[u8],
-    places: u32,
-    sizes: &mut WktSizes,
-    numbers: &mut [i64],
-    rings: &mut [usize],
-    polygons: &mut [usize],
-) -> u32
-    requires { places_in places ≤ 36 }
-    ensures { AnswersArrays places text.now (64 < length text.now) result sizes.old sizes.new numbers.old numbers.new
-        rings.old rings.new polygons.old polygons.new }
-{
-    if text.len() <= FEWEST_ARRAYS {
-        return arrays_shortest(text, places, sizes, numbers, rings, polygons);
-    }
     // As many as a text of that length may have: a number takes two bytes at least, with what follows it; a ring takes
     // four, and a polygon six.
-    let mut few_numbers = [0i64; FEW_ARRAYS / 2 + 2];
-    let mut few_rings = [0usize; FEW_ARRAYS / 4 + 2];
-    let mut few_polygons = [0usize; FEW_ARRAYS / 6 + 2];
-    let room = Room {
-        numbers: &mut few_numbers,
-        rings: &mut few_rings,
-        polygons: &mut few_polygons,
-    };
-    arrays_in(text, places, room, sizes, numbers, rings, polygons)
+    if text.len() <= FEWEST_ARRAYS {
+        return arrays_cleared::<18, 10, 7>(text, places, sizes, numbers, rings, polygons);
+    }
+    arrays_cleared::<34, 18, 12>(text, places, sizes, numbers, rings, polygons)
 }
 
-/// The arrays of a text of the fewest bytes.
+/// The arrays of a text that may be no point. It is apart since its room, for so many, is cleared for each call.
 #[inline(never)]
-fn arrays_shortest(
+fn arrays_cleared<const NUMBERS: usize, const RINGS: usize, const POLYGONS: usize>(
     text: &[u8],
     places: u32,
     sizes: &mut WktSizes,
@@ -179,13 +146,14 @@ fn arrays_shortest(
     rings: &mut [usize],
     polygons: &mut [usize],
 ) -> u32
-    requires { places_in places ≤ 36 }
-    ensures { AnswersArrays places text.now (HasNoPlaceFor (places_in places) text.now 18 10 7) result sizes.old sizes.new
-        numbers.old numbers.new rings.old rings.new polygons.old polygons.new }
+    requires places { places_in places ≤ 36 }
+    requires few { (NUMBERS ≤ 34) × (RINGS ≤ 18) × (POLYGONS ≤ 12) }
+    ensures { AnswersArrays places text.now (HasNoPlaceFor (places_in places) text.now NUMBERS RINGS POLYGONS) result
+        sizes.old sizes.new numbers.old numbers.new rings.old rings.new polygons.old polygons.new }
 {
-    let mut few_numbers = [0i64; FEWEST_ARRAYS / 2 + 2];
-    let mut few_rings = [0usize; FEWEST_ARRAYS / 4 + 2];
-    let mut few_polygons = [0usize; FEWEST_ARRAYS / 6 + 2];
+    let mut few_numbers = [0i64; NUMBERS];
+    let mut few_rings = [0usize; RINGS];
+    let mut few_polygons = [0usize; POLYGONS];
     let room = Room {
         numbers: &mut few_numbers,
         rings: &mut few_rings,

@@ -20,8 +20,6 @@ pub const SHORT: usize = 200;
 /// How long a text may be that is answered with the least room, since that is cleared for each call: most points are no longer,
 /// and the room for one byte more is a vector longer.
 pub(crate) const SHORTEST: usize = 31;
-/// How long a text may be that is answered with little room: the polygon of `capi/bench/calls.sh` is no longer.
-pub(crate) const SHORTER: usize = 63;
 /// How many zeros stand behind a short text: what the machine looks at together.
 const PADDING: usize = 32;
 
@@ -229,32 +227,14 @@ pub fn canonical_short(
     requires { places_in options ≤ 36 }
     ensures { AnswersCanonical options text.now result out.old out.new needed.old needed.new end.old end.new }
 {
-    if text.len() > SHORTEST {
-        if text.len() > SHORTER {
-            return canonical_longer(text, options, out, needed, end);
-        }
-        return canonical_cleared::<96, 256>(text, options, out, needed, end);
-    }
-    // Last, so that it is jumped to and not called: most points go there.
-    canonical_cleared::<64, 192>(text, options, out, needed, end)
-}
-
-/// The same. It is apart, so that what may be too long costs the points of capi/bench/calls.sh nothing.
-#[inline(never)]
-fn canonical_longer(
-    text: &[u8],
-    options: u32,
-    out: &mut [u8],
-    needed: &mut usize,
-    end: &mut usize,
-) -> u32
-    requires { places_in options ≤ 36 }
-    ensures { AnswersCanonical options text.now result out.old out.new needed.old needed.new end.old end.new }
-{
     if text.len() > SHORT {
         return MEMORY;
     }
-    canonical_cleared::<256, 544>(text, options, out, needed, end)
+    if text.len() > SHORTEST {
+        return canonical_cleared::<256, 544>(text, options, out, needed, end);
+    }
+    // Last, so that it is jumped to and not called: most points go there.
+    canonical_cleared::<64, 192>(text, options, out, needed, end)
 }
 
 /// The same, with so many cleared bytes for the text, and so many for its canonical text.

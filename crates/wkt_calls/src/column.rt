@@ -137,12 +137,8 @@ impl<'a> Rows<'a> {
                 }
                 self.add(&room[..n], DONE)
             }
-            Err(status) => {
-                if status == MEMORY {
-                    return Err(MEMORY);
-                }
-                self.add(&[], status)
-            }
+            Err(MEMORY) => Err(MEMORY),
+            Err(status) => self.add(&[], status),
         }
     }
 }

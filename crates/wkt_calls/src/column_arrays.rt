@@ -138,12 +138,8 @@ impl<'a> ArrayRows<'a> {
                 };
                 self.add(row, DONE)
             }
-            Err(status) => {
-                if status == MEMORY {
-                    return Err(MEMORY);
-                }
-                self.add_none(status)
-            }
+            Err(MEMORY) => Err(MEMORY),
+            Err(status) => self.add_none(status),
         }
     }
 }

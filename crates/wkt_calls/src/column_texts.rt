@@ -71,12 +71,8 @@ fn add_text(
     }
     match text_of(row, places, room) {
         Ok(builder) => rows.add(builder.written(), DONE),
-        Err(status) => {
-            if status == MEMORY {
-                return Err(MEMORY);
-            }
-            rows.add(&[], status)
-        }
+        Err(MEMORY) => Err(MEMORY),
+        Err(status) => rows.add(&[], status),
     }
 }
 

@@ -1,10 +1,11 @@
 //! Texts compared by the one text of what each begins with.
 ghost use Rattle.std.specs.Prelude.{◌≡◌, ◌+◌, ◌*◌, ◌≤◌, ◌<◌, ◌↔◌, ◌⊎◌, ℕ, IsTrue, MatchResult, IsUtf8, length};
 ghost use Rattle.wkt_calls.specs.Calls.{AreCompared};
-ghost use Rattle.wkt_calls.specs.Answer.{read_at, print_at, places_in, IsCanonicalOf, Compares, RefusesOne};
+ghost use Rattle.wkt_calls.specs.Answer.{read_at, print_at, places_in, asks_whole, EndsAsAsked, IsMore, IsCanonicalOf, RefusesOne, same_number};
 
-use crate::canonical::{SHORT, SHORTER, SHORTEST, is_text, write_short, write_within};
-use crate::status::{MEMORY, NOT_TEXT};
+use crate::canonical::{SHORT, SHORTEST, is_text, write_short, write_within};
+use crate::options::ends_as_asked;
+use crate::status::{DONE, MEMORY, NOT_TEXT, NOT_WHOLE};
 use wkt_canonical::has_room;
 
 /// Whether these two canonical texts are one.
@@ -14,7 +15,39 @@ fn is_one(one: &[u8], other: &[u8]) -> bool
     one == other
 }
 
-/// Whether two texts are of one geometry, by their canonical texts.
+/// What a comparison returns of two texts: whether they begin with one geometry, and where each ends.
+#[derive(Clone, Copy)]
+pub struct Compared {
+    pub same: bool,
+    pub end: usize,
+    pub other_end: usize,
+}
+
+impl Compared {
+    /// Puts there whether the texts are of one geometry, as a number, if each geometry ends as is asked for.
+    pub fn report(self, one: &[u8], other: &[u8], options: u32, same: &mut u32) -> u32
+        requires end { self.end ≤ length one.now }
+        requires other_end { self.other_end ≤ length other.now }
+        ensures reported { result ≡ DONE → same.new ≡ same_number self.same }
+        ensures as_asked { result ≡ DONE →
+            EndsAsAsked (asks_whole options) one.now self.end × EndsAsAsked (asks_whole options) other.now self.other_end }
+        ensures more { result ≡ NOT_WHOLE →
+            IsMore (asks_whole options) one.now self.end ⊎ IsMore (asks_whole options) other.now self.other_end }
+        ensures kept { 1 ≤ result → same.new ≡ same.old }
+        ensures two { (result ≡ DONE) ⊎ (result ≡ NOT_WHOLE) }
+    {
+        if !ends_as_asked(one, self.end, options) {
+            return NOT_WHOLE;
+        }
+        if !ends_as_asked(other, self.other_end, options) {
+            return NOT_WHOLE;
+        }
+        *same = if self.same { 1 } else { 0 };
+        DONE
+    }
+}
+
+/// What a comparison returns of two texts, by their canonical texts.
 pub fn judge(
     one: &[u8],
     first: &[u8],
@@ -23,20 +56,16 @@ pub fn judge(
     second: &[u8],
     other_end: usize,
     options: u32,
-) -> bool
+) -> Compared
     requires first { IsCanonicalOf (read_at (places_in options)) (print_at (places_in options)) one.now first.now end }
     requires second { IsCanonicalOf (read_at (places_in options)) (print_at (places_in options)) other.now second.now other_end }
-    ensures { Compares (read_at (places_in options)) (print_at (places_in options)) one.now other.now end other_end result }
+    ensures { AreCompared options one.now other.now result }
 {
-    is_one(first, second)
-}
-
-/// What a comparison returns of two texts: whether they begin with one geometry, and where each ends.
-#[derive(Clone, Copy)]
-pub struct Compared {
-    pub same: bool,
-    pub end: usize,
-    pub other_end: usize,
+    Compared {
+        same: is_one(first, second),
+        end,
+        other_end,
+    }
 }
 
 /// The status of two texts of which the first is refused with this one: that the other isn't UTF-8 comes first. The room is
@@ -66,10 +95,6 @@ pub fn same_short(one: &[u8], other: &[u8], options: u32) -> Result<Compared, u3
     if one.len() <= SHORTEST && other.len() <= SHORTEST {
         return same_cleared::<64, 192>(one, other, options);
     }
-    // For the point of fifteen decimals of capi/bench/calls.sh.
-    if one.len() <= SHORTER && other.len() <= SHORTER {
-        return same_cleared::<96, 256>(one, other, options);
-    }
     same_cleared::<256, 544>(one, other, options)
 }
 
@@ -96,11 +121,8 @@ fn same_cleared<const PADDED: usize, const ROOM: usize>(
     };
     let mut other_padded = [0u8; PADDED];
     let mut other_room = [0u8; ROOM];
-    let (other_end, m) = match write_short(other, options, &mut other_padded, &mut other_room) {
-        Ok(written) => written,
-        Err(status) => return Err(status),
-    };
-    let same = judge(
+    let (other_end, m) = write_short(other, options, &mut other_padded, &mut other_room)?;
+    Ok(judge(
         one,
         &room[..n],
         end,
@@ -108,51 +130,7 @@ fn same_cleared<const PADDED: usize, const ROOM: usize>(
         &other_room[..m],
         other_end,
         options,
-    );
-    Ok(Compared {
-        same,
-        end,
-        other_end,
-    })
-}
-
-/// Whether two texts begin with one geometry: whether their canonical texts, which are written in two rooms, are equal.
-pub fn same_in(
-    one: &str,
-    other: &str,
-    options: u32,
-    room: &mut [u8],
-    other_room: &mut [u8],
-) -> Result<Compared, u32>
-    requires places { places_in options ≤ 36 }
-    requires room { 2 * length one.now + 65 ≤ length room.old }
-    requires other_room { 2 * length other.now + 65 ≤ length other_room.old }
-    requires utf8 { IsUtf8 one.now }
-    requires other_utf8 { IsUtf8 other.now }
-    ensures { MatchResult result (AreCompared options one.now other.now) (RefusesOne (read_at (places_in options)) one.now other.now) }
-{
-    let (end, n) = match write_within(one, options, room) {
-        Ok(written) => written,
-        Err(status) => return Err(status),
-    };
-    let (other_end, m) = match write_within(other, options, other_room) {
-        Ok(written) => written,
-        Err(status) => return Err(status),
-    };
-    let same = judge(
-        one.as_bytes(),
-        &room[..n],
-        end,
-        other.as_bytes(),
-        &other_room[..m],
-        other_end,
-        options,
-    );
-    Ok(Compared {
-        same,
-        end,
-        other_end,
-    })
+    ))
 }
 
 /// Whether two texts begin with one geometry: whether their canonical texts are equal, which are written in the rooms, if
@@ -201,5 +179,15 @@ fn same_long(
     let Ok(other) = str::from_utf8(other) else {
         return Err(NOT_TEXT);
     };
-    same_in(one, other, options, room, other_room)
+    let (end, n) = write_within(one, options, room)?;
+    let (other_end, m) = write_within(other, options, other_room)?;
+    Ok(judge(
+        one.as_bytes(),
+        &room[..n],
+        end,
+        other.as_bytes(),
+        &other_room[..m],
+        other_end,
+        options,
+    ))
 }

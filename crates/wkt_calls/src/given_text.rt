@@ -29,6 +29,7 @@ pub struct GivenArrays<'a> {
 
 fn kind_of(number: u32) -> Result<GeometryType, u32>
     ensures ok { IfOk result (λ k. number ≡ kind_number k) }
+    ensures one { IfOk result (λ k. (l : GeometryType) → number ≡ kind_number l → k ≡ l) }
     ensures err { IfErr result (λ s. (s ≡ 26) × ((k : GeometryType) → number ≡ kind_number k → ⊥)) }
 {
     match number {
@@ -45,6 +46,7 @@ fn kind_of(number: u32) -> Result<GeometryType, u32>
 
 fn dimension_of(number: u32) -> Result<Dimension, u32>
     ensures ok { IfOk result (λ d. number ≡ dimension_number d) }
+    ensures one { IfOk result (λ d. (e : Dimension) → number ≡ dimension_number e → d ≡ e) }
     ensures err { IfErr result (λ s. (s ≡ 26) × ((d : Dimension) → number ≡ dimension_number d → ⊥)) }
 {
     match number {

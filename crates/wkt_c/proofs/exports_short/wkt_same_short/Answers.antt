@@ -1,21 +1,22 @@
--- The first geometry has more behind it than was asked for.
-use Rattle.std.proofs.Common.{inl, refl}
+-- What is reported of the texts, and where each ends.
+use Rattle.std.proofs.Common.{arith, inl, inr}
 use Rattle.wkt_c.proofs.exports_short.wkt_same_short.Goals as goal
 
-pub returns-then-not-ends_as_asked-clause-answers : goal.returns-then-not-ends_as_asked-clause-answers
-returns-then-not-ends_as_asked-clause-answers c _ =
-    let compared = c.in-Ok.compared in (
+pub returns-in-Ok-clause-answers : goal.returns-in-Ok-clause-answers
+returns-in-Ok-clause-answers c _ =
+    let compared = c.in-Ok.compared in
+    let said = c.report.ensures in (
       0,
       compared.end,
       0,
       compared.other_end,
       record {
-        compared = λ e. cc;
-        as_asked = λ e. cc;
-        more = λ _. (compared.same, c.in-Ok.ensures, inl (c.if-not-ends_as_asked.ensures.no refl));
-        memory = λ e. cc;
-        others = λ _ _ n. absurd (n refl);
-        kept = λ _. refl;
-        ends_kept = λ _ n. absurd (n refl);
+        compared = λ e. (compared.same, c.in-Ok.ensures, said.reported e);
+        as_asked = said.as_asked;
+        more = λ e. (compared.same, c.in-Ok.ensures, said.more e);
+        memory = λ e. elim said.two [ inl z ↦ absurd (omega (arith, e, z)) | inr z ↦ absurd (omega (arith, e, z)) ];
+        others = λ some _ n. elim said.two [ inl z ↦ absurd (omega (arith, some, z)) | inr z ↦ absurd (n z) ];
+        kept = said.kept;
+        ends_kept = λ some n. elim said.two [ inl z ↦ absurd (omega (arith, some, z)) | inr z ↦ absurd (n z) ];
       },
     )

@@ -9,6 +9,6 @@ returns-then-null c = match-map c.add.result (λ x adds. null-text c.args.places
 pub returns-in-Ok : goal.returns-in-Ok
 returns-in-Ok c = match-map c.add-in-Ok.result (λ x adds. arrays-text c.args.places _ _ _ _ _ _ c.if-null.false c.in-Ok.ensures.ok c.written.ensures adds) (λ e h. h) c.add-in-Ok.ensures
 
-pub returns-else-status-eq-MEMORY : goal.returns-else-status-eq-MEMORY
-returns-else-status-eq-MEMORY c =
-    match-map c.add-in-Err.result (λ x adds. no-text c.args.places _ _ _ _ _ c.if-null.false c.if-status-eq-MEMORY.false (inr c.in-Err.ensures.err) adds) (λ e h. h) c.add-in-Err.ensures
+pub returns-in-Err : goal.returns-in-Err
+returns-in-Err c =
+    match-map c.add-in-Err.result (λ x adds. no-text c.args.places _ _ _ _ _ c.if-null.false c.in-Err.status-test.1 (inr c.in-Err.ensures.err) adds) (λ e h. h) c.add-in-Err.ensures

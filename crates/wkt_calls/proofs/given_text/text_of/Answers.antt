@@ -13,7 +13,7 @@ use Rattle.wkt_calls.proofs.given_text.text_of.Goals as goal
 pub returns-then-not-are_arrays-clause-err : goal.returns-then-not-are_arrays-clause-err
 returns-then-not-are_arrays-clause-err c =
     let a : Given = record { kind = c.in_ok-kind_of.field-0; dimension = c.in_ok-dimension_of.field-0; numbers = c.args.given.numbers; rings = c.args.given.rings; polygons = c.args.given.polygons } in
-    inr (refl, of-none c.args.places a c.args.given.kind c.args.given.dimension c.in_ok-kind_of.ensures.ok c.in_ok-dimension_of.ensures.ok (c.if-not-are_arrays.ensures.none c.args.places))
+    inr (refl, of-none c.args.places a c.args.given.kind c.args.given.dimension c.in_ok-kind_of.ensures.ok c.in_ok-dimension_of.ensures.ok c.in_ok-kind_of.ensures.one c.in_ok-dimension_of.ensures.one (c.if-not-are_arrays.ensures.none c.args.places))
 
 pub tell-requires-clause-room : goal.tell-requires-clause-room
 tell-requires-clause-room c = λ q v h.
@@ -30,7 +30,7 @@ returns-clause-ok c =
     let num = decimal_text c.args.places in
     let fresh : IsFresh c.args.places c.args.room.now c.new-builder.result = c.new-builder.ensures in
     let made = subst (λ (n : ℕ). Made (read_decimal 127 36 n) (decimal_text n) c.new-builder.result (events some.0) c.tell.result) fresh.numbers (c.tell.ensures c.args.places some.0 some.1).makes in
-    text-of c.args.places a c.args.given.kind c.args.given.dimension c.in_ok-kind_of.ensures.ok c.in_ok-dimension_of.ensures.ok some.0 some.1 (written_of c.tell.result).bytes
+    text-of c.args.places a c.args.given.kind c.args.given.dimension c.in_ok-kind_of.ensures.ok c.in_ok-dimension_of.ensures.ok c.in_ok-kind_of.ensures.one c.in_ok-dimension_of.ensures.one some.0 some.1 (written_of c.tell.result).bytes
     (wrote-value (read_decimal 127 36 c.args.places) num (IsUnits c.args.places) (c.texts_are_short.ensures.decimals c.args.places) (λ v w h. events_write (IsUnits c.args.places) num v h w)
     c.args.places c.args.room.now c.new-builder.result c.tell.result some.0 fresh some.1.fits made)
 

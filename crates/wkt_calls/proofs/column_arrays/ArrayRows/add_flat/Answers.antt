@@ -5,9 +5,9 @@ use Rattle.std.proofs.Common.{inl, inr, refl}
 use Rattle.wkt_calls.proofs.Columns.{match-map, refused-arrays, longer-arrays}
 use Rattle.wkt_calls.proofs.column_arrays.ArrayRows.add_flat.Goals as goal
 
-pub returns-else-status-eq-MEMORY : goal.returns-else-status-eq-MEMORY
-returns-else-status-eq-MEMORY c =
-    let none : IsNotFlat (places_in c.args.options) c.args.text.now c.in-Err.status = elim c.in-Err.ensures [ inl m ↦ absurd (c.if-status-eq-MEMORY.false m.0) | inr h ↦ h ] in
+pub returns-in-Err : goal.returns-in-Err
+returns-in-Err c =
+    let none : IsNotFlat (places_in c.args.options) c.args.text.now c.in-Err.status = elim c.in-Err.ensures [ inl m ↦ absurd (c.in-Err.status-test.1 m.0) | inr h ↦ h ] in
     match-map c.add_none-in-Err.result
     (λ x adds. refused-arrays (places_in c.args.options) (asks_whole c.args.options) _ _ _ _ _ refl (inl none) adds) (λ e h. h)
     c.add_none-in-Err.ensures

@@ -1,7 +1,7 @@
 -- The lists stand in the rooms, or one of these has no room.
 use Rattle.std.proofs.Common.{rules, ◌≡◌, ◌∙◌, List, arith, inl, inr}
-use Rattle.wkt_calls.proofs.events_call.events_in.Goals as goal
-use Rattle.wkt_calls.proofs.events_call.events_in.Goals.{then-told-events-via-then-told-events, then-told-events-via-else-told-events+then-read-numbers}
+use Rattle.wkt_c.proofs.exports_events.wkt_read_events.Goals as goal
+use Rattle.wkt_c.proofs.exports_events.wkt_read_events.Goals.{then-told-events-via-then-told-events, then-told-events-via-else-told-events+then-read-numbers}
 
 -- what was lent is what came back
 came-back : {A : Type 0} (now back list : List A) → back ≡ list → now ≡ back → now ≡ list
