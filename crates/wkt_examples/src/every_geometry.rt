@@ -25,6 +25,7 @@ where
 ///
 /// # Errors
 /// Out of memory.
+#[tactic(auto, using(crate::proofs::Ordering::begins_more))]
 pub fn every_geometry<'a, T: WktNum>(
     alloc: Global,
     text: &'a str,

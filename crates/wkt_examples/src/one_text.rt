@@ -122,6 +122,7 @@ pub fn keys<T: WktNum>(alloc: Global, lines: &[&str]) -> Result<Vec<String>, All
 ///
 /// # Errors
 /// Out of memory.
+#[tactic(auto, using(std::proofs::lemmas::Grind::text_counts))]
 pub fn counts(alloc: Global, keys: &[String]) -> Result<HashMap<String, u64>, AllocError>
     ensures { IfOk result
         (λ m. (q : List ℕ) → unwrap_or (get_by_text m q) 0 ≡ count_by (λ k. bytes_eq q (string_bytes k)) keys.now) }
