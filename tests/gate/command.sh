@@ -12,8 +12,8 @@
 #   ! TEXT          the same on standard error
 #   ? STATUS        its status, if not 0
 # In a TEXT and a FILE, \xHH is a byte and \\ a backslash; \c at a TEXT's end says that no end of a line follows.
-# Then, with REST=no without them: standard output that is full or closed, a line of 100 MB, progress, and, but for REST=streams,
-# completions and texts in dialects, which take 230 runs.
+# Then, with REST=no without them: standard input and output that are closed, or full, a line of 100 MB, progress, and, but
+# for REST=streams, completions and texts in dialects, which take 230 runs.
 set -u
 cd "$(dirname "$0")/../.." || exit 1
 cases=$PWD/tests/data/command
@@ -85,6 +85,10 @@ rest() {
     [ ! -s "$dir/stderr" ] || fail "closed pipe: words on standard error"
     "$@" canon "$dir/many" > /dev/full 2> "$dir/stderr"
     [ $? = 2 ] && grep -q '^wkt: standard output: ' "$dir/stderr" || fail "full device"
+
+    # Standard input that is closed: the system's words.
+    "$@" canon <&- > "$dir/stdout" 2> "$dir/stderr"
+    [ "$? $(cat "$dir/stderr")" = "2 wkt: standard input: Bad file descriptor (os error 9)" ] || fail "closed standard input"
 
     # A line of 100 MB, read and refused.
     { printf 'LINESTRING(0 0'; yes ',12.5 -7' | head -n 12500000 | tr -d '\n'; printf ')\n'; } > "$dir/long"

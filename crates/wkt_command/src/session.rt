@@ -1,5 +1,6 @@
 //! A run from its arguments to its status.
 use crate::error::CommandError;
+use crate::input::shown_name;
 use crate::run::Run;
 use crate::same;
 use crate::shown::Shown;
@@ -101,13 +102,10 @@ fn read_all(
     run: &mut Run<'_, Stdout>,
     options: &Options,
 ) -> Result<u8, CommandError> {
-    if options.operands.is_empty() {
-        return read_one(rt, run, 0, "-");
-    }
     let mut status = 0;
-    for (file, name) in options.operands.iter().enumerate() {
+    for file in 0..options.operands.len().max(1) {
         if !run.is_over() {
-            status = read_one(rt, run, file, name.as_str())?.max(status);
+            status = read_one(rt, run, file, options.operands.get(file))?.max(status);
         }
     }
     Ok(status)
@@ -118,16 +116,19 @@ fn read_one(
     rt: &HostRuntime,
     run: &mut Run<'_, Stdout>,
     file: usize,
-    name: &str,
+    name: Option<&String>,
 ) -> Result<u8, CommandError> {
-    match run.read_file(rt, file, name) {
+    let given = match name {
+        Some(name) => name.as_str(),
+        None => "-",
+    };
+    match run.read_file(rt, file, given) {
         Ok(()) => Ok(0),
         Err(CommandError::Input(error)) => {
-            let kind = error.kind();
-            let shown = Shown(name);
-            let _ = match kind {
+            let shown = Shown(shown_name(name));
+            let _ = match error.kind() {
                 ErrorKind::NotFound => eprintln!(rt; "wkt: {shown}: no such file or directory"),
-                _ => eprintln!(rt; "wkt: {shown}: {kind}"),
+                _ => eprintln!(rt; "wkt: {shown}: {error}"),
             };
             Ok(FAILED)
         }

@@ -2,14 +2,17 @@
 use std::fmt;
 use std::fmt::Formatter;
 
-/// Whether a character is shown as it is: it is no control but a tab, no space but the usual one, and it is seen. The
-/// others are those of `HIDDEN` in `javascript/src/printable.js`.
+/// Whether a character is shown as it is. The others, but for the tab and the space, are those that Unicode calls
+/// controls (Cc), White_Space, Default_Ignorable_Code_Point, and the marks of annotations (U+FFF9 to U+FFFB).
 pub fn is_plain(c: char) -> bool {
     match c {
         '\t' => true,
-        '\0'..='\x1f' | '\x7f'..='\u{a0}' | '\u{ad}' | '\u{61c}' | '\u{180e}' => false,
-        '\u{2000}'..='\u{200f}' | '\u{2028}'..='\u{202f}' | '\u{205f}'..='\u{206f}' => false,
-        '\u{3000}' | '\u{feff}' | '\u{fff9}'..='\u{fffb}' | '\u{e0000}'..='\u{e007f}' => false,
+        '\0'..='\x1f' | '\x7f'..='\u{a0}' | '\u{ad}' | '\u{34f}' | '\u{61c}' => false,
+        '\u{115f}'..='\u{1160}' | '\u{1680}' | '\u{17b4}'..='\u{17b5}' => false,
+        '\u{180b}'..='\u{180f}' | '\u{2000}'..='\u{200f}' | '\u{2028}'..='\u{202f}' => false,
+        '\u{205f}'..='\u{206f}' | '\u{3000}' | '\u{3164}' | '\u{fe00}'..='\u{fe0f}' => false,
+        '\u{feff}' | '\u{ffa0}' | '\u{fff0}'..='\u{fffb}' => false,
+        '\u{1bca0}'..='\u{1bca3}' | '\u{1d173}'..='\u{1d17a}' | '\u{e0000}'..='\u{e0fff}' => false,
         _ => true,
     }
 }
