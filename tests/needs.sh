@@ -25,6 +25,7 @@ there() {
         page) command -v chromium && command -v chromedriver && module selenium ;;
         fuzz) command -v clang && command -v ld.lld ;;
         flake8 | shellcheck | clang-format) command -v "$1" ;;
+        shown) perl -e 'exit(chr(0x3164) !~ /\p{Default_Ignorable_Code_Point}/)' ;;
     esac > /dev/null 2>&1
 }
 # module NAME: the system's Python has it, for which the packages are
@@ -60,6 +61,7 @@ packages=(
     "flake8 flake8"
     "shellcheck shellcheck"
     "clang-format clang-format"
+    "shown perl"
 )
 
 lacking=() wanted=()

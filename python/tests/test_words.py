@@ -177,7 +177,8 @@ class Words(unittest.TestCase):
         cases = [("\x1b[2J", "\\x1b[2J"), ("\x00", "\\x00"), ("\x7f", "\\x7f"), ("\x9b31m", "\\u{9b}31m"),
                  ("\x85", "\\u{85}"), ("\u202ehidden", "\\u{202e}hidden"), ("a\u2066b\u2069", "a\\u{2066}b\\u{2069}"),
                  ("\u200f", "\\u{200f}"), ("\u061c", "\\u{61c}"), ("x\u2028y", "x\\u{2028}y"), ("\xa0", "\\u{a0}"),
-                 ("\x0b\x1c", "\\x0b\\x1c"), ("\U000e0041", "\\u{e0041}"), ("\xe4\u4e2d", "\xe4\u4e2d")]  # fmt: skip
+                 ("\x0b\x1c", "\\x0b\\x1c"), ("\U000e0041", "\\u{e0041}"), ("\xe4\u4e2d", "\xe4\u4e2d"),
+                 ("\u3164\ufe0f\U000e0100", "\\u{3164}\\u{fe0f}\\u{e0100}")]  # fmt: skip
         for raw, shown in cases:
             for front, back in (("POINT(1 ", " 2)"), ("POINT(1 2)", ""), ("", "POINT(1 2)"), ("POINT(1 2)\n", "")):
                 text = front + raw + back

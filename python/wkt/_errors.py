@@ -1,4 +1,5 @@
 """What is raised where there is no answer."""
+import re
 from typing import TYPE_CHECKING, Any, Optional, Sequence, Tuple
 
 from . import _library
@@ -34,15 +35,21 @@ class WktError(ValueError):
         return words if self.row is None else "row %d: %s" % (self.row, words)
 
 
+# What Python calls printable although Unicode says that nothing is seen of it (Default_Ignorable_Code_Point).
+UNSEEN = re.compile("[\u034f\u115f\u1160\u17b4\u17b5\u180b-\u180f\u3164\ufe00-\ufe0f\uffa0\U000e0000-\U000e0fff]")
+
+
 def printable(text: str, plain: str = "") -> str:
     """A stranger's text as a message shows it: what isn't printable stands there by its number, as \\x1b or \\u{202e}.
 
-    Raw it could move the cursor, or turn words around. plain: characters that stay.
+    Raw it could move the cursor, turn words around, or not be seen. plain: characters that stay.
     """
-    if text.isprintable():
+    if text.isprintable() and not UNSEEN.search(text):
         return text
     forms = ("\\x%02x", "\\u{%x}")
-    return "".join(c if c.isprintable() or c in plain else forms[c > "\x7f"] % ord(c) for c in text)
+    return "".join(
+        c if c in plain or c.isprintable() and not UNSEEN.match(c) else forms[c > "\x7f"] % ord(c) for c in text
+    )
 
 
 def words_of(status: int, messages: Sequence[str] = MESSAGES) -> str:

@@ -56,24 +56,25 @@ impl<'a> Excerpt<'a> {
 }
 
 /// The text as it is shown: what isn't printable by its number, as `\x1b` or `\u{202e}`, since it could move or hide the rest.
-/// A tab stays.
 fn shown(text: &str) -> String {
     let one = |c| match u32::from(c) {
-        _ if c == '\t' || is_printable(c) => c.to_string(),
+        _ if is_plain(c) => c.to_string(),
         number @ 0..=0x7f => format!("\\x{number:02x}"),
         number => format!("\\u{{{number:x}}}"),
     };
     text.chars().map(one).collect()
 }
 
-/// Whether a character is printable, as Rust's `escape_debug` has it. It stands behind a letter there, or an accent would be
-/// escaped.
-fn is_printable(c: char) -> bool {
-    let text = ['a', c].iter().collect::<String>();
-    let mut escaped = text.escape_debug().skip(1);
+/// Whether a character is shown as it is. The others, but for the tab and the space, are those that Unicode calls controls
+/// (Cc), `White_Space`, `Default_Ignorable_Code_Point`, and the marks of annotations (U+FFF9 to U+FFFB).
+fn is_plain(c: char) -> bool {
     !matches!(
-        (escaped.next(), escaped.next()),
-        (Some('\\'), Some('u' | '0' | 'n' | 'r' | 't'))
+        c,
+        '\0'..='\x08' | '\x0a'..='\x1f' | '\x7f'..='\u{a0}' | '\u{ad}' | '\u{34f}' | '\u{61c}'
+        | '\u{115f}'..='\u{1160}' | '\u{1680}' | '\u{17b4}'..='\u{17b5}' | '\u{180b}'..='\u{180f}'
+        | '\u{2000}'..='\u{200f}' | '\u{2028}'..='\u{202f}' | '\u{205f}'..='\u{206f}' | '\u{3000}'
+        | '\u{3164}' | '\u{fe00}'..='\u{fe0f}' | '\u{feff}' | '\u{ffa0}' | '\u{fff0}'..='\u{fffb}'
+        | '\u{1bca0}'..='\u{1bca3}' | '\u{1d173}'..='\u{1d17a}' | '\u{e0000}'..='\u{e0fff}'
     )
 }
 
