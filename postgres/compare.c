@@ -2,8 +2,10 @@
  * is looked for by its name among all of the server's, each time that an exclusion constraint checks a row. */
 #include "wkt_pg.h"
 
+#if PG_VERSION_NUM >= 140000
 #include "common/cryptohash.h"
 #include "common/sha2.h"
+#endif
 #include "utils/fmgrprotos.h"
 
 #define IS_NOW(name, other) \

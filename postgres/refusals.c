@@ -3,6 +3,7 @@
 
 #include "printable.h"
 
+#include "catalog/namespace.h"
 #include "lib/stringinfo.h"
 #include "mb/pg_wchar.h"
 #include "utils/builtins.h"
@@ -67,25 +68,34 @@ static Refusal refusal_of(const Question *asked) {
     return refusal;
 }
 
-/* The number by which is_printable knows a character. In UTF-8 it is its code point, and in ISO's encodings of one byte its byte,
- * which up to 0xAD means what it does there. Where no encoding is known any byte beyond ASCII may be part of what isn't printable;
- * in other encodings none is. */
-static uint32 number_of(const char *at) {
-    uint32 first = (unsigned char)*at;
+/* The number by which is_printable knows a character: its code point, or that of U+FFFD, which is printable, where it has none.
+ * Where no encoding is known any byte beyond ASCII may be part of what isn't printable. Before PostgreSQL 14 a conversion may
+ * be an error: there the bytes of ISO's encodings, which up to 0xAD mean what code points do, are looked at alone. */
+static uint32 number_of(const char *at, int size) {
     int encoding = GetDatabaseEncoding();
-    if (encoding == PG_UTF8) return utf8_to_unicode((const unsigned char *)at);
-    if (first < 0x80 || (encoding >= PG_LATIN1 && encoding <= PG_LATIN10) ||
-        (encoding >= PG_ISO_8859_5 && encoding <= PG_ISO_8859_8))
-        return first;
-    return encoding == PG_SQL_ASCII ? 0x80 : 0xFFFD;
+    if (encoding == PG_UTF8 || !IS_HIGHBIT_SET(*at)) return utf8_to_unicode((const unsigned char *)at);
+    if (encoding == PG_SQL_ASCII) return 0x80;
+#if PG_VERSION_NUM >= 140000
+    {
+        unsigned char utf8[MAX_CONVERSION_GROWTH * MAX_MULTIBYTE_CHAR_LEN + 1];
+        Oid call = FindDefaultConversionProc(encoding, PG_UTF8);
+        if (OidIsValid(call) &&
+            pg_do_encoding_conversion_buf(call, encoding, PG_UTF8, (unsigned char *)unconstify(char *, at), size, utf8,
+                                          sizeof utf8, true) == size)
+            return utf8_to_unicode(utf8);
+    }
+#else
+    if ((encoding >= PG_LATIN1 && encoding <= PG_LATIN10) || (encoding >= PG_ISO_8859_5 && encoding <= PG_ISO_8859_8))
+        return (unsigned char)*at;
+#endif
+    return 0xFFFD;
 }
 
 /* Appends characters as they are shown. What isn't printable stands there by its number, as \x1b or \u{202e}: raw it could move
  * a cursor, or look like another line of the message. */
 static void append_shown(StringInfo said, const char *given, const char *end) {
     for (int size; given < end; given += size) {
-        uint32 c = number_of(given);
-        size = pg_mblen(given);
+        uint32 c = number_of(given, size = pg_mblen(given));
         if (is_printable(c))
             appendBinaryStringInfo(said, given, size);
         else if (size == 1)

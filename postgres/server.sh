@@ -7,6 +7,7 @@
 # folder and those that the caller put into `removed` are removed; what it put into `server_flags` are flags of the server.
 # Run psql as "$bin/psql", the client's other programs as "$from/pg_dump". SANITIZED=yes builds the extension with ASan and UBSan,
 # which end the server's process at an error, and write it into the server's log.
+unset CDPATH # with which `cd` says where it went
 removed=() server_flags=() under=()
 ended() {
     [ -z "${started:-}" ] || as "$bin/pg_ctl" -D "$dir/base/data" -m immediate stop > /dev/null
@@ -18,6 +19,15 @@ library() {
     wkt=${1:-${WKT_LIB_DIR:-$(dirname "${BASH_SOURCE[0]}")/../capi/out}}
     [ -f "$wkt/libwkt.a" ] || "$(dirname "${BASH_SOURCE[0]}")/../capi/build.sh" "$wkt" || { echo "no libwkt.a in $wkt: capi/build.sh makes it"; exit 1; }
     wkt=$(cd "$wkt" && pwd)
+    # make takes no folder whose name has a space or the like, so it gets a link to that.
+    case $wkt in
+        *[!A-Za-z0-9._/+@=,-]*)
+            removed+=("$(mktemp -d /tmp/wkt.XXXXXX)")
+            chmod 755 "${removed[-1]}"
+            ln -s "$wkt" "${removed[-1]}/library"
+            wkt=${removed[-1]}/library
+            ;;
+    esac
 }
 
 as() { "$@"; }

@@ -19,7 +19,7 @@ unpacked() {
     rm -rf "$root/wkt"
     mkdir -p "$root/wkt/tests/data"
     cp -r "$here" "$root/wkt/postgres"
-    cp "$here"/../tests/data/key*.tsv "$root/wkt/tests/data/"
+    cp "$here"/../tests/data/*.tsv "$root/wkt/tests/data/"
     cp "$here"/../SECURITY.md "$root/wkt/"
     cp -r "$wkt" "$root/wkt/library"
 }

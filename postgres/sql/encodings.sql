@@ -15,6 +15,7 @@ SELECT wkt_canonical(U&'\009B31mP\00D6INT\00A0(1\00AD2)');
 \c contrib_regression
 CREATE DATABASE wkt_win1252 ENCODING 'WIN1252' LOCALE 'C' TEMPLATE template0;
 CREATE DATABASE wkt_euc_jp ENCODING 'EUC_JP' LOCALE 'C' TEMPLATE template0;
+CREATE DATABASE wkt_hebrew ENCODING 'ISO_8859_8' LOCALE 'C' TEMPLATE template0;
 CREATE DATABASE wkt_mule ENCODING 'MULE_INTERNAL' LOCALE 'C' TEMPLATE template0;
 CREATE DATABASE wkt_sql_ascii ENCODING 'SQL_ASCII' LOCALE 'C' TEMPLATE template0;
 \set VERBOSITY sqlstate
@@ -23,6 +24,7 @@ CREATE EXTENSION wkt;
 \set it 'E''\\x81'''
 \set shown :it
 :asked
+SELECT split_part((wkt_explain(E'POINT(1\xa0\xad2)')).shown, E'\n', 1) = E'POINT(1\\xa0\\xad2)' OR current_setting('server_version_num')::int < 140000 AS unseen;
 \c wkt_euc_jp
 CREATE EXTENSION wkt;
 \set it 'E''\\xa2\\xaf'''
@@ -31,6 +33,10 @@ CREATE EXTENSION wkt;
 SELECT (wkt_explain(E'LINESTRING(1 2,\xa4\xa2\xa2\xaf\x8f\xb0\xa1\t3)')).shown = E'LINESTRING(1 2,\xa4\xa2\xa2\xaf\x8f\xb0\xa1\t3)\n               ^ a first number was expected' AS the_place,
     (wkt_explain(E'\n\xa4\xa2\t\xa4\xa2\nPOINT(1 2)\xa4\xa2')).shown = E'\xa4\xa2\t\xa4\xa2\n^ a kind of geometry, such as POINT, was expected' AS the_line,
     (wkt_explain('POINT(1 2) ' || repeat(E'\xa4\xa2', 70))).shown = 'POINT(1 2) ' || repeat(E'\xa4\xa2', 60) || E'..\n           ^ the end of the text was expected' AS the_front;
+SELECT split_part((wkt_explain(E'POINT(1\xa1\xa12)')).shown, E'\n', 1) = E'POINT(1\\u{3000}2)' OR current_setting('server_version_num')::int < 140000 AS unseen;
+\c wkt_hebrew
+CREATE EXTENSION wkt;
+SELECT split_part((wkt_explain(E'POINT(1\xfe\xe02)')).shown, E'\n', 1) = E'POINT(1\\xfe\xe02)' OR current_setting('server_version_num')::int < 140000 AS unseen;
 \c wkt_mule
 CREATE EXTENSION wkt;
 \set it 'E''\\x81\\xd6'''
@@ -48,5 +54,6 @@ SELECT wkt_canonical(E'\xe2\x80\xaePOINT\xc3\x96(1 2)');
 DROP DATABASE wkt_latin1;
 DROP DATABASE wkt_win1252;
 DROP DATABASE wkt_euc_jp;
+DROP DATABASE wkt_hebrew;
 DROP DATABASE wkt_mule;
 DROP DATABASE wkt_sql_ascii;

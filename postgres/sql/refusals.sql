@@ -55,7 +55,7 @@ SELECT wkt_explain('POINT(1 2)') IS NULL AS is_null, wkt_explain('POINT(1') IS N
 SELECT wkt_canonical(E'\x1b[2J\x07\n\tPOINT(1 2)\x7f');
 SELECT wkt_canonical(U&'\202EPOINT(1 2)\00A0\00E9\+01F600' || repeat(U&'\0085', 30));
 SELECT wkt_canonical('POINT(1 2)', 18, E'\x1b');
-SELECT l FROM regexp_split_to_table((wkt_explain(E'\n\r\tPOINT(1 2)\r \x1b[31m' || U&'\202E\00E9\+0E0041' || E'\rx')).shown, E'\n') l;
+SELECT l FROM regexp_split_to_table((wkt_explain(E'\n\r\tPOINT(1 2)\r \x1b[31m' || U&'\202E\00E9\+0E0041\3164\FE0F' || E'\rx')).shown, E'\n') l;
 SELECT l FROM regexp_split_to_table((wkt_explain('LINESTRING(' || repeat(E'1 2,\r', 100) || U&'\009B' || repeat('x', 100))).shown, E'\n') l;
 -- Of the type
 SELECT 'POINT(1)'::wkt;
