@@ -5,6 +5,7 @@
 # bytes as the points. The tables are in memory, and each number is the least of three runs. It needs python3 that loads
 # extensions, and SpatiaLite for its rows.
 set -eu
+unset CDPATH # with which `cd` says where it went
 here=$(cd "$(dirname "$0")" && pwd)
 wkt=${1:-${WKT_LIB_DIR:-$here/../capi/out}}
 wkt=$(cd "$wkt" && pwd)

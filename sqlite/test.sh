@@ -4,15 +4,20 @@
 # FOLDER has wkt.h and libwkt.a; it is WKT_LIB_DIR without an argument, and capi/out without that. It needs SQLite with
 # its headers, gcc and make, and a Python whose sqlite3 loads extensions.
 set -eu
+unset CDPATH # with which `cd` says where it went
 here=$(cd "$(dirname "$0")" && pwd)
 wkt=${1:-${WKT_LIB_DIR:-$here/../capi/out}}
 [ -f "$wkt/libwkt.a" ] || "$here/../capi/build.sh" "$wkt" || { echo "no libwkt.a in $wkt: capi/build.sh makes it"; exit 1; }
 wkt=$(cd "$wkt" && pwd)
 command -v sqlite3 > /dev/null || { echo "no sqlite3: not run"; exit 1; }
-dir=$(mktemp -d)
+dir=$(mktemp -d /tmp/wkt.XXXXXX)
 trap 'rm -rf "$dir"' EXIT
 cp "$here"/test.{sql,py} "$dir"
 cd "$dir"
+# make takes no folders whose names have a space or the like, so it gets links to them.
+ln -s "$here/.." clone
+ln -s "$wkt" linked
+here=$dir/clone/sqlite wkt=$dir/linked
 make -s -f "$here/Makefile" WKT_LIB_DIR="$wkt" CFLAGS="-O2 -Werror"
 [[ $(readelf -d mod_wkt.so) == *BIND_NOW* ]] && [[ $(nm -D mod_wkt.so) == *__stack_chk_fail* ]] || { echo "mod_wkt.so isn't hardened"; exit 1; }
 [ "$(nm -D --defined-only mod_wkt.so | sed 's/.* T //' | paste -sd ' ')" = "sqlite3_modwkt_init sqlite3_wkt_init" ] || { echo "mod_wkt.so has other names"; exit 1; }

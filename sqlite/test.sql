@@ -37,7 +37,7 @@ select wkt_explain('POINT(1 2) more');
 select wkt_explain('LINESTRING(0 0,' || char(10) || ' 1 1' || char(10) || ' 2 2)');
 select wkt_explain('GEOMETRYCOLLECTION(POINT(1 2),ÖÖ(1 2))');
 select wkt_explain('LINESTRING(' || replace(hex(zeroblob(100)), '00', '10 20, ') || '1 2 3, ' || replace(hex(zeroblob(100)), '00', '10 20, ') || '0 0)');
-select wkt_explain(char(10, 13, 9) || 'POINT(1 2)' || char(13, 32, 27) || '[31m' || char(155, 8238, 233, 8364, 128512, 917569) || char(13) || 'x');
+select wkt_explain(char(10, 13, 9) || 'POINT(1 2)' || char(13, 32, 27) || '[31m' || char(155, 8238, 233, 8364, 128512, 917569, 12644, 65039) || char(13) || 'x');
 -- The same one by one; the cause is the word that docs/FILES.md has
 create table refused (t text);
 insert into refused values ('POINT(1'), ('POINT(1 2)'), ('POINT(1 2) x'), (''), ('POINT(1.1234567 2)'), ('POINT(1e3 2)'), ('SRID=4326;POINT(1 2)'), ('POINT()'), (x'ff'), (null);

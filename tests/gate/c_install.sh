@@ -5,7 +5,7 @@
 # CC=aarch64-linux-gnu-gcc looks at what is made for another processor.
 set -u
 cd "$(dirname "$0")/../.." || exit 1
-dir=$(mktemp -d)
+dir=$(mktemp -d /tmp/wkt.XXXXXX) # make takes no folder with a space, as TMPDIR may be
 trap 'rm -rf "$dir"' EXIT
 export LC_ALL=C
 failed=0
@@ -54,6 +54,9 @@ runs "$dir/my clone/capi/build.sh" "$dir/my \$library"
 runs env CDPATH=.:/ EXE=.exe capi/build.sh "$dir/library"
 [ -e "$dir/library/libwkt.so" ] || wrong "no libwkt.so where the environment has an EXE"
 grep -qxF "libdir=$dir/my \$library" "$dir/my \$library/wkt.pc" || wrong "wkt.pc names another folder than my \$library"
+# So do the tests of the extensions.
+runs env CDPATH=.:/ bash -euc '. postgres/server.sh; trap ended EXIT; library "$1"; make -s -n -C sqlite WKT_LIB_DIR="$wkt"; library; [ -e "$wkt/wkt.h" ]' \
+    - "$dir/my \$library"
 for flags in "$(cat "$dir/flags")" "-I'$dir/my \$library' '$dir/my \$library/libwkt.a'"; do
     eval "${CC:-cc} capi/examples/show.c $flags -o '$dir/show'" || wrong "a program isn't compiled by: $flags"
 done
