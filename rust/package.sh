@@ -4,6 +4,7 @@
 # or a network.
 set -eu
 [ $# = 1 ] || { sed -n 2,4p "$0" >&2; exit 2; }
+unset CDPATH # with which `cd` says where it went
 here=$(cd "$(dirname "$0")" && pwd)
 root=$here/..
 out=$(mkdir -p "$1" && cd "$1" && pwd)

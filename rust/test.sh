@@ -8,6 +8,7 @@
 # libstd-rust-dev:s390x, gcc-s390x-linux-gnu and qemu-user-static.
 # The crates come from Debian's registry (librust-geo-types-dev, librust-cc-dev), so no network is needed.
 set -u
+unset CDPATH # with which `cd` says where it went
 cd "$(dirname "$0")" || exit 1
 fail() { echo "rust: $*"; exit 1; }
 dir=$(mktemp -d)

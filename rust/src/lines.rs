@@ -138,7 +138,7 @@ pub struct Lines<R> {
 /// # Ok::<(), std::io::Error>(())
 /// ```
 ///
-/// Its items are `Err` where the reader fails.
+/// Its items are `Err` where the reader fails. If it is asked on, the line that it was in goes on where the reader does.
 pub fn read_lines<R: BufRead>(reader: R, places: u32) -> Lines<R> {
     Lines {
         reader,
@@ -152,9 +152,9 @@ impl<R: BufRead> Iterator for Lines<R> {
     type Item = io::Result<Result<String, Error>>;
 
     fn next(&mut self) -> Option<Self::Item> {
-        self.line.clear();
+        // What was read of a line before the reader failed is still there.
         match self.reader.read_until(b'\n', &mut self.line) {
-            Ok(0) => return None,
+            Ok(0) if self.line.is_empty() => return None,
             Ok(_) => self.number += 1,
             Err(error) => return Some(Err(error)),
         }
@@ -165,6 +165,7 @@ impl<R: BufRead> Iterator for Lines<R> {
             Ok(text) => canonical(text, self.places),
             Err(_) => Err(Error::NotUtf8),
         };
+        self.line.clear();
         Some(Ok(answer.map_err(|error| match error {
             Error::Refused(mut refusal) => {
                 refusal.line = self.number;

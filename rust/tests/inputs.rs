@@ -1,7 +1,7 @@
 //! Inputs line by line, and what the command `wkt` prints of refusals.
 use std::io::{self, Read, Write};
 use std::path::Path;
-use wkt_proved::{explain, lines, read_lines, stream, Error};
+use wkt_proved::{canonical, explain, lines, read_lines, stream, Error};
 
 #[test]
 fn many_lines() {
@@ -110,6 +110,34 @@ fn failing_ends() {
     assert_eq!(error.kind(), io::ErrorKind::ConnectionReset);
 }
 
+/// Gives these pieces, the last first, and fails where one is empty.
+struct Pieces(Vec<&'static str>);
+
+impl Read for Pieces {
+    fn read(&mut self, to: &mut [u8]) -> io::Result<usize> {
+        match self.0.pop() {
+            Some("") => Err(io::ErrorKind::WouldBlock.into()),
+            piece => piece.unwrap_or("").as_bytes().read(to),
+        }
+    }
+}
+
+/// A line that the reader fails in is answered whole: its end alone may be another geometry.
+#[test]
+fn a_reader_that_goes_on() {
+    let pieces = vec!["", "POINT EMPTY", "POINT(1 2)\n", "", "MULTI"];
+    let mut lines = read_lines(io::BufReader::new(Pieces(pieces)), 18);
+    for want in [
+        canonical("MULTIPOINT(1 2)", 18),
+        canonical("POINT EMPTY", 18),
+    ] {
+        let error = lines.next().unwrap().unwrap_err();
+        assert_eq!(error.kind(), io::ErrorKind::WouldBlock);
+        assert_eq!(lines.next().unwrap().unwrap(), want);
+    }
+    assert!(lines.next().is_none());
+}
+
 #[test]
 fn lines_of_a_reader() {
     let input = b"point(1 2.50)\r\n\xff\n\nPOINT(1 2) x\nPOINT EMPTY";
@@ -212,6 +240,7 @@ fn as_the_command_shows_it() {
         ("check-columns", "standard input", "<", 18),
         ("check-control", "standard input", "<", 18),
         ("check-control-others", "standard input", "<", 18),
+        ("check-unseen", "standard input", "<", 18),
         ("check-long", "standard input", "<", 18),
         ("check-places", "standard input", "<", 1),
         ("check-hints", "hints.wkt", "|", 18),
