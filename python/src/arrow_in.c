@@ -66,6 +66,8 @@ static int texts_type(const struct ArrowSchema *schema, Type *type) {
         schema = schema->children[1];
     }
     type->texts = schema;
+    if (!type->runs && strcmp(format_of(schema), "n") == 0)
+        return schema->n_children == 0 && schema->dictionary == NULL;
     if (schema != NULL && schema->dictionary != NULL) {
         type->texts = schema->dictionary;
         if ((type->index = size_of(schema, &type->is_signed)) == 0) return 0;

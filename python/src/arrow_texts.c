@@ -104,6 +104,21 @@ static PyObject *plain(State *state, const Type *type, const struct ArrowArray *
     return Py_BuildValue("NNNLO", data, offsets, bits, (long long)rows, Py_None);
 }
 
+/* A column of the type null: it has no buffers, and rows that are null. */
+static PyObject *nulls(State *state, int64_t rows, PyObject *owner) {
+    PyObject *offsets = PyBytes_FromStringAndSize(NULL, (Py_ssize_t)(8 * (rows + 1)));
+    PyObject *bits = PyBytes_FromStringAndSize(NULL, (Py_ssize_t)((rows + 7) / 8));
+    PyObject *data = offsets == NULL || bits == NULL ? NULL : lent(state, "", 0, owner);
+    if (data == NULL) {
+        Py_XDECREF(offsets);
+        Py_XDECREF(bits);
+        return NULL;
+    }
+    memset(PyBytes_AsString(offsets), 0, (size_t)(8 * (rows + 1)));
+    memset(PyBytes_AsString(bits), 0, (size_t)((rows + 7) / 8));
+    return Py_BuildValue("NNNLO", data, offsets, bits, (long long)rows, Py_None);
+}
+
 static int view_at(const struct ArrowArray *array, int64_t at, Cell *cell) {
     const char *view = (const char *)array->buffers[1] + 16 * at;
     int64_t count = array->n_buffers - 3, size;
@@ -296,6 +311,8 @@ PyObject *arrow_texts(PyObject *module, const Type *type, const struct ArrowArra
     if (type->nested && (column = arrow_column_in(array, &first)) == NULL) return NULL;
     if (rows < 0 || rows > INT64_MAX / 32) return arrow_wrong("its length or its offset");
     if (type->runs || type->index) return chosen(state_of(module), type, column, first, rows, owner);
+    if (type->texts->format[0] == 'n')
+        return arrow_has(column, 0, 1, 0, first, rows) ? nulls(state_of(module), rows, owner) : NULL;
     if (type->texts->format[0] != 'v') {
         if (!arrow_has(column, 3, 3, 0, first, rows)) return NULL;
         return plain(state_of(module), type, column, column->offset + first, rows, owner);

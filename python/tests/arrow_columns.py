@@ -217,7 +217,10 @@ _releases = {
 class ToldStream:
     """A stream of such columns, the first of which says the type."""
 
+    made = []  # Its functions are called for as long as somebody has the stream, and not this.
+
     def __init__(self, *nodes):
+        self.made.append(self)
         self.nodes, self.left, self.held = nodes, list(nodes), _Stream()
         two = ctypes.CFUNCTYPE(ctypes.c_int, *2 * [ctypes.c_void_p])
         self.functions = [two(self.get_schema), two(self.get_next), ctypes.CFUNCTYPE(None, ctypes.c_void_p)(self.end)]

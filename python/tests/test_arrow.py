@@ -6,7 +6,8 @@ import unittest.mock
 
 import wkt
 from arrow_columns import (
-    ANSWERS, FORMATS, HELD, NAMED, TEXTS, Arrow, Called, Lent, Streamed, arrow_peer, made, rows_in,
+    ANSWERS, FORMATS, HELD, NAMED, TEXTS, Arrow, Called, Lent, Node, Streamed, Told, ToldStream, arrow_peer, made,
+    rows_in,
 )  # fmt: skip
 
 if arrow_peer is not None:
@@ -45,6 +46,20 @@ class Taken(Arrow):
             wkt.canonical(Lent([None, b""], "u", spoil="no_bytes"), invalid="null").to_pylist(), [None, None]
         )
         self.assertEqual(wkt.canonical(Streamed([])).to_pylist(), [])
+
+    def test_null(self):
+        """A column of the type null, as others make of rows that are all null."""
+        for rows, offset in ((0, 0), (9, 0), (20, 3)):
+            for buffers in ((), (None,)):
+                column = Node("n", rows, buffers, offset=offset, nulls=rows)
+                table = Node("+s", rows, (None,), (column,))
+                for lent in (Told(column), Told(table), ToldStream(column, column._replace(length=2, nulls=2))):
+                    wanted = [None] * (rows + 2 * isinstance(lent, ToldStream))
+                    answers = wkt.canonical(lent)
+                    self.assertEqual((answers.to_pylist(), set(answers.statuses) - {28}), (wanted, set()))
+                self.assertEqual(wkt.reads(Told(column)).tolist(), [False] * rows)
+        with self.assertRaises(ValueError):
+            wkt.canonical(Told(Node("n", -1)))
 
     def test_streams(self):
         for format in FORMATS:
@@ -152,7 +167,7 @@ class Refused(Arrow):
                         wkt.canonical(Streamed([HELD], format, first, spoil), invalid="null")
 
     def test_types(self):
-        for format in ("l", "n", "e", "+l", "", "uu", "f:u", "u:u", "i:l", "ts:u"):
+        for format in ("l", "i:n", "e", "+l", "", "uu", "f:u", "u:u", "i:l", "ts:u"):
             with self.assertRaises(TypeError, msg=format):
                 wkt.canonical(Lent([], format))
         for spoil, format in (("no_format", "u"), ("two", "+su")):

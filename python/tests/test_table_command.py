@@ -116,6 +116,8 @@ USAGE = [
     "a.csv --column geom --all --join b.csv",
     "- - --column geom",
     "a.csv --column geom --rejects ./out.csv",
+    "b.csv a.csv --column geom --rejects ./a.csv",
+    "a.csv --column geom --join b.csv --rejects b.csv",
 ]
 
 
@@ -202,6 +204,16 @@ class Runs(Folder):
         for words in USAGE:
             with self.subTest(words):
                 self.assertEqual(self.run_of(words)[0], 2)
+        self.assertEqual([self.has("a.csv").decode(), self.has("b.csv").decode()], [A, B])
+        self.nothing_is_left()
+
+    def test_inputs_stay(self):
+        """What is refused, and standard output, don't go into a file that is read."""
+        shell = ["/bin/sh", "-c", '"$@" - --column geom --rejects a.csv < a.csv', "sh", *COMMAND]
+        self.assertEqual(subprocess.run(shell, check=False, stderr=subprocess.DEVNULL).returncode, 2)
+        shell[2] = '"$@" a.csv --column geom --all >> a.csv'
+        self.assertEqual(subprocess.run(shell, check=False, stderr=subprocess.DEVNULL).returncode, 2)
+        self.assertEqual(self.has("a.csv").decode(), A)
         self.nothing_is_left()
 
     def test_outputs(self):

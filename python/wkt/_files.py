@@ -94,6 +94,15 @@ class Source:
         raise Failure("%s: it has %s %s, but %s%s" % (self.name, has, printable(name), names, more))
 
 
+def on_disk(path: str, standard: int) -> object:
+    """What is one for all paths to a file on a disk, and for nothing else; `-` is a standard stream."""
+    try:
+        found = os.stat(standard if path == "-" else path)
+    except OSError:
+        return object()
+    return (found.st_dev, found.st_ino) if stat.S_ISREG(found.st_mode) else object()
+
+
 def lines_of(rows: Iterable[Row], delimiter: str) -> List[str]:
     """Rows as lines of a file, without their ends."""
     made: List[str] = []

@@ -9,7 +9,7 @@ from typing import Any, Dict, Iterator, List, NamedTuple, NoReturn, Optional, Se
 from ._calls import canonical_column
 from ._errors import printable
 from ._explain import why
-from ._files import PARTS, Failure, Output, Parts, Row, Source, lines_of
+from ._files import PARTS, Failure, Output, Parts, Row, Source, lines_of, on_disk
 from ._names import NULL
 from ._values import MOST_PLACES, dialects_of, places_of
 
@@ -230,6 +230,11 @@ def options(words: Sequence[str]) -> Any:
         parser.error("standard input is read once")
     if asked.rejects and os.path.realpath(asked.rejects) == os.path.realpath(asked.out):
         parser.error("--out and --rejects are two files")
+    read = [on_disk(path, 0) for path in (*asked.files, asked.join) if path]
+    if asked.rejects and on_disk(asked.rejects, 1) in read:
+        parser.error("--rejects is a file that is read: its rows would be lost")
+    if asked.out == "-" and on_disk("-", 1) in read:
+        parser.error("standard output is a file that is read")  # as by >>, which --all would follow for ever
     return asked
 
 
