@@ -4,6 +4,7 @@
 # MODULE is wkt.wasm. The bytes depend on the files alone: their time is SECONDS since 1970, or the last commit's. `npm pack`
 # isn't used, since the module and the licences stand in other folders.
 set -eu
+unset CDPATH # with which `cd` says where it went
 here=$(cd "$(dirname "$0")" && pwd)
 top=$(dirname "$here")
 module=$1 out=$(cd "$2" && pwd)
@@ -12,7 +13,7 @@ version=$(sed -n 's/^  "version": "\(.*\)",$/\1/p' "$here/package.json")
 work=$(mktemp -d)
 trap 'rm -rf "$work"' EXIT
 mkdir "$work/package"
-cp -r "$here"/{package.json,README.md,src} "$top"/LICENSE-{APACHE,MIT} "$work/package"
+cp -r "$here"/{package.json,README.md,inline.d.ts,src} "$top"/LICENSE-{APACHE,MIT} "$work/package"
 cp "$top/dist/NOTICE" "$work/package"
 # Of what the module was made, where that is beside it, as in dist/wasm.
 [ ! -e "$(dirname "$module")/PROVENANCE" ] || cp "$(dirname "$module")/PROVENANCE" "$work/package"

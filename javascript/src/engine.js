@@ -51,9 +51,12 @@ export class LoneSurrogate extends Error {
   }
 }
 
+/** Whether a value is a Uint8Array: also that of another realm, as of a frame or of the sandbox of a test. */
+const isBytes = (value) => value instanceof Uint8Array || (ArrayBuffer.isView(value) && value[Symbol.toStringTag] === 'Uint8Array');
+
 /** Bytes, if that is what they are. Those of a detached buffer have the length 0, and would be taken for no text. */
 export function present(bytes, what) {
-  if (!(bytes instanceof Uint8Array)) throw new TypeError(what);
+  if (!isBytes(bytes)) throw new TypeError(what);
   try {
     if (bytes.length === 0) bytes.indexOf(0);
   } catch {

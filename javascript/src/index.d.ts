@@ -1,3 +1,14 @@
+// Of what the host has, these are named. Where its types aren't loaded, as in Node without the library `dom`, each is empty, and
+// else what it is there.
+declare global {
+  interface Response {}
+  interface TransformStream<I, O> {}
+  interface URL {}
+  namespace WebAssembly {
+    interface Module {}
+  }
+}
+
 // names.py: types (tests/gate/names.py --write makes this of docs/names.tsv)
 /** A kind that has flat arrays. */
 export type FlatKind = "Point" | "LineString" | "Polygon" | "MultiPoint" | "MultiLineString" | "MultiPolygon";
@@ -45,6 +56,10 @@ export declare const STATUS: {
 export declare const KINDS: readonly Kind[];
 /** The dimensions, at their numbers. */
 export declare const DIMENSIONS: readonly Dimension[];
+
+// What a call returns is in an ArrayBuffer, as what `slice` returns: TypeScript 5.7 and later tell it from shared memory.
+type Bytes = ReturnType<Uint8Array['slice']>;
+type Offsets = ReturnType<Uint32Array['slice']>;
 
 /** A text: a string, or bytes of UTF-8. */
 export type Text = string | Uint8Array;
@@ -134,14 +149,14 @@ export interface GivenArrays {
 }
 export interface Arrays extends GivenArrays {
   readonly dimension: Dimension;
-  readonly numbers: BigInt64Array;
-  readonly rings: Uint32Array;
-  readonly polygons: Uint32Array;
+  readonly numbers: ReturnType<BigInt64Array['slice']>;
+  readonly rings: Offsets;
+  readonly polygons: Offsets;
   readonly places: number;
   /** Where the geometry ends in its text. */
   readonly end: number;
   /** The numbers as doubles, each the nearest. */
-  get coordinates(): Float64Array;
+  get coordinates(): ReturnType<Float64Array['slice']>;
 }
 
 /** Where a geometry begins, among the events of one. */
@@ -179,7 +194,7 @@ export interface Wkt {
   /** The one text of the geometry that a text names. @throws {WktError} the text is refused */
   canonical(text: Text, asked?: Asked): string;
   /** The same as bytes of ASCII, which are the caller's; with `feed`, a line feed stands behind it. */
-  canonicalBytes(text: Text, asked?: Asked & { feed?: boolean }): Uint8Array;
+  canonicalBytes(text: Text, asked?: Asked & { feed?: boolean }): Bytes;
   /** The canonical text of the geometry that a text begins with, and where that ends in the text. Anything may follow. */
   front(text: Text, asked?: Places & Dialects): { canonical: string; end: number };
   /** Whether a text is read: whether `canonical` answers it. */
@@ -205,12 +220,12 @@ export interface Wkt {
   /** The SRID in front of a text, as the dialect `srid` leaves it out; null where none stands there. The rest isn't read. */
   srid(text: Text): number | null;
   /** The canonical texts of many texts, with the status of each: no row throws. A row of null is null. */
-  columns(texts: Iterable<Text | null | undefined>, asked?: Asked): { texts: (string | null)[]; statuses: Uint8Array };
+  columns(texts: Iterable<Text | null | undefined>, asked?: Asked): { texts: (string | null)[]; statuses: Bytes };
   /** For each line the canonical text of the geometry that it begins with, or `refused`, and a line feed. */
   lines(input: string, asked?: Places): string;
-  lines(input: Uint8Array, asked?: Places): Uint8Array;
+  lines(input: Uint8Array, asked?: Places): Bytes;
   /** The same of a stream of bytes: it holds a chunk and the longest line. */
-  lineStream(asked?: Places): TransformStream<Uint8Array, Uint8Array>;
+  lineStream(asked?: Places): TransformStream<Uint8Array, Bytes>;
   /** GeoJSON as text. Each number stands in it as in the canonical text. @throws {GeoJSONError} it has no form */
   toGeoJSON(text: Text, asked?: GeoJSONOptions): string;
   /** GeoJSON as an object, whose numbers are the nearest doubles. */
@@ -226,7 +241,7 @@ export interface Wkt {
   release(): void;
 }
 
-type Source = WebAssembly.Module | BufferSource | Response | URL | string;
+type Source = WebAssembly.Module | ArrayBuffer | ArrayBufferView | Response | URL | string;
 /**
  * Loads the module. Without a source it is the package's wkt.wasm: read from its file in Node, fetched and compiled as it
  * comes in a browser; it is compiled once. A string is an address, or in Node a path. Each call gives an instance with a

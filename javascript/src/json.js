@@ -108,7 +108,7 @@ export function parseExact(text) {
     let value;
     if (mark === '[' || mark === '{') {
       reader.at++;
-      const open = mark === '[' ? { list: [], end: ']' } : { object: {}, end: '}' };
+      const open = mark === '[' ? { list: [], object: null, end: ']' } : { list: null, object: {}, end: '}' };
       value = open.list ?? open.object;
       if (reader.peek() !== open.end) {
         if (open.object) readKey(reader, open);

@@ -24,11 +24,14 @@ export async function unpacked(packed) {
   return WebAssembly.compile(await new Response(stream).arrayBuffer());
 }
 
+/** Whether a value is of such a class of the host: also that of another realm. */
+const isA = (value, name) => Object.prototype.toString.call(value) === `[object ${name}]`;
+
 async function compiled(source, read) {
-  if (source instanceof WebAssembly.Module) return source;
-  if (source instanceof ArrayBuffer || ArrayBuffer.isView(source)) return WebAssembly.compile(source);
-  if (typeof Response === 'function' && source instanceof Response) return compiledResponse(source);
-  if (typeof source !== 'string' && !(source instanceof URL)) throw new TypeError('a module is one, its bytes, its address or a Response');
+  if (isA(source, 'WebAssembly.Module')) return source;
+  if (isA(source, 'ArrayBuffer') || ArrayBuffer.isView(source)) return WebAssembly.compile(source);
+  if (isA(source, 'Response')) return compiledResponse(source);
+  if (typeof source !== 'string' && !isA(source, 'URL')) throw new TypeError('a module is one, its bytes, its address or a Response');
   return read(source);
 }
 

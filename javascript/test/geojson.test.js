@@ -157,6 +157,16 @@ const asDoubles = (value) => value instanceof NumberText ? Number(value.text)
   : Array.isArray(value) ? value.map(asDoubles)
     : value !== null && typeof value === 'object' ? Object.fromEntries(Object.entries(value).map(([key, item]) => [key, asDoubles(item)])) : value;
 
+test('a prototype that others have changed', () => {
+  Object.assign(Object.prototype, { list: [], object: {} });
+  try {
+    assert.equal(wkt.fromGeoJSON('{"type":"LineString","coordinates":[[1,2],[3,4]]}'), 'LINESTRING(1 2,3 4)');
+  } finally {
+    delete Object.prototype.list;
+    delete Object.prototype.object;
+  }
+});
+
 test('JSON is what JSON.parse takes, and means the same', () => {
   for (const text of JSONS) {
     let wanted;

@@ -7,8 +7,9 @@ import { cpSync, mkdirSync, mkdtempSync, readdirSync, rmSync, writeFileSync } fr
 import { tmpdir } from 'node:os';
 import { join, relative } from 'node:path';
 import { pathToFileURL } from 'node:url';
+import { runInNewContext } from 'node:vm';
 import { load } from '../src/node.js';
-import { bytes, moduleBytes } from './support.js';
+import { bytes, moduleBytes, texts } from './support.js';
 
 const works = (wkt) => assert.equal(wkt.canonical('point( 1 2.0 )'), 'POINT(1 2)');
 
@@ -19,6 +20,18 @@ test('bytes, a module, and a promise of one', async () => {
   const module = await WebAssembly.compile(data);
   works(await load(module));
   works(await load(Promise.resolve(module)));
+});
+
+test('bytes and a module of another realm, as of a frame or of the sandbox of a test', async () => {
+  const [Bytes, compile] = runInNewContext('[Uint8Array, WebAssembly.compile]');
+  const data = Bytes.from(moduleBytes());
+  assert.ok(!(data instanceof Uint8Array) && !(data.buffer instanceof ArrayBuffer));
+  const wkt = await load(data.buffer);
+  works(await load(await compile(data)));
+  const text = Bytes.from(bytes('point( 1 2.0 )\n'));
+  assert.equal(wkt.canonical(text), 'POINT(1 2)');
+  assert.equal(texts(wkt.lines(text)), 'POINT(1 2)\n');
+  assert.throws(() => wkt.canonical(new DataView(data.buffer)), TypeError);
 });
 
 test('a file', async () => {

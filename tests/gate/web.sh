@@ -56,13 +56,17 @@ cp javascript/test/by_name.* "$app"
 for file in "$app"/by_name.*; do
     [ "$(cd "$app" && node "$file")" = "POINT(1 2.5) POINT(1 2.5)" ] || fail "the package by its name: $file"
 done
-cp javascript/test/types.ts "$app"
+cp javascript/test/{{types,bare,shared}.ts,required.cts} "$app"
 echo "web: $(basename "$package"): $(stat -c %s "$package") bytes, imported and required by its name"
 # types WORD..: the compiler of TypeScript finds the package so, and reports nothing
-types() { (cd "$app" && tsc --strict --noEmit --target es2022 --lib es2022,dom,dom.iterable "$@" types.ts) || fail "types: $*"; }
+types() { (cd "$app" && tsc --strict --noEmit --target es2022 "$@") || fail "types: $*"; }
 if ! skips types; then
-    types --module node16 --moduleResolution node16
-    types --module es2022 --moduleResolution node
+    for found in '--module node16 --moduleResolution node16' '--module es2022 --moduleResolution node'; do
+        # shellcheck disable=SC2086 # words
+        types $found --lib es2022,dom,dom.iterable types.ts && types $found --lib es2022 bare.ts
+    done
+    types --module node16 --moduleResolution node16 --lib es2022 required.cts
+    types --module es2022 --moduleResolution node --noLib shared.ts
     echo "web: types: tsc $(tsc --version | tr -dc 0-9.) --strict reports nothing"
 fi
 

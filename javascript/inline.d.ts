@@ -1,0 +1,2 @@
+// For resolvers that don't read `exports`.
+export * from './src/index.js';
