@@ -83,10 +83,13 @@ export function asRfc7946(text, asked) {
 /** A canonical text as the geometry of a feature: RFC 7946 has no m, which is refused or left out, and never becomes z. */
 export const geometryOf = (text, { m = 'refuse', ...asked }) => geoJSONOf(asRfc7946(text, asked), m);
 
-/** A cell of a CSV. A spreadsheet would take one that begins so for a formula: it gets an apostrophe. */
+/** What a spreadsheet takes for the beginning of a formula, also in full width; and behind a semicolon, which many read as the end of a cell. */
+const FORMULA = /(^|;)(?=[=+\-@\uff1d\uff0b\uff0d\uff20])/g;
+
+/** A cell of a CSV. What would be a formula gets an apostrophe. */
 export function cell(value) {
   const text = printable(String(value));
-  const safe = typeof value === 'string' && /^[=+\-@]/.test(text) ? `'${text}` : text;
+  const safe = typeof value === 'string' ? text.replace(FORMULA, "$1'") : text;
   return /[",]/.test(safe) ? `"${safe.replaceAll('"', '""')}"` : safe;
 }
 

@@ -10,7 +10,7 @@ import { leftWords, offerOf } from './offer.js';
 import { fit, showPoints } from './picture.js';
 import { splitOfFront } from './split.js';
 import { show, started, state } from './state.js';
-import { TURNED } from './takein.js';
+import { TURNED, notReadWords } from './takein.js';
 import { repeatsInWords, say, speak } from './verdict.js';
 
 /** So much of a file is looked at to see whether it is one geometry, and so much to see whether its lines are long. */
@@ -130,7 +130,7 @@ export async function readFile(given, more = 0, form = null) {
     worker.onmessage = ({ data }) => current() && (data.failed ? fail(data.failed) : take(data));
     for (const it of [worker, ...helpers]) it.onerror = (event) => current() && fail(event.message || 'The worker stopped.');
   } catch (error) {
-    if (current()) fail(error.message);
+    if (current()) fail(notReadWords(error));
   }
 }
 

@@ -32,19 +32,22 @@ function isText(cell) {
 /** Whether a delimiter cuts a text: then it is none. */
 const isCut = (cell) => isKind(firstWord(withoutSrid(cell))) && openIn(cell) > 0;
 
-/** Records of a CSV (RFC 4180), each with its cells and its line. A quote inside of a cell is doubled. */
+/** Records of a CSV (RFC 4180), each with its cells, its line, and whether a quote isn't closed. A quote inside of a cell is doubled. */
 export function* records(text, delimiter) {
   let [at, line] = [0, 1];
   while (at < text.length) {
     const cells = [];
     const first = line;
+    let open = false;
     for (;;) {
       let cell = '';
       if (text[at] === '"') {
+        open = true;
         for (at++; at < text.length; at++) {
           const end = text.indexOf('"', at);
           cell += text.slice(at, end < 0 ? text.length : end);
           at = end < 0 ? text.length : end + 1;
+          open = end < 0 || text[at] === '"';
           if (text[at] !== '"') break;
           cell += '"';
         }
@@ -60,7 +63,7 @@ export function* records(text, delimiter) {
     at++;
     const last = cells[cells.length - 1];
     if (last.endsWith('\r')) cells[cells.length - 1] = last.slice(0, -1);
-    yield { cells, line: first };
+    yield { cells, line: first, open };
   }
 }
 
@@ -102,7 +105,7 @@ function isQuoted(text, cut) {
   return filled.length > 0 && filled.every((line) => isKind(firstWord(unquoted(line) ?? '')));
 }
 
-const isGeoJSON = (text) => /^\s*[[{]/.test(text) && /"(type|coordinates|geometry)"\s*:/.test(text);
+const isGeoJSON = (text) => /^[\s\x1e]*[[{]/.test(text) && /"(type|coordinates|geometry)"\s*:/.test(text);
 
 /**
  * What a text is that isn't well-known text as it stands, by its front: forms, each with what `turned` needs. `cut`: the
@@ -128,14 +131,14 @@ function* geometriesOf(value) {
   for (const it of features) yield it !== null && typeof it === 'object' && it.type === 'Feature' ? it.geometry : it;
 }
 
-/** A text of GeoJSON, or lines each of which is one. */
+/** A text of GeoJSON, or lines each of which is one; RFC 8142 has a record separator before each. */
 function values(text) {
   try {
     return [parseExact(text)];
   } catch (error) {
     const lines = text.split('\n').map((line) => line.replace('\u001e', '').trim()).filter(Boolean);
     try {
-      if (lines.length > 1) return lines.map(parseExact);
+      if (lines.length > 1 || text.includes('\u001e')) return lines.map(parseExact);
     } catch {
       // It is no GeoJSON by lines either: what is wrong with the whole is said.
     }
@@ -167,9 +170,11 @@ function ofGeoJSON(text, wkt, places) {
 function ofCsv(text, { delimiter, column, header }) {
   const out = { texts: [], lines: [], left: [] };
   let first = header;
-  for (const { cells, line } of records(text, delimiter)) {
+  for (const { cells, line, open } of records(text, delimiter)) {
     const cell = cells[column] ?? '';
-    if (!first && cell.trim() !== '') {
+    if (open) {
+      out.left.push(`line ${line}: a quote that is opened in this row isn’t closed`);
+    } else if (!first && cell.trim() !== '') {
       out.texts.push(cell);
       out.lines.push(line);
     } else if (!first && cells.some((it) => it.trim() !== '')) {
@@ -189,6 +194,10 @@ function ofPieces(text) {
   const pieces = piecesOf(text, 'auto');
   return { texts: pieces.map((piece) => piece.text), lines: pieces.map(({ line }) => line), left: [] };
 }
+
+/** Words for an error by which something isn't read. */
+export const notReadWords = (error) => (['NotReadableError', 'NotFoundError'].includes(error?.name)
+  ? 'The browser can’t read it. Was it changed or removed, or is it a folder?' : String(error?.message ?? error));
 
 /** The texts that such a text has, one on each line, the lines that they had, and words about what was left out. */
 export function turned(text, form, wkt, places) {

@@ -6,7 +6,7 @@ import { Desk } from './desk.js';
 import { formed } from './features.js';
 import { Painter } from './painter.js';
 import { Reading, Unreadable, answered } from './reading.js';
-import { turned } from './takein.js';
+import { notReadWords, turned } from './takein.js';
 
 /** How much text is made before it becomes a part of what is saved. */
 const PART = 1 << 20;
@@ -14,9 +14,7 @@ const PART = 1 << 20;
 const post = (message, moved = []) => postMessage(message, moved);
 
 function wordsOf(error) {
-  if (error instanceof Unreadable) return error.message;
-  if (error?.name === 'NotReadableError' || error?.name === 'NotFoundError') return 'The browser can’t read it. Was it changed or removed?';
-  return String(error?.message ?? error);
+  return error instanceof Unreadable ? error.message : notReadWords(error);
 }
 
 async function desk({ module, canvas }) {

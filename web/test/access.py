@@ -55,6 +55,17 @@ class Access(Page):
             for (name, least), ratio in zip(wanted.items(), found):
                 self.assertGreaterEqual(ratio, least, f"{theme} {name}")
 
+    def test_forced_colors(self):
+        """What is chosen is seen where the system sets the colours."""
+        features = {"features": [{"name": "forced-colors", "value": "active"}]}
+        self.driver.execute_cdp_cmd("Emulation.setEmulatedMedia", features)
+        self.open()
+        self.paste("POINT(1 2)\nPOINT(1\nPOINT(x\nPOINT(1")
+        for chosen in ("#filters [aria-pressed=true]", "#split :checked + span", "#rows [aria-selected=true]"):
+            style = self.script("return getComputedStyle(document.querySelector(arguments[0])).outlineStyle", chosen)
+            self.assertEqual("solid", style, chosen)
+        self.driver.execute_cdp_cmd("Emulation.setEmulatedMedia", {"features": []})
+
     def test_focus_is_seen(self):
         """Tab comes to every control in its order, and each shows that it has the focus."""
         for state in self.states():

@@ -74,6 +74,18 @@ class Files(Page):
                 self.wait(lambda: words in self.said("verdict"))
         self.assertIn("byte 7 of the line is not UTF-8", self.said("file-out"))
 
+    def test_not_there(self):
+        """A folder, and a file that is removed before it is read once more."""
+        self.open()
+        self.drop(self.folder.name)
+        self.wait(lambda: "or is it a folder?" in self.said("verdict"))
+        path = self.file("POINT(1 2)\n" * 50000)
+        self.drop(path)
+        self.wait(lambda: "accepted" in self.said("say"))
+        os.unlink(path)
+        self.script("document.querySelector('[value=lines]').click()")
+        self.wait(lambda: "Was it changed or removed" in self.said("verdict"))
+
     def test_file(self):
         """A file of many lines: refusals, repeats, counts, bounds, and the lines that are saved."""
         self.open()
@@ -251,16 +263,17 @@ class Files(Page):
         """
 
         def stops(parts, behind_lines, said):
-            # On a busy machine the worker may be done before the page hears how far it is.
-            for _ in range(5):
+            # On a busy machine the worker may be done before the page hears how far it is: then the file is longer.
+            for times in (1, 1, 2, 4):
                 self.open()
-                self.script(stop, parts, behind_lines)
+                self.script(stop, [[text, n if n == 1 else n * times] for text, n in parts], behind_lines)
                 self.wait(lambda: re.search("accepted|answered", self.said("say")))
                 if re.match(said, self.said("say")):
                     return
             self.fail(f"not stopped: {self.said('say')}")
 
         # It is stopped when the first part is answered, and when the first part of a line is read.
-        stops([["POINT(1 2)\n", 4000000]], False, "Stopped: All (?!4,000,000)[0-9,]+ lines accepted")
+        all_lines = "(?!4,000,000|8,000,000|16,000,000)[0-9,]+ lines"
+        stops([["POINT(1 2)\n", 4000000]], False, f"Stopped: All {all_lines} accepted")
         stops([["LINESTRING(", 1], ["1 2,", 20000000], ["1 2)\n", 1]], True, "Stopped")
         self.assertEqual("h-file", self.script("return document.activeElement.id"))

@@ -63,10 +63,9 @@ ERRORS = {
     "element not interactable": exceptions.ElementNotInteractableException,
 }
 DROP = """
-const [name, text] = arguments;
-const bytes = Uint8Array.from(atob(text), (c) => c.charCodeAt(0));
+const fileOf = ([name, text]) => new File([Uint8Array.from(atob(text), (c) => c.charCodeAt(0))], name);
 const event = new Event('drop', { cancelable: true });
-event.dataTransfer = { files: [new File([bytes], name)], types: ['Files'] };
+event.dataTransfer = { files: arguments[0].map(fileOf), types: ['Files'] };
 dispatchEvent(event);
 """
 
@@ -145,10 +144,13 @@ class InFirefox:
         self.skipTest(f"Firefox has no figures of {', '.join(names)}")
 
     def drop(self, *paths):
-        for path in paths[:1]:
+        files = []
+        for path in paths:
+            if os.path.isdir(path):
+                self.skipTest("Firefox is given files, and no folder")
             with open(path, "rb") as file:
-                text = base64.b64encode(file.read()).decode()
-            self.script(DROP, os.path.basename(path), text)
+                files.append([os.path.basename(path), base64.b64encode(file.read()).decode()])
+        self.script(DROP, files)
 
 
 if __name__ == "__main__":

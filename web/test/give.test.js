@@ -27,6 +27,8 @@ const FORMS = [
   ['{"type":"FeatureCollection","features":[{"type":"Feature","geometry":{"type":"Point","coordinates":[1,2,3]}},{"type":"Feature","geometry":null}]}',
     ['geojson'], [['POINT Z(1 2 3)']]],
   ['{"type":"Point","coordinates":[1,2]}\n{"type":"Point","coordinates":[3,4]}\n', ['geojson'], [['POINT(1 2)', 'POINT(3 4)']]],
+  ['\x1e{"type":"Point","coordinates":[1,2]}\n', ['geojson'], [['POINT(1 2)']]],
+  ['\x1e{"type":"Point","coordinates":[1,2]}\n\x1e{"type":"Point","coordinates":[3,4]}\n', ['geojson'], [['POINT(1 2)', 'POINT(3 4)']]],
   ...['POINT(1 2)', 'LINESTRING(0 0,1 1)\nLINESTRING(2 2,3 3)', 'SRID=4326;POINT(1 2)\nSRID=4326;POINT(3 4)', 'POINT(1,2)', '', 'a,b\n1,2', '"POINT(1 2)', '[1,2]',
     'MULTIPOINT((1 2),(3 4))', 'LINESTRING(0 0,1 1)\nPOINT(1)\nPOINT(2)', 'POINT(1)\nPOINT(2)\nLINESTRING(0 0,1 1)\n'].map((text) => [text, [], []]),
 ];
@@ -41,6 +43,9 @@ test('texts in other clothes', () => {
 test('what has no text is left out, and said', () => {
   const left = (text) => turned(text, formsOf(text, false)[0], wkt, 18).left;
   assert.deepEqual(left('id,geom\n1,POINT(1 2)\n2,\n'), ['line 3: the cell is empty']);
+  // Else the rows behind the quote would be a part of a cell that nobody looks at.
+  assert.deepEqual(left('geom,name\nPOINT(1 2),a\nPOINT(3 4),"b\nPOINT(5 6),c\n'), ['line 3: a quote that is opened in this row isn’t closed']);
+  for (const end of ['"', '"b', '"b""', '""']) assert.equal(left(`geom,name\nPOINT(1 2),a\nPOINT(3 4),${end}`).length, end === '""' ? 0 : 1, end);
   assert.match(left('[{"type":"Point","coordinates":[1,2]},{"type":"Feature","geometry":null},{"type":"Point","coordinates":[1,2,3,4]}]').join('; '),
     /^feature 2: it has no geometry; feature 3: a position has two numbers, or three, and not 4$/);
   assert.throws(() => turned('{"type":"Point","coordinates":[1,2]', { form: 'geojson' }, wkt, 18), SyntaxError);
@@ -119,6 +124,8 @@ test('a table of refusals', () => {
   assert.deepEqual([...records(tableOf([why]), ',')].map(({ cells }) => cells),
     [['line', 'place', 'expected', 'cause', 'hint', 'message', 'text'], ['3', '7', expected, 'expected_point', '', 'Format', '\'=POINT("a")']]);
   assert.deepEqual(['\u202e', '-1', 'a\nb'].map(cell), ['\\u{202e}', "'-1", 'a\\x0ab']);
+  // Many spreadsheets divide a line at semicolons, wherever quotes stand.
+  assert.deepEqual(['POINT(1;=1+1;@a; -2', '\uff1d1', -1].map(cell), ["POINT(1;'=1+1;'@a; -2", "'\uff1d1", '-1']);
 });
 
 test('a line that is not UTF-8 is refused at the first byte of what is no character', () => {
