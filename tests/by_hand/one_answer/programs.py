@@ -24,19 +24,19 @@ def places(numbered, said):
     faces.say_all("check.lines", numbered, (found.get(i + 1, "-") for i in range(len(numbered))))
 
 
-def in_dialects():
-    """`wkt canon` of texts in dialects, where it takes them."""
+def canonical():
+    """`wkt canon` of each text, also of those in dialects."""
     found = collections.defaultdict(list)
     for n, row in enumerate(faces.read()):
-        if row.dialects and b"\0" not in row.text:
+        if b"\0" not in row.text:
             found[row.places, row.whole, row.dialects].append((n, row))
     for (most, whole, dialects), numbered in sorted(found.items()):
-        asked = ["-q", "--refused", "null", "-p", str(most), "--dialect", dialects] + ([] if whole else ["-f"])
-        faces.say_all("null.canon_dialect", numbered, run(faces.lines_of(numbered), "wkt", "canon", *asked))
+        asked = ["-q", "--refused", "null", "-p", str(most)]
+        asked += (["--dialect", dialects] if dialects else []) + ([] if whole else ["-f"])
+        faces.say_all("null.canon", numbered, run(faces.lines_of(numbered), "wkt", "canon", *asked))
 
 
-if "--dialect" in "\n".join(run(b"", "wkt", "help")):
-    in_dialects()
+canonical()
 for (most, whole), numbered in faces.groups():
     lines, asked = faces.lines_of(numbered), ["-p", str(most)] + ([] if whole else ["-f"])
     fronts = ["-f", "-p", str(most), "--refused", "refused"]
