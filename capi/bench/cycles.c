@@ -1,7 +1,8 @@
 /* The processor's cycles that wkt_lines_some takes for the lines of standard input, which are in memory: gcc -O2 -I../out
  * cycles.c ../out/libwkt.a. Each block of 128 KiB is answered 40 times, and the least counts: what else the machine does
- * makes no turn shorter. A cycle is what an addition takes that waits for the one before. The ticks of rdtsc have another
- * length, so additions are timed before each block. x86-64 alone. */
+ * makes no turn shorter. A cycle is what an addition takes that waits for the one before; not of a constant, which newer
+ * processors add several at a time. The ticks of rdtsc have another length, so additions are timed before each block. x86-64
+ * alone. */
 #include "wkt.h"
 #include <stdio.h>
 #include <stdlib.h>
@@ -18,8 +19,8 @@ static uint64_t additions(void) {
     for (int turn = 0; turn < TURNS; turn++) {
         uint64_t begun = __rdtsc();
         for (int i = 0; i < ADDITIONS / 10; i++)
-            __asm__ volatile("add $1, %0\n add $1, %0\n add $1, %0\n add $1, %0\n add $1, %0\n"
-                             "add $1, %0\n add $1, %0\n add $1, %0\n add $1, %0\n add $1, %0"
+            __asm__ volatile("add %0, %0\n add %0, %0\n add %0, %0\n add %0, %0\n add %0, %0\n"
+                             "add %0, %0\n add %0, %0\n add %0, %0\n add %0, %0\n add %0, %0"
                              : "+r"(sum));
         best = least(best, __rdtsc() - begun);
     }
