@@ -1,6 +1,6 @@
 #!/bin/sh
 # Makes libwkt.a, libwkt.so.0 with the link libwkt.so, wkt.pc and wkt.h of the proved library, and FROM, which says which that was.
-# build.sh [FOLDER]: into that folder, else into capi/out. What stands there as it should is left as it is.
+# build.sh [FOLDER]: into that folder, else into capi/out. What is there as it should be is left.
 # The proved library is the archive WKT_C_LIB; else crates/wkt_c/out/libwkt_c.a, which `rt lib` in crates/wkt_c leaves once it
 # is proved; else, or with WKT_C_LIB=dist, the object in dist/. CC may be a compiler for another processor: then it is dist's.
 # Where dist/ has no object for the system, and with WKT_C_LIB=portable, it is compiled of the portable C in dist/c.

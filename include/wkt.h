@@ -242,8 +242,8 @@ wkt_status wkt_same_ends(const uint8_t *one, size_t one_len, const uint8_t *othe
                          uint32_t *same, size_t *end, size_t *other_end);
 
 /* Where a text is refused. WKT_OK: the bytes from *start to before *stop are the first word, number, parenthesis or comma
- * that can't stand there; *start is *stop where the text ends too early. *message: the number of the message, 1 to 14;
- * *expected: what could stand there, in WKT_EXPECTED. WKT_ACCEPTED: the text begins with a geometry. With WKT_WHOLE,
+ * that is refused; *start is *stop where the text ends too early. *message: the number of the message, 1 to 14;
+ * *expected: what could come next, in WKT_EXPECTED. WKT_ACCEPTED: the text begins with a geometry. With WKT_WHOLE,
  * WKT_NOT_WHOLE: more than white space follows the geometry; *start is the first byte of it that is no white space, and
  * *stop is text_len; *message and *expected are as they were. 20, 23. It takes no memory without dialects, and with them 22
  * may come: *message and *expected are then of the text that the text is read as, *start and *stop of the text itself. */
@@ -256,7 +256,7 @@ wkt_status wkt_explain(const uint8_t *text, size_t text_len, uint32_t places, ui
 wkt_status wkt_hint(const uint8_t *text, size_t text_len, uint32_t places, uint32_t *hint);
 
 /* The SRID in front of a text, as WKT_SRID leaves it out: *srid is its number, and *end where what stands behind the `;`
- * begins; both are 0 where none stands there. What stands behind it may be anything. WKT_OK. It takes no memory. */
+ * begins; both are 0 where it has none. What stands behind it may be anything. WKT_OK. It takes no memory. */
 wkt_status wkt_srid(const uint8_t *text, size_t text_len, uint32_t *srid, size_t *end);
 
 /* The kind and the dimension that the header of the text names; the rest is not read. 3: there is neither a parenthesis nor

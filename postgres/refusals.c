@@ -14,7 +14,7 @@
 #define ereturn(context, dummy, rest) ereport(ERROR, rest)
 #endif
 
-/* Why a whole text is refused: at which byte, and what could stand there, which is NULL where no place is known; one stable
+/* Why a whole text is refused: at which byte, and what could come next, which is NULL where no place is known; one stable
  * word; what may be done, which is NULL where that isn't known; the place and what was expected as a sentence. What is read before the place is ASCII, and
  * so each of its characters a byte. */
 typedef struct Refusal {
@@ -91,7 +91,7 @@ static uint32 number_of(const char *at, int size) {
     return 0xFFFD;
 }
 
-/* Appends characters as they are shown. What isn't printable stands there by its number, as \x1b or \u{202e}: raw it could move
+/* Appends characters as they are shown. What isn't printable is shown by its number, as \x1b or \u{202e}: raw it could move
  * a cursor, or look like another line of the message. */
 static void append_shown(StringInfo said, const char *given, const char *end) {
     for (int size; given < end; given += size) {

@@ -42,7 +42,7 @@ COMMENT ON FUNCTION @extschema@.wkt_explain(pg_catalog.text, pg_catalog.int4, pg
     IS 'where and why a text in a dialect is refused; null where it is read';
 CREATE FUNCTION @extschema@.wkt_srid(pg_catalog.text) RETURNS pg_catalog.int4
     AS 'MODULE_PATHNAME', 'pg_wkt_srid' LANGUAGE C IMMUTABLE STRICT PARALLEL SAFE;
-COMMENT ON FUNCTION @extschema@.wkt_srid(pg_catalog.text) IS 'the number of SRID=..; in front of a text; null where none stands there';
+COMMENT ON FUNCTION @extschema@.wkt_srid(pg_catalog.text) IS 'the number of SRID=..; in front of a text; null where it has none';
 CREATE FUNCTION @extschema@.wkt_kind(pg_catalog.text) RETURNS pg_catalog.text
     AS 'MODULE_PATHNAME', 'pg_wkt_kind' LANGUAGE C IMMUTABLE STRICT PARALLEL SAFE;
 COMMENT ON FUNCTION @extschema@.wkt_kind(pg_catalog.text) IS 'the kind and dimension that the header of a text names';

@@ -28,7 +28,7 @@ asked > said
 [ -z "${RESULTS:-}" ] || cp said "$RESULTS"
 diff "$here/expected" said || { echo "sqlite3: other answers"; exit 1; }
 echo "sqlite3: $(grep -c ';$' test.sql) statements as expected"
-# What README.md shows, as it stands there.
+# What README.md shows, word for word.
 sed -n '/^```sql$/,/^```$/p' "$here/README.md" | grep -v '^```' > page.sql
 [ "$(grep -c ';$' page.sql)" -gt 2 ]
 sqlite3 -bail -cmd '.load ./mod_wkt' :memory: < page.sql || { echo "README.md: its statements fail"; exit 1; }

@@ -102,7 +102,7 @@ wkt_status canonical_of(sqlite3_value *value, uint32_t places, Question *asked, 
     return out ? canonical_in(asked, out, *length, length) : WKT_OK;
 }
 
-/* Why a whole text is refused: at which byte, and what could stand there, which is NULL where no place is known; one stable
+/* Why a whole text is refused: at which byte, and what could come next, which is NULL where no place is known; one stable
  * word, of which the front is apart; why there is no place. What is read before the place is ASCII, and so each of its
  * characters a byte. */
 typedef struct Refusal {
@@ -404,7 +404,7 @@ static void message(sqlite3_context *context, int count, sqlite3_value **values)
     if (is_explained(context, count, values, &asked, &refusal)) put_said(context, message_of(&refusal));
 }
 
-/* Appends characters of a text as they are shown. What isn't printable stands there by its number, as \x1b or \u{202e}: raw it
+/* Appends characters of a text as they are shown. What isn't printable is shown by its number, as \x1b or \u{202e}: raw it
  * could move a cursor. */
 static void append_shown(sqlite3_str *said, const uint8_t *text, size_t from, size_t to) {
     for (size_t next; from < to; from = next) {

@@ -102,7 +102,7 @@ const copyOf = (slice) => ` ${slice}`.slice(1);
 const newRow = ({ text, offset, line }) => ({ id: ++ids, text: copyOf(text), offset, line, spread: text.includes('\n'), answered: false,
   accepted: false, canonical: '', facts: null, number: -1, repeats: null, words: '', status: 0, place: null, cause: '' });
 
-/** Answers a text. Pieces that stood there before the last change keep their answers. `more` makes what the worker is told beside it. */
+/** Answers a text. Pieces that were there before the last change keep their answers. `more` makes what the worker is told beside it. */
 export function answer(text, more) {
   const split = askedSplit();
   const how = `${places()} ${dialects()} ${split}`;

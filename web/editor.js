@@ -7,7 +7,7 @@ import { choose, chosenRow, state } from './state.js';
 
 /** A wrapped text that is longer than this has no marks; nor has a line that is longer than that. */
 const MARKED = 200000, MARKED_LINE = 4000;
-/** The height of a line, and what is above the first, as page.css has them; and how many more lines than are seen stand there. */
+/** The height of a line, and what is above the first, as page.css has them; and how many more lines than are seen the page has. */
 const HEIGHT = 21, ABOVE = 12, MORE = 8;
 /** About the width of a character. */
 const WIDTH = 8.1;
@@ -29,7 +29,7 @@ function marksOf(i) {
   return { name: !row.accepted ? 'bad' : row.repeats ? 'twice' : 'good', place: null };
 }
 
-/** The text of a line, as far as it has to stand there, and its mark. */
+/** The text of a line, as far as the page needs it, and its mark. */
 function contents(line, place) {
   if (!place || (field.isMany && place[0] > MARKED_LINE)) return [field.isMany ? '' : line || '\u200b'];
   const [start, stop] = [place[0], Math.min(place[1], line.length, field.isMany ? MARKED_LINE : Infinity)];

@@ -103,7 +103,7 @@ export function short(words, most) {
   return shown.length > most ? `${shown.slice(0, most - 1)}…` : shown;
 }
 
-/** The first word that stands there, between white space of the grammar: other spaces are no white space. */
+/** The first word of a text, between white space of the grammar: other spaces are no white space. */
 export const wordIn = (text) => short(text.split(/[ \n\r\t]+/).find(Boolean) ?? '', 40);
 
 /** Puts words on the clipboard. Whether that was allowed. */

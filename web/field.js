@@ -143,7 +143,7 @@ export const field = {
   },
   select,
   focus: () => shown().focus(),
-  /** Puts a text in place of what stands there, as one change that can be undone. */
+  /** Puts a text in place of the field's, as one change that can be undone. */
   replace(words) {
     const now = words.replace(/\r\n?/g, '\n');
     if (now === value) return;
@@ -152,7 +152,7 @@ export const field = {
     put(0, value.length, now, [0, 0]);
     shown().scrollTop = 0;
   },
-  /** What stands there at first is no change that could be undone. */
+  /** The first text is no change that could be undone. */
   begin(words) {
     if (!take(0, value.length, words.replace(/\r\n?/g, '\n')) && !isMany) text.value = value;
   },

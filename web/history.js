@@ -4,7 +4,7 @@ import { agreed } from './split.js';
 /** So many changes are kept, with so many characters; and keys within so many milliseconds are undone at once. */
 const KEPT = 1000, CHARACTERS = 1 << 26, PAUSE = 1000;
 
-/** What of a text was changed: where, what was there, and what stands there now. */
+/** What of a text was changed: where, what was there, and what is there now. */
 export function difference(before, now) {
   const least = Math.min(before.length, now.length);
   const at = agreed(least, (a, b) => before.slice(a, b) === now.slice(a, b));

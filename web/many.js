@@ -65,7 +65,7 @@ export class ManyLines {
     return block;
   }
 
-  /** Takes a text in place of all that stands there; '' where nothing is shown. */
+  /** Takes a text in place of all that is there; '' where nothing is shown. */
   build(text) {
     this.#blocks = text === '' ? [] : cut(`${text}\n`).map((part) => this.#block(part));
     this.#root.replaceChildren(...this.#blocks.map(({ node }) => node));

@@ -5,7 +5,7 @@ import { causeTable, onCause, sentenceOf } from './causes.js';
 import { choose, state } from './state.js';
 import { speak, withAxes } from './verdict.js';
 
-/** The height of a row, as page.css has it, and how many more than are seen stand there. */
+/** The height of a row, as page.css has it, and how many more than are seen the page has. */
 const HEIGHT = 33, MORE = 10;
 const FILTERS = {
   all: () => true,

@@ -1,4 +1,4 @@
-/* Calls with dialects. Where a text is refused, message and what could stand there are those of the text that it is read as. */
+/* Calls with dialects. Where a text is refused, message and what could come next are those of the text that it is read as. */
 #include "calls.h"
 
 #define ALL (WKT_EWKT | WKT_EXPONENTS | WKT_NAN)

@@ -244,7 +244,7 @@ static void orders(void) {
         }
 }
 
-/* Where a text is refused, and what could stand there; the message is the status of the other calls. */
+/* Where a text is refused, and what could come next; the message is the status of the other calls. */
 static void explanations(void) {
     static const struct {
         const char *text;

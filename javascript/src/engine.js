@@ -166,7 +166,7 @@ export class Engine {
     return at;
   }
 
-  /** Whether a string is of ASCII alone; then it stands there. */
+  /** Whether a string is of ASCII alone; then it is in memory from `at` on. */
   putAscii(text, at) {
     const { bytes } = this;
     for (let i = 0; i < text.length; i++) {
@@ -192,7 +192,7 @@ export class Engine {
     return done.written;
   }
 
-  /** The ASCII text that stands there. */
+  /** The ASCII text from `at` on. */
   ascii(at, length) {
     if (length > SHORT / 2) return ascii.decode(this.bytes.subarray(at, at + length));
     let text = '';
@@ -200,7 +200,7 @@ export class Engine {
     return text;
   }
 
-  /** The UTF-8 text that stands there. */
+  /** The UTF-8 text from `at` on. */
   utf8(at, length) {
     return utf8.decode(this.bytes.subarray(at, at + length));
   }

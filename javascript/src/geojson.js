@@ -213,7 +213,7 @@ class Objects {
 }
 
 /**
- * The events that stand there as an object of GeoJSON: what JSON.parse makes of geoJSONOf. Where `sure` is false, and a number
+ * The events in memory as an object of GeoJSON: what JSON.parse makes of geoJSONOf. Where `sure` is false, and a number
  * has more than 64 bits, or there is no form for it, null: with more places the text may be refused.
  */
 export function geoJSONObjectOf(words, at, places, m, sure) {

@@ -91,10 +91,10 @@ export interface Explanation {
   readonly status: number;
   /** Its words, which are those of the Rust crate. */
   readonly message: string;
-  /** From `start` to before `stop` stands what can't stand there: units of a string, from 0 on, and bytes of bytes. */
+  /** From `start` to before `stop` is what is refused: units of a string, from 0 on, and bytes of bytes. */
   readonly start: number;
   readonly stop: number;
-  /** What could stand there. */
+  /** What could come next. */
   readonly expected: string;
   /** Why the text is refused, in a user's words; '' where that isn't known. */
   readonly hint: string;
@@ -217,7 +217,7 @@ export interface Wkt {
    * canonical text. Each text that `canonical` answers has it.
    * @throws {WktError} the text is refused */
   readEvents(text: Text, asked?: Asked): Events;
-  /** The SRID in front of a text, as the dialect `srid` leaves it out; null where none stands there. The rest isn't read. */
+  /** The SRID in front of a text, as the dialect `srid` leaves it out; null where it has none. The rest isn't read. */
   srid(text: Text): number | null;
   /** The canonical texts of many texts, with the status of each: no row throws. A row of null is null. */
   columns(texts: Iterable<Text | null | undefined>, asked?: Asked): { texts: (string | null)[]; statuses: Bytes };
@@ -231,7 +231,7 @@ export interface Wkt {
   /** GeoJSON as an object, whose numbers are the nearest doubles. */
   toGeoJSONObject(text: Text, asked?: GeoJSONOptions): GeoJSONGeometry;
   /**
-   * The canonical text of a geometry of GeoJSON. Of a text each number is taken as it stands there; of an object, as
+   * The canonical text of a geometry of GeoJSON. Of a text each number is taken as written; of an object, as
    * JavaScript prints it. @throws {GeoJSONError} it is none. @throws {SyntaxError} it is no JSON
    */
   fromGeoJSON(geometry: string | GeoJSONGeometry, asked?: Places): string;

@@ -1,6 +1,6 @@
 # Sourced by test.sh: the statements of README.md, and what the tables there answer.
 
-# The SQL of README.md, as it stands there.
+# The SQL of README.md, word for word.
 ask postgres "create database page"
 ask page "create extension wkt"
 sed -n '/^```sql$/,/^```$/p' "$here/README.md" | grep -v '^```' > "$dir/page.sql"

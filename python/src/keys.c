@@ -2,7 +2,7 @@
 #include "fast.h"
 
 /* The texts that are kept, in a table by their hashes: a slot has a part of the hash, and the number of a text from 1 on.
- * A long text stands at the hash of its ends, and where another with such ends stands there already, at that of all of it:
+ * A long text stands at the hash of its ends, and where another with such ends is there already, at that of all of it:
  * so of most only the ends are read. The hashes have a key that nobody knows, so that no one makes texts of one hash. */
 typedef struct {
     uint32_t part, number;

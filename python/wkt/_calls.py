@@ -159,7 +159,7 @@ def infer(text: Any, invalid: str = "raise") -> Any:
 
 
 def srid(text: Any) -> Any:
-    """The SRID in front of a text, as in `SRID=4326;POINT(1 2)`: 4326. None where none stands there.
+    """The SRID in front of a text, as in `SRID=4326;POINT(1 2)`: 4326. None where it has none.
 
     It has one to nine digits, and nothing stands between these and the `;`: so the dialect "srid" leaves it out. The
     rest isn't read. Of a column a list, and of a Series of pandas a Series of `Int64`, with None of a null row.

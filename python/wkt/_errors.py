@@ -14,7 +14,7 @@ class WktError(ValueError):
 
     `str()` says where the text is refused, and why. `status` is the number of the reason, as include/wkt.h has it, and
     `message` its words, which are those of the Rust crate wkt. `row` is the row of a column in which it stands, from 0
-    on, and None of one text. `explanation` says what could stand there, where that is known (`wkt.explain` gives it).
+    on, and None of one text. `explanation` says what could come next, where that is known (`wkt.explain` gives it).
     """
 
     def __init__(
@@ -40,7 +40,7 @@ UNSEEN = re.compile("[\u034f\u115f\u1160\u17b4\u17b5\u180b-\u180f\u3164\ufe00-\u
 
 
 def printable(text: str, plain: str = "") -> str:
-    """A stranger's text as a message shows it: what isn't printable stands there by its number, as \\x1b or \\u{202e}.
+    """A stranger's text as a message shows it: what isn't printable is shown by its number, as \\x1b or \\u{202e}.
 
     Raw it could move the cursor, turn words around, or not be seen. plain: characters that stay.
     """

@@ -1,4 +1,4 @@
-"""Where a text is refused, why, and what could stand there."""
+"""Where a text is refused, why, and what could come next."""
 import re
 from typing import NamedTuple, NoReturn, Optional, Tuple, Union
 
@@ -22,8 +22,8 @@ def _short(word: str) -> str:
 class Explanation(NamedTuple):
     """Why a text is refused, and where.
 
-    `start` to `stop` is what can't stand there; where the text ends too early, it is empty. Both count the characters
-    of a str and the bytes of bytes, from 0 on, as slices do. `expected` says what could stand there, `hint` why the
+    `start` to `stop` is what is refused; where the text ends too early, it is empty. Both count the characters
+    of a str and the bytes of bytes, from 0 on, as slices do. `expected` says what could come next, `hint` why the
     text is refused, where that is known ("" where not), `message` is that of the `WktError`, and `status` its number.
     `cause` is one line, with the place, which counts from 1, and `code` one stable word, to group by. `str()` shows the
     line of the text with a mark below the place. In both lines, what isn't printable stands as \\x1b or \\u{202e}.

@@ -167,7 +167,7 @@ fn without_zeros(fraction: u128, places: usize) -> (u128, usize) {
     (rest.into(), places)
 }
 
-/// Puts the digits of a number before `end`, so many at least, and returns where they begin. Zeros stand there already.
+/// Puts the digits of a number before `end`, so many at least, and returns where they begin. Zeros are there already.
 #[allow(clippy::cast_possible_truncation)]
 fn put_digits(digits: &mut Digits, end: usize, number: u128, least: usize) -> usize {
     let (mut begin, mut number) = (end, number);

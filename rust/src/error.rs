@@ -135,7 +135,7 @@ impl From<Error> for std::io::Error {
 #[derive(Debug, Clone, Copy, PartialEq, Eq)]
 #[non_exhaustive]
 pub struct Refusal {
-    /// Where the first lexeme that can't stand there begins, in bytes.
+    /// Where the first lexeme that is refused begins, in bytes.
     pub start: usize,
     /// Where it ends; `start` where the text ends too early.
     pub stop: usize,
@@ -143,7 +143,7 @@ pub struct Refusal {
     pub line: u64,
     /// The column of `start` in its line, in characters from 1.
     pub column: usize,
-    /// What could stand there.
+    /// What could come next.
     pub expected: Expected,
     /// What the text may come from, where that is known.
     pub hint: Option<Hint>,

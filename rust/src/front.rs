@@ -40,7 +40,7 @@ fn beginning(text: &str, most: usize) -> &str {
 /// ```
 ///
 /// # Errors
-/// [`Refused`](Error::Refused): no geometry stands there. `NoPlaces`, `NoMemory`.
+/// [`Refused`](Error::Refused): no geometry comes next. `NoPlaces`, `NoMemory`.
 pub fn front(text: &str, places: u32) -> Result<Front, Error> {
     let places = known(places)?;
     let mut most = FIRST;

@@ -172,7 +172,7 @@ fn printed(name: &str, input: &str, places: u32) -> String {
     out + &format!("{refused} of {count} {lines} refused\n")
 }
 
-/// The lines of a case of a transcript that begin with the mark; `tests/gate/command.sh` says what stands there.
+/// The lines of a case of a transcript that begin with the mark; `tests/gate/command.sh` says what they are.
 fn marked(transcript: &str, case: &str, mark: &str) -> String {
     let (_, from) = transcript
         .split_once(&format!("# {case}\n"))

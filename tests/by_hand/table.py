@@ -67,7 +67,7 @@ def kind_of(word):
 
 
 def first_word(lexemes, no_word):
-    """The word in the place of a kind word; no_word is the message where none stands there."""
+    """The word in the place of a kind word; no_word is the message where there is none."""
     first = lexemes.take()
     if is_bad(first):
         raise Refused(13)

@@ -104,7 +104,7 @@ impl Walk<'_> {
 const UNSET: usize = usize::MAX;
 const UNSAID: u32 = 99;
 
-/// What wkt_explain says: its status, the message, from where to where, and what could stand there.
+/// What wkt_explain says: its status, the message, from where to where, and what could come next.
 fn explained(data: &[u8], places: u32) -> (u32, u32, Place) {
     let status = |status| (status, UNSAID, (UNSET, UNSET, UNSAID));
     if places % WHOLE > MOST_PLACES {

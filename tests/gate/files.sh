@@ -1,5 +1,5 @@
 #!/usr/bin/env bash
-# The jobs of docs/FILES.md, as they stand there, over two small tables: each joins the same rows, and lists what is refused.
+# The jobs of docs/FILES.md, word for word, over two small tables: each joins the same rows, and lists what is refused.
 #
 # It takes the library in capi/out, and builds the extensions for SQLite and PostgreSQL over it. SKIP=pandas,sqlite,postgres,dask
 # passes over what a machine lacks.

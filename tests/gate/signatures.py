@@ -164,7 +164,7 @@ def named(what, wanted, found):
             yield f"{what} differ: {name}"
 
 
-# A change of each file, which has to be seen: what stands there, and what is put in its place.
+# A change of each file, which has to be seen: what is there, and what is put in its place.
 CHANGES = [
     (HEADER, "size_t out_len, size_t *needed, size_t *end)", "size_t out_len, size_t *end, size_t *needed)"),
     (HEADER, "size_t numbers, rings, polygons; /*", "uint32_t numbers, rings, polygons; /*"),

@@ -40,7 +40,7 @@ def text_of(path):
 
 
 def as_long_as(version, said):
-    """The version with as many numbers as stand there."""
+    """The version with as many numbers as there are."""
     return ".".join(version.split(".")[: said.count(".") + 1])
 
 

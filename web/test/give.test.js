@@ -154,7 +154,7 @@ test('refusals by their causes', () => {
   assert.equal(sentenceOf('exponent', none), 'exponents are not read; write 0.0000001 for 1e-7; or choose “Exponents” under “Also read”');
   assert.equal(sentenceOf('not_utf8', none), 'the text is not UTF-8');
   assert.equal(sentenceOf('hint_99', none), 'hint_99');
-  // Each cause of docs/names.tsv has the sentence that stands there.
+  // Each cause of docs/names.tsv has its sentence from there.
   for (const [group, , name, text] of readFileSync(new URL('../../docs/names.tsv', import.meta.url), 'utf8').split('\n').map((row) => row.split('\t'))) {
     const word = name?.replace(/(?<=[a-z])(?=[A-Z])/g, '_').toLowerCase();
     if (group === 'hint' && text) assert.equal(sentenceOf(word, all), text);

@@ -225,7 +225,7 @@ test('the first repeats are listed, by their lines', () => {
   assert.equal(repeats.count, wanted.length);
 });
 
-/** A text that is changed to others, by kinds and at times; and what stands there after each step back, and forth. */
+/** A text that is changed to others, by kinds and at times; and what is there after each step back, and forth. */
 function steps(texts) {
   const history = new History();
   const put = (text, at, length, words) => text.slice(0, at) + words + text.slice(at + length);

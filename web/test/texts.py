@@ -33,7 +33,7 @@ REFUSED = [
     ("POLYGON ((0 0, 4 0,\n 2 4, 0 0)", "Refused at line 2, column 11", "The text ends there, and , or ) was expected.",
      "", ""),
 ]  # fmt: skip
-# A text; the head of the answer; its canonical text; facts, as words that stand there.
+# A text; the head of the answer; its canonical text; facts, as words of the page.
 ACCEPTED = [
     ("point z ( 1.50 -0 2.0 ) ", "Accepted: Point with Z", "POINT Z(1.5 0 2)",
      ["Dimension XYZ", "Points 1", "x 1.5 to 1.5 · y 0 to 0 · z 2 to 2"]),
