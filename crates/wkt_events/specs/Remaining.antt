@@ -1,6 +1,6 @@
 -- The lexemes that are left in a text from a place of its bytes, a number at such a place, and the bytes of a window, as
 -- bits.
-use Rattle.std.specs.Prelude.{◌≡◌, ◌≢◌, ℕ, ◌≤◌, ◌<◌, List, [], ◌∷◌, ◌==◌, if◌then◌else◌, Bool, true, false, drop, length, get_or, slice_range, IsUtf8, Option, Some, None, IsTrue, map, nat_lt}
+use Rattle.std.specs.Prelude.{◌≡◌, ◌≢◌, ℕ, ◌≤◌, ◌<◌, List, [], ◌∷◌, ◌==◌, if◌then◌else◌, Bool, true, false, drop, length, get_or, slice_range, IsUtf8, Option, Some, None, IfSome, IfNone, IsTrue, map, nat_lt}
 use Rattle.std.specs.Simd.Lanes.{chunk, mask_l}
 use lib.Dec.{leb}
 use Rattle.wkt_num.specs.Bytes.{Lexeme, Open, Close, Comma, Word, Num, Class, Nul, Run, AllRun, class_of}
@@ -66,15 +66,25 @@ pub record IsNumberAt {T : Type 0} (read : List ℕ → Option T) (text : List �
   pub begins : IsTrue (starts_number (get_or text at 0))
   pub reads : read (without_plus (slice_range text at end)) ≡ Some x
 
--- A number stands there up to `end`.
+-- A number ends at `end`.
 abbrev pub EndsNumber : {T : Type 0} → (List ℕ → Option T) → List ℕ → ℕ → ℕ → Type 0
 EndsNumber {T} read text at end = (x : T) × IsNumberAt read text at end x
 
--- A run ends at `end`, or none begins at `at`, and no number that is read stands there, if the run is UTF-8.
+-- A run ends at `end`, or none begins at `at`, and it is no number that is read, if the run is UTF-8.
 pub record NoNumber {T : Type 0} (read : List ℕ → Option T) (text : List ℕ) (at : ℕ) : Type 0 where
   pub end : ℕ
   pub ends : IsRunEnd text at end
   pub none : at < end → IsTrue (starts_number (get_or text at 0)) → IsUtf8 (without_plus (slice_range text at end)) → read (without_plus (slice_range text at end)) ≡ None
+
+-- The number at this place and its end, or none.
+pub record ReadsNumber {T : Type 0} (read : List ℕ → Option T) (text : List ℕ) (at : ℕ) (answer : Option (T × ℕ)) : Type 0 where
+  pub some : IfSome answer (λ p. IsNumberAt read text at p.1 p.0)
+  pub none : IfNone answer (NoNumber read text at)
+
+-- The end of the number at this place, or none.
+pub record FindsNumber {T : Type 0} (read : List ℕ → Option T) (text : List ℕ) (at : ℕ) (answer : Option ℕ) : Type 0 where
+  pub some : IfSome answer (EndsNumber read text at)
+  pub none : IfNone answer (NoNumber read text at)
 
 -- The plus before a number.
 

@@ -1,7 +1,7 @@
 //! Numbers as values.
 ghost use Rattle.std.specs.Prelude.{◌≡◌, ◌≤◌, ◌+◌, length, slice_index, slice_range, IfSome, IfNone, IsUtf8};
 ghost use Rattle.wkt_read.specs.Lexemes.{starts_number};
-ghost use Rattle.wkt_events.specs.Remaining.{IsNumberAt, NoNumber, plus_len};
+ghost use Rattle.wkt_events.specs.Remaining.{ReadsNumber, plus_len};
 
 use crate::bytes::{is_ascii_fast, run_end};
 use wkt_num::Numbers;
@@ -10,8 +10,7 @@ use wkt_num::Numbers;
 #[inline(always)]
 pub fn number_there<N: Numbers>(numbers: N, text: &[u8], at: usize) -> Option<(N::Number, usize)>
     requires { at ≤ length text.now }
-    ensures some { IfSome result (λ p. IsNumberAt (N.read numbers) text.now at p.1 p.0) }
-    ensures none { IfNone result (NoNumber (N.read numbers) text.now at) }
+    ensures { ReadsNumber (N.read numbers) text.now at result }
 {
     let end = run_end(text, at);
     if end == at || !begins_number(text[at]) {

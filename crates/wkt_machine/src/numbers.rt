@@ -1,6 +1,6 @@
 //! Numbers in bytes.
-ghost use Rattle.std.specs.Prelude.{◌≡◌, ◌<◌, ◌≤◌, ℕ, length, slice_index_or, take, IfSome, IfNone};
-ghost use Rattle.wkt_events.specs.Remaining.{IsNumberAt, EndsNumber, NoNumber};
+ghost use Rattle.std.specs.Prelude.{◌≡◌, ◌<◌, ◌≤◌, ℕ, length, slice_index_or, take};
+ghost use Rattle.wkt_events.specs.Remaining.{FindsNumber, ReadsNumber};
 
 use wkt_events::{byte_at, is_of_run, number_there};
 use wkt_num::{Numbers, OfType, WktNum};
@@ -12,8 +12,7 @@ const NUMBER_WINDOW: usize = 32;
 #[inline(always)]
 pub fn read_at<T: WktNum>(text: &[u8], at: usize) -> Option<(T, usize)>
     requires { at ≤ length text.now }
-    ensures some { IfSome result (λ p. IsNumberAt T.read text.now at p.1 p.0) }
-    ensures none { IfNone result (NoNumber T.read text.now at) }
+    ensures { ReadsNumber T.read text.now at result }
 {
     read_by(OfType::<T>::new(), text, at)
 }
@@ -22,8 +21,7 @@ pub fn read_at<T: WktNum>(text: &[u8], at: usize) -> Option<(T, usize)>
 #[inline(always)]
 pub fn read_by<N: Numbers>(numbers: N, text: &[u8], at: usize) -> Option<(N::Number, usize)>
     requires { at ≤ length text.now }
-    ensures some { IfSome result (λ p. IsNumberAt (N.read numbers) text.now at p.1 p.0) }
-    ensures none { IfNone result (NoNumber (N.read numbers) text.now at) }
+    ensures { ReadsNumber (N.read numbers) text.now at result }
 {
     let rest = &text[at..];
     if rest.len() >= NUMBER_WINDOW {
@@ -38,8 +36,7 @@ pub fn read_by<N: Numbers>(numbers: N, text: &[u8], at: usize) -> Option<(N::Num
 #[inline(always)]
 fn slow_read<N: Numbers>(numbers: N, text: &[u8], at: usize) -> Option<(N::Number, usize)>
     requires { at ≤ length text.now }
-    ensures some { IfSome result (λ p. IsNumberAt (N.read numbers) text.now at p.1 p.0) }
-    ensures none { IfNone result (NoNumber (N.read numbers) text.now at) }
+    ensures { ReadsNumber (N.read numbers) text.now at result }
 {
     slow_read_outlined(numbers, text, at)
 }
@@ -47,8 +44,7 @@ fn slow_read<N: Numbers>(numbers: N, text: &[u8], at: usize) -> Option<(N::Numbe
 #[inline(never)]
 fn slow_read_outlined<N: Numbers>(numbers: N, text: &[u8], at: usize) -> Option<(N::Number, usize)>
     requires { at ≤ length text.now }
-    ensures some { IfSome result (λ p. IsNumberAt (N.read numbers) text.now at p.1 p.0) }
-    ensures none { IfNone result (NoNumber (N.read numbers) text.now at) }
+    ensures { ReadsNumber (N.read numbers) text.now at result }
 {
     // No number stands where a parenthesis closes, or the text ends.
     if !is_of_run(byte_at(text, at)) {
@@ -69,8 +65,7 @@ fn slow_read_outlined<N: Numbers>(numbers: N, text: &[u8], at: usize) -> Option<
 #[inline(always)]
 pub(crate) fn end_at<N: Numbers>(numbers: N, text: &[u8], at: usize) -> Option<usize>
     requires { at ≤ length text.now }
-    ensures some { IfSome result (λ end. EndsNumber (N.read numbers) text.now at end) }
-    ensures none { IfNone result (NoNumber (N.read numbers) text.now at) }
+    ensures { FindsNumber (N.read numbers) text.now at result }
 {
     let rest = &text[at..];
     if rest.len() >= NUMBER_WINDOW {
@@ -85,8 +80,7 @@ pub(crate) fn end_at<N: Numbers>(numbers: N, text: &[u8], at: usize) -> Option<u
 #[inline(never)]
 fn slow_end<N: Numbers>(numbers: N, text: &[u8], at: usize) -> Option<usize>
     requires { at ≤ length text.now }
-    ensures some { IfSome result (λ end. EndsNumber (N.read numbers) text.now at end) }
-    ensures none { IfNone result (NoNumber (N.read numbers) text.now at) }
+    ensures { FindsNumber (N.read numbers) text.now at result }
 {
     // No number stands where a parenthesis closes, or the text ends.
     if !is_of_run(byte_at(text, at)) {
