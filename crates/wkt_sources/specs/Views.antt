@@ -1,16 +1,23 @@
 -- What is known of bytes as a source of lexemes, and of tokens as one.
 use Rattle.std.proofs.Common.{subst}
 use Rattle.std.specs.Prelude.{ℕ, List, Option, Some, None, ◌≡◌, ◌≢◌, ◌≤◌, length, Bool, true, false}
+use Rattle.std.specs.Bool.{OnTrue, OnFalse}
 use Rattle.std.specs.Borrow.{MutBor}
+use Rattle.wkt_access.specs.declared.dimensions.Dimension.TheVariants as dim
 use Rattle.wkt_num.specs.Bytes.{Lexeme}
 use Rattle.wkt_read.specs.Spanned.{Standing}
 use Rattle.wkt_machine.specs.declared.machine.LexemeKind.{LexemeKind}
 use Rattle.wkt_machine.specs.declared.machine.LexemeKind.TheVariants as seen
 use Rattle.wkt_events.specs.Remaining.{Legible, remaining_spanned, TakesOne}
 use Rattle.wkt_sources.specs.declared.bytes.ByteCursor.{ByteCursor}
+use Rattle.wkt_machine.specs.declared.machine.State.TheVariants as next
+use Rattle.wkt_machine.specs.declared.part.Axis.TheVariants as axis
 use Rattle.wkt_machine.specs.declared.part.Part.{Part}
 use Rattle.wkt_machine.specs.declared.part.Part.TheVariants as part
 use Rattle.wkt_sources.specs.declared.tokens.TokenSource.{TokenSource}
+use Rattle.wkt_machine.specs.Makers.{Maker}
+use Rattle.wkt_machine.specs.Room.{HasRoom}
+use Rattle.wkt_machine.specs.declared.machine.Machine.{Machine}
 use Rattle.wkt_machine.specs.View.{View, IsBetween, IsDark, between_none, seen_of, sight}
 use Rattle.wkt_read.specs.Stream as ahead
 
@@ -50,6 +57,19 @@ has_coordinates part.Ring = true
 has_coordinates part.Line = true
 has_coordinates part.AreaRing = true
 has_coordinates p = false
+
+-- A coordinate of a part that has some may come next, in the text, with room for what is left.
+pub record MayRead {N B : Type 0} {n : ℕ} (feed : Bool) (maker : Maker N B) (m : Machine) (s : ByteCursor n) (b : B) : Type 0 where
+  pub part : has_coordinates m.part ≡ true
+  pub inside : s.at ≤ length s.text.now
+  pub room : HasRoom (bytes_view feed) maker 0 s b
+
+-- It comes next, and has two numbers where `is_flat` is true, more where it isn't.
+pub record MayBegin {N B : Type 0} {n : ℕ} (is_flat feed : Bool) (maker : Maker N B) (m : Machine) (s : ByteCursor n) (b : B) : Type 0 where
+  pub state : m.state ≡ next.Number axis.X
+  pub flat : OnTrue is_flat (m.dim ≡ dim.XY)
+  pub more : OnFalse is_flat (m.dim ≢ dim.XY)
+  pub may : MayRead feed maker m s b
 
 -- What is known of tokens as a source.
 

@@ -1,7 +1,7 @@
 //! Coordinates in bytes, as far as the parenthesis behind them.
-ghost use Rattle.std.specs.Prelude.{◌≡◌, ◌≢◌, ◌≤◌, ◌+◌, get_or, length, true};
+ghost use Rattle.std.specs.Prelude.{◌≡◌, ◌≢◌, ◌≤◌, ◌+◌, get_or, length, true, false};
 ghost use Rattle.std.specs.Bool.{OnTrue, OnFalse};
-ghost use Rattle.wkt_sources.specs.Views.{bytes_view, has_coordinates};
+ghost use Rattle.wkt_sources.specs.Views.{bytes_view, has_coordinates, MayRead, MayBegin};
 ghost use Rattle.wkt_machine.specs.Goes.{Goes, Refuses, reached, standing};
 ghost use Rattle.wkt_machine.specs.Machines.{next_after, HasNext};
 ghost use Rattle.wkt_machine.specs.Room.{HasRoom};
@@ -38,9 +38,7 @@ pub(crate) fn coordinates<'a, T: WktNum, B: Builder<T>, const LF_ENDS: bool>(
     builder: B,
 ) -> StepResult<ByteCursor<'a, LF_ENDS>, B>
     requires state { machine.state ≡ next.Number axis.X }
-    requires part { has_coordinates machine.part ≡ true }
-    requires inside { source.at ≤ length source.text.now }
-    requires room { HasRoom (bytes_view LF_ENDS) B.maker 0 source builder }
+    requires may { MayRead LF_ENDS B.maker machine source builder }
     ensures { Steps (bytes_view LF_ENDS) B.maker machine source.entry builder result }
 {
     match machine.dim {
@@ -56,12 +54,7 @@ fn coordinates_of<'a, T: WktNum, B: Builder<T>, const LF_ENDS: bool, const IS_FL
     source: ByteCursor<'a, LF_ENDS>,
     builder: B,
 ) -> StepResult<ByteCursor<'a, LF_ENDS>, B>
-    requires state { machine.state ≡ next.Number axis.X }
-    requires part { has_coordinates machine.part ≡ true }
-    requires flat { OnTrue IS_FLAT (machine.dim ≡ dim_of.XY) }
-    requires more { OnFalse IS_FLAT (machine.dim ≢ dim_of.XY) }
-    requires inside { source.at ≤ length source.text.now }
-    requires room { HasRoom (bytes_view LF_ENDS) B.maker 0 source builder }
+    requires { MayBegin IS_FLAT LF_ENDS B.maker machine source builder }
     ensures { Steps (bytes_view LF_ENDS) B.maker machine source.entry builder result }
 {
     let single = is_single(machine.part);
@@ -111,11 +104,7 @@ fn deep_coordinates<'a, T: WktNum, B: Builder<T>, const LF_ENDS: bool>(
     source: ByteCursor<'a, LF_ENDS>,
     builder: B,
 ) -> StepResult<ByteCursor<'a, LF_ENDS>, B>
-    requires state { machine.state ≡ next.Number axis.X }
-    requires part { has_coordinates machine.part ≡ true }
-    requires more { machine.dim ≢ dim_of.XY }
-    requires inside { source.at ≤ length source.text.now }
-    requires room { HasRoom (bytes_view LF_ENDS) B.maker 0 source builder }
+    requires { MayBegin false LF_ENDS B.maker machine source builder }
     ensures { Steps (bytes_view LF_ENDS) B.maker machine source.entry builder result }
 {
     deep_coordinates_outlined::<T, B, LF_ENDS>(machine, source, builder)
@@ -127,11 +116,7 @@ fn deep_coordinates_outlined<'a, T: WktNum, B: Builder<T>, const LF_ENDS: bool>(
     source: ByteCursor<'a, LF_ENDS>,
     builder: B,
 ) -> StepResult<ByteCursor<'a, LF_ENDS>, B>
-    requires state { machine.state ≡ next.Number axis.X }
-    requires part { has_coordinates machine.part ≡ true }
-    requires more { machine.dim ≢ dim_of.XY }
-    requires inside { source.at ≤ length source.text.now }
-    requires room { HasRoom (bytes_view LF_ENDS) B.maker 0 source builder }
+    requires { MayBegin false LF_ENDS B.maker machine source builder }
     ensures { Steps (bytes_view LF_ENDS) B.maker machine source.entry builder result }
 {
     coordinates_of::<T, B, LF_ENDS, false>(machine, source, builder)
@@ -146,12 +131,7 @@ fn coordinate<'a, T: WktNum, B: Builder<T>, const LF_ENDS: bool, const IS_FLAT: 
     source: ByteCursor<'a, LF_ENDS>,
     builder: B,
 ) -> (bool, State, ByteCursor<'a, LF_ENDS>, B)
-    requires state { machine.state ≡ next.Number axis.X }
-    requires part { has_coordinates machine.part ≡ true }
-    requires flat { OnTrue IS_FLAT (machine.dim ≡ dim_of.XY) }
-    requires more { OnFalse IS_FLAT (machine.dim ≢ dim_of.XY) }
-    requires inside { source.at ≤ length source.text.now }
-    requires room { HasRoom (bytes_view LF_ENDS) B.maker 0 source builder }
+    requires { MayBegin IS_FLAT LF_ENDS B.maker machine source builder }
     ensures on { OnTrue result.0 (Goes (B.maker.reads builder) (bytes_view LF_ENDS) B.maker machine source.entry builder (reached machine next.Item result.2 result.3)) }
     ensures inside { OnTrue result.0 (result.2.at ≤ length result.2.text.now) }
     ensures room { OnTrue result.0 (HasRoom (bytes_view LF_ENDS) B.maker 0 result.2 result.3) }
@@ -178,10 +158,8 @@ fn z_and_m<'a, T: WktNum, B: Builder<T>, const LF_ENDS: bool>(
     source: ByteCursor<'a, LF_ENDS>,
     builder: B,
 ) -> (bool, State, ByteCursor<'a, LF_ENDS>, B)
-    requires part { has_coordinates machine.part ≡ true }
     requires more { machine.dim ≢ dim_of.XY }
-    requires inside { source.at ≤ length source.text.now }
-    requires room { HasRoom (bytes_view LF_ENDS) B.maker 0 source builder }
+    requires may { MayRead LF_ENDS B.maker machine source builder }
     ensures on { OnTrue result.0 (Goes (B.maker.reads builder) (bytes_view LF_ENDS) B.maker (standing machine (next_after axis.Y machine.dim)) source.entry builder (reached machine next.Item result.2 result.3)) }
     ensures inside { OnTrue result.0 (result.2.at ≤ length result.2.text.now) }
     ensures room { OnTrue result.0 (HasRoom (bytes_view LF_ENDS) B.maker 0 result.2 result.3) }
@@ -218,9 +196,7 @@ fn number<'a, T: WktNum, B: Builder<T>, const LF_ENDS: bool>(
     builder: B,
 ) -> (bool, ByteCursor<'a, LF_ENDS>, B)
     requires sound { HasNext (next.Number axis) machine.dim }
-    requires part { has_coordinates machine.part ≡ true }
-    requires inside { source.at ≤ length source.text.now }
-    requires room { HasRoom (bytes_view LF_ENDS) B.maker 0 source builder }
+    requires may { MayRead LF_ENDS B.maker machine source builder }
     ensures on { OnTrue result.0 (Goes (B.maker.reads builder) (bytes_view LF_ENDS) B.maker (standing machine (next.Number axis)) source.entry builder (reached machine (next_after axis machine.dim) result.1 result.2)) }
     ensures inside { OnTrue result.0 (result.1.at ≤ length result.1.text.now) }
     ensures room { OnTrue result.0 (HasRoom (bytes_view LF_ENDS) B.maker 0 result.1 result.2) }

@@ -19,8 +19,8 @@ use Rattle.wkt_sources.proofs.coordinates.coordinates_of.Goals as goal
 pub coordinates-init : goal.coordinates-init
 coordinates-init g c = record {
   leads = leads_none (g.B.Builder.maker.reads c.args.builder) (bytes_view _) g.B.Builder.maker c.args.machine c.args.source c.args.builder;
-  inside = c.requires.inside;
-  room = c.requires.room;
+  inside = c.requires.may.inside;
+  room = c.requires.may.room;
 }
 
 pub returns-then-not-is_whole : goal.returns-then-not-is_whole
@@ -46,13 +46,13 @@ pub coordinates-smaller : goal.coordinates-smaller
 coordinates-smaller g c =
     goes_less _ g.B.Builder.maker _ c.args.machine c.coordinates.source c.coordinates.builder _
     (turn_goes (g.B.Builder.maker.reads c.coordinates.builder) g.B.Builder.maker _ c.args.machine c.coordinates.source c.new-source-else-byte-eq41.result c.coordinates.builder c.comma-builder.result (reached c.args.machine next.Item c.coordinate-is_whole.result.2 c.coordinate-is_whole.result.3) (OnTrue_at c.if-not-is_whole.false c.coordinate-is_whole.ensures.on) refl
-    c.requires.state c.requires.part (sym c.is_single-single.ensures ∙ c.if-single.false) (sym c.byte_at-byte.ensures.value ∙ c.if-byte-ne44.false) c.new-source-else-byte-eq41.ensures.text c.new-source-else-byte-eq41.ensures.at c.comma-builder.ensures.makes)
+    c.requires.state c.requires.may.part (sym c.is_single-single.ensures ∙ c.if-single.false) (sym c.byte_at-byte.ensures.value ∙ c.if-byte-ne44.false) c.new-source-else-byte-eq41.ensures.text c.new-source-else-byte-eq41.ensures.at c.comma-builder.ensures.makes)
 
 pub coordinates-preserved : goal.coordinates-preserved
 coordinates-preserved g c =
     let turn =
     turn_goes (g.B.Builder.maker.reads c.coordinates.builder) g.B.Builder.maker (not (g.row.LF_ENDS == 0)) c.args.machine c.coordinates.source c.new-source-else-byte-eq41.result c.coordinates.builder c.comma-builder.result (reached c.args.machine next.Item c.coordinate-is_whole.result.2 c.coordinate-is_whole.result.3) (OnTrue_at c.if-not-is_whole.false c.coordinate-is_whole.ensures.on) refl
-    c.requires.state c.requires.part (sym c.is_single-single.ensures ∙ c.if-single.false) (sym c.byte_at-byte.ensures.value ∙ c.if-byte-ne44.false) c.new-source-else-byte-eq41.ensures.text c.new-source-else-byte-eq41.ensures.at c.comma-builder.ensures.makes in
+    c.requires.state c.requires.may.part (sym c.is_single-single.ensures ∙ c.if-single.false) (sym c.byte_at-byte.ensures.value ∙ c.if-byte-ne44.false) c.new-source-else-byte-eq41.ensures.text c.new-source-else-byte-eq41.ensures.at c.comma-builder.ensures.makes in
     let some = c.byte_at-byte.ensures.some in
     let comma = c.if-byte-ne44.false in
     let at = c.new-source-else-byte-eq41.ensures.at in
