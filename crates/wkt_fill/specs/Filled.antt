@@ -1,6 +1,6 @@
 -- Flat arrays, as the events of a geometry fill them, and those of the front of a text.
 use Rattle.std.proofs.Common.{refl, sym, subst, inl, inr, ◌∙◌, ap, arith, zero, suc, length-append}
-use Rattle.std.specs.Prelude.{ℕ, ℤ, ◌+◌, List, [], ◌∷◌, ◌++◌, Bool, true, false, if◌then◌else◌, ◌≡◌, ◌≢◌, ◌⊎◌, take, ◌↔◌, ◌≤◌, ◌<◌, length, drop, Option, Some, None, IsUtf8}
+use Rattle.std.specs.Prelude.{ℕ, ℤ, ◌+◌, List, [], ◌∷◌, ◌++◌, Bool, true, false, if◌then◌else◌, ◌≡◌, ◌≢◌, ◌⊎◌, take, ◌↔◌, ◌≤◌, ◌<◌, length, drop, Option, Some, None, IfSome, IfNone, IsUtf8}
 use Rattle.std.specs.List.{Contains}
 use Rattle.std.proofs.lemmas.List.Elements.{Contains-append_left}
 use Rattle.wkt_access.specs.declared.dimensions.Dimension.{Dimension}
@@ -13,7 +13,8 @@ use Rattle.wkt_types.specs.declared.geometry_type.GeometryType.TheVariants as ki
 use Rattle.wkt_machine.specs.declared.part.Axis.TheVariants as axis
 use Rattle.wkt_machine.specs.declared.part.Part.TheVariants as part
 use Rattle.wkt_fill.specs.Arrays.{HasLarge, parts_of, joined, offsets, numbers_in, IsUnheld}
-use Rattle.wkt_machine.specs.Makers.{Maker}
+use Rattle.wkt_events.specs.Remaining.{NoNumber}
+use Rattle.wkt_machine.specs.Makers.{Maker, MakesNumber}
 use Rattle.wkt_fill.specs.declared.array_builder.ArrayBuilder.{ArrayBuilder}
 use Rattle.wkt_fill.specs.declared.array_builder.Room.{Room}
 use Rattle.wkt_num.specs.Decimal.{read_decimal, IsUnits}
@@ -320,6 +321,12 @@ array_builder_maker = record {
   same = λ s t es h. (ap (read_decimal 127 36) h.places, refl);
   less = λ s m n order h. tt;
 }
+
+-- The number at this place was added, and its end is returned; or there is none, and the arrays are as they were.
+pub record FillsNumber (before : ArrayBuilder) (text : List ℕ) (at : ℕ) (axis : Axis) (after : ArrayBuilder) (end : Option ℕ) : Type 0 where
+  pub some : IfSome end (MakesNumber (read_decimal 127 36 before.places) array_builder_maker before text at axis after)
+  pub none : IfNone end (NoNumber (read_decimal 127 36 before.places) text at)
+  pub nothing : IfNone end (after ≡ before)
 
 abbrev pub with_flat : ArrayBuilder → (FlatArrays → FlatArrays) → Headed
 with_flat f g = record { kind = f.kind; dimension = f.dimension; flat = g (view f).flat }

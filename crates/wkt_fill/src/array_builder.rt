@@ -1,9 +1,6 @@
 //! Flat arrays, filled as the parts of a geometry come.
-ghost use Rattle.std.specs.Prelude.{◌≡◌, ◌≢◌, ◌⊎◌, ◌≤◌, [], ◌∷◌, length, take, IfSome, IfNone};
-ghost use Rattle.wkt_num.specs.Decimal.{read_decimal};
-ghost use Rattle.wkt_events.specs.Remaining.{NoNumber};
-ghost use Rattle.wkt_machine.specs.Makers.{MakesNumber};
-ghost use Rattle.wkt_fill.specs.Filled.{is_collection, kind_of_part, end_ring, end_polygon, end_part, ended, put, headed, on, array_builder_maker, view, ArrayBuilderBecomes, ArrayBuilderBegins, RefusesCollection, with_flat};
+ghost use Rattle.std.specs.Prelude.{◌≡◌, ◌≢◌, ◌⊎◌, ◌≤◌, [], ◌∷◌, length, take};
+ghost use Rattle.wkt_fill.specs.Filled.{is_collection, kind_of_part, end_ring, end_polygon, end_part, ended, put, headed, on, view, ArrayBuilderBecomes, ArrayBuilderBegins, FillsNumber, RefusesCollection, with_flat};
 
 use crate::status::{FILLER_NOT_FLAT, FILLER_TOO_LARGE, FULL};
 use wkt_events::number_there;
@@ -252,9 +249,7 @@ impl<'a> ArrayBuilder<'a> {
     #[inline(always)]
     fn slow_number(self, text: &[u8], at: usize, axis: Axis) -> (Self, Option<usize>)
         requires { at ≤ length text.now }
-        ensures some { IfSome result.1 (λ end. MakesNumber (read_decimal 127 36 self.entry.places) array_builder_maker self.entry text.now at axis result.0 end) }
-        ensures none { IfNone result.1 (NoNumber (read_decimal 127 36 self.entry.places) text.now at) }
-        ensures nothing { IfNone result.1 (result.0 ≡ self.entry) }
+        ensures { FillsNumber self.entry text.now at axis result.0 result.1 }
     {
         self.slow_number_outlined(text, at, axis)
     }
@@ -263,9 +258,7 @@ impl<'a> ArrayBuilder<'a> {
     #[inline(never)]
     fn slow_number_outlined(self, text: &[u8], at: usize, axis: Axis) -> (Self, Option<usize>)
         requires { at ≤ length text.now }
-        ensures some { IfSome result.1 (λ end. MakesNumber (read_decimal 127 36 self.entry.places) array_builder_maker self.entry text.now at axis result.0 end) }
-        ensures none { IfNone result.1 (NoNumber (read_decimal 127 36 self.entry.places) text.now at) }
-        ensures nothing { IfNone result.1 (result.0 ≡ self.entry) }
+        ensures { FillsNumber self.entry text.now at axis result.0 result.1 }
     {
         let mut made = self;
         match number_there(made.places, text, at) {
