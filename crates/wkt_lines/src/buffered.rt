@@ -9,9 +9,8 @@ use crate::output_buffer::OutputBuffer;
 use std::alloc::AllocError;
 use wkt_bytes::{ByteSink, put_all};
 
-/// Puts out the answers to all lines of the block, by an output buffer that is empty before and after. Where `OFTEN` is
-/// set, it is put out for each line.
-pub(crate) fn answer_block<A: Answers, W: ByteSink, const OFTEN: bool>(
+/// Puts out the answers to all lines of the block, by an output buffer that is empty before and after.
+pub(crate) fn answer_block<A: Answers, W: ByteSink>(
     answers: &A,
     input: &[u8],
     output: &mut OutputBuffer,
@@ -27,16 +26,9 @@ pub(crate) fn answer_block<A: Answers, W: ByteSink, const OFTEN: bool>(
         let rest = &input[at..];
         // No result is made of an output buffer that is ready, since it would be carried along.
         if !output.is_ready(rest.len()) {
-            if OFTEN {
-                match make_ready(rest.len(), output, writer) {
-                    Ok(()) => {}
-                    Err(e) => return Err(e),
-                }
-            } else {
-                match make_ready_outlined(rest.len(), output, writer) {
-                    Ok(()) => {}
-                    Err(e) => return Err(e),
-                }
+            match make_ready(rest.len(), output, writer) {
+                Ok(()) => {}
+                Err(e) => return Err(e),
             }
         }
         match answers.add_first(rest, output) {
@@ -66,7 +58,7 @@ fn give_up<W: ByteSink>(
 }
 
 /// Makes the output buffer ready for the answer to a text of so many bytes, and puts it out where it has to be.
-#[inline(always)]
+#[inline(never)]
 fn make_ready<W: ByteSink>(
     n: usize,
     output: &mut OutputBuffer,
@@ -88,21 +80,6 @@ fn make_ready<W: ByteSink>(
         Ok(()) => Ok(()),
         Err(e) => Err(RunError::Memory(e)),
     }
-}
-
-/// As [`make_ready`], out of the loop.
-#[cold]
-#[inline(never)]
-fn make_ready_outlined<W: ByteSink>(
-    n: usize,
-    output: &mut OutputBuffer,
-    writer: &mut W,
-) -> Result<(), RunError>
-    ensures puts { PutsOut W.sink result (output_text output.old) (output_text output.new) writer.old writer.new }
-    ensures room { OnOk result (HasRoomFor output.new n) }
-    ensures keeps { W.sink.keeps writer.old writer.new }
-{
-    make_ready(n, output, writer)
 }
 
 /// Puts out what is written, and empties the output buffer.

@@ -86,9 +86,9 @@ fn answer_input<A: Answers, W: ByteSink>(
     'parts: loop {
         let whole = whole_lines(rest);
         if whole == 0 {
-            return answer_block::<A, W, true>(answers, rest, &mut output, writer);
+            return answer_block(answers, rest, &mut output, writer);
         }
-        match answer_block::<A, W, true>(answers, &rest[..whole], &mut output, writer) {
+        match answer_block(answers, &rest[..whole], &mut output, writer) {
             Ok(()) => rest = &rest[whole..],
             Err(e) => return Err(e),
         }

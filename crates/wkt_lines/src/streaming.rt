@@ -84,20 +84,10 @@ fn stream_blocks<A: Answers, R: ByteSource, W: ByteSink>(
         let seen = buffer.len();
         match buffer.fill(reader) {
             Err(fault) => return Err(RunError::Read(fault)),
-            Ok(0) => return answer_block::<A, W, false>(
-                answers,
-                buffer.front(),
-                &mut output,
-                writer,
-            ),
+            Ok(0) => return answer_block(answers, buffer.front(), &mut output, writer),
             Ok(_) => {
                 let whole = buffer.whole(seen);
-                match answer_block::<A, W, false>(
-                    answers,
-                    &buffer.front()[..whole],
-                    &mut output,
-                    writer,
-                ) {
+                match answer_block(answers, &buffer.front()[..whole], &mut output, writer) {
                     Ok(()) => buffer.consume(whole),
                     Err(e) => return Err(e),
                 }

@@ -4,7 +4,7 @@ use Rattle.wkt_lines.specs.Buffers.{output_text, PutsOut}
 use Rattle.wkt_lines.specs.declared.output_buffer.OutputBuffer.{OutputBuffer}
 use Rattle.wkt_lines.proofs.OutputBuffering.{Buffered, buffered_none, buffered_drained, buffered_next, near, ends_inside, ends_past}
 use Rattle.wkt_lines.proofs.buffered.answer_block.Goals as goal
-use Rattle.wkt_lines.proofs.buffered.answer_block.Goals.{then-not-is_ready+then-this-ne0+in-Ok, then-not-is_ready+else-this-ne0+in-Ok-make_ready_outlined, else-not-is_ready}
+use Rattle.wkt_lines.proofs.buffered.answer_block.Goals.{then-not-is_ready+in-Ok, else-not-is_ready}
 
 pub lines-init : goal.lines-init
 lines-init g c = record {
@@ -19,16 +19,13 @@ lines-preserved g c =
     let output = c.if-not-is_ready.output in
     let writer = c.if-not-is_ready.writer in
     let ready : there output writer = elim c.if-not-is_ready.branch [
-      | then-not-is_ready+then-this-ne0+in-Ok w ↦ subst (λ p. there p writer) (sym w.output-is) (subst (λ v. there w.make_ready.new.output v) (sym w.writer-is)
+      | then-not-is_ready+in-Ok w ↦ subst (λ p. there p writer) (sym w.output-is) (subst (λ v. there w.make_ready.new.output v) (sym w.writer-is)
           (buffered_drained (g.A.Answers.answers c.args.answers.now) g.W.ByteSink.sink c.args.input.now c.lines.at (output_text c.lines.output) c.args.writer.now c.lines.writer c.lines.invariant.buffered (output_text w.make_ready.new.output) w.make_ready.new.writer w.in-Ok.ensures.puts))
-      | then-not-is_ready+else-this-ne0+in-Ok-make_ready_outlined w ↦ subst (λ p. there p writer) (sym w.output-is) (subst (λ v. there w.make_ready_outlined.new.output v) (sym w.writer-is)
-          (buffered_drained (g.A.Answers.answers c.args.answers.now) g.W.ByteSink.sink c.args.input.now c.lines.at (output_text c.lines.output) c.args.writer.now c.lines.writer c.lines.invariant.buffered (output_text w.make_ready_outlined.new.output) w.make_ready_outlined.new.writer w.in-Ok-make_ready_outlined.ensures.puts))
       | else-not-is_ready w ↦ subst (λ p. there p writer) (sym w.output-is) (subst (λ v. there c.lines.output v) (sym w.writer-is) c.lines.invariant.buffered)
     ] in
     let keeps : g.row.W.Denot → Type 0 = g.W.ByteSink.sink.keeps c.args.writer.now in
     let tied : keeps c.if-not-is_ready.writer = elim c.if-not-is_ready.branch [
-      | then-not-is_ready+then-this-ne0+in-Ok w ↦ subst keeps (sym w.writer-is) (g.W.ByteSink.sink.keeps_more _ _ _ c.lines.invariant.tied w.make_ready.ensures.keeps)
-      | then-not-is_ready+else-this-ne0+in-Ok-make_ready_outlined w ↦ subst keeps (sym w.writer-is) (g.W.ByteSink.sink.keeps_more _ _ _ c.lines.invariant.tied w.make_ready_outlined.ensures.keeps)
+      | then-not-is_ready+in-Ok w ↦ subst keeps (sym w.writer-is) (g.W.ByteSink.sink.keeps_more _ _ _ c.lines.invariant.tied w.make_ready.ensures.keeps)
       | else-not-is_ready w ↦ subst keeps (sym w.writer-is) c.lines.invariant.tied
     ] in
     let one = c.in-Ok-add_first.ensures in
@@ -41,19 +38,14 @@ lines-preserved g c =
 pub returns-in-Err-clause-answers : goal.returns-in-Err-clause-answers
 returns-in-Err-clause-answers g c = ends_inside (g.A.Answers.answers c.args.answers.now) g.W.ByteSink.sink c.args.input.now c.lines.at (output_text c.lines.output) (output_text c.make_ready.new.output) c.args.writer.now c.lines.writer c.make_ready.new.writer c.lines.invariant.buffered c.lines-test.true (Err c.in-Err.e) tt c.in-Err.ensures.puts
 
-pub returns-in-Err-make_ready_outlined-clause-answers : goal.returns-in-Err-make_ready_outlined-clause-answers
-returns-in-Err-make_ready_outlined-clause-answers g c = ends_inside (g.A.Answers.answers c.args.answers.now) g.W.ByteSink.sink c.args.input.now c.lines.at (output_text c.lines.output) (output_text c.make_ready_outlined.new.output) c.args.writer.now c.lines.writer c.make_ready_outlined.new.writer c.lines.invariant.buffered c.lines-test.true (Err c.in-Err-make_ready_outlined.e) tt c.in-Err-make_ready_outlined.ensures.puts
-
 pub returns-in-Err-add_first-clause-answers : goal.returns-in-Err-add_first-clause-answers
 returns-in-Err-add_first-clause-answers g c =
     let there : OutputBuffer → g.row.W.Denot → Type 0 = λ p v. Buffered (g.A.Answers.answers c.args.answers.now) g.W.ByteSink.sink c.args.input.now c.lines.at (output_text p) c.args.writer.now v in
     let output = c.if-not-is_ready.output in
     let writer = c.if-not-is_ready.writer in
     let ready : there output writer = elim c.if-not-is_ready.branch [
-      | then-not-is_ready+then-this-ne0+in-Ok w ↦ subst (λ p. there p writer) (sym w.output-is) (subst (λ v. there w.make_ready.new.output v) (sym w.writer-is)
+      | then-not-is_ready+in-Ok w ↦ subst (λ p. there p writer) (sym w.output-is) (subst (λ v. there w.make_ready.new.output v) (sym w.writer-is)
           (buffered_drained (g.A.Answers.answers c.args.answers.now) g.W.ByteSink.sink c.args.input.now c.lines.at (output_text c.lines.output) c.args.writer.now c.lines.writer c.lines.invariant.buffered (output_text w.make_ready.new.output) w.make_ready.new.writer w.in-Ok.ensures.puts))
-      | then-not-is_ready+else-this-ne0+in-Ok-make_ready_outlined w ↦ subst (λ p. there p writer) (sym w.output-is) (subst (λ v. there w.make_ready_outlined.new.output v) (sym w.writer-is)
-          (buffered_drained (g.A.Answers.answers c.args.answers.now) g.W.ByteSink.sink c.args.input.now c.lines.at (output_text c.lines.output) c.args.writer.now c.lines.writer c.lines.invariant.buffered (output_text w.make_ready_outlined.new.output) w.make_ready_outlined.new.writer w.in-Ok-make_ready_outlined.ensures.puts))
       | else-not-is_ready w ↦ subst (λ p. there p writer) (sym w.output-is) (subst (λ v. there c.lines.output v) (sym w.writer-is) c.lines.invariant.buffered)
     ] in
     ends_inside (g.A.Answers.answers c.args.answers.now) g.W.ByteSink.sink c.args.input.now c.lines.at (output_text output) [] c.args.writer.now writer c.give_up.new.writer ready c.lines-test.true c.give_up.result c.give_up.ensures.never
@@ -66,8 +58,7 @@ pub returns-in-Err-add_first-clause-keeps : goal.returns-in-Err-add_first-clause
 returns-in-Err-add_first-clause-keeps g c =
     let keeps : g.row.W.Denot → Type 0 = g.W.ByteSink.sink.keeps c.args.writer.now in
     let tied : keeps c.if-not-is_ready.writer = elim c.if-not-is_ready.branch [
-      | then-not-is_ready+then-this-ne0+in-Ok w ↦ subst keeps (sym w.writer-is) (g.W.ByteSink.sink.keeps_more _ _ _ c.lines.invariant.tied w.make_ready.ensures.keeps)
-      | then-not-is_ready+else-this-ne0+in-Ok-make_ready_outlined w ↦ subst keeps (sym w.writer-is) (g.W.ByteSink.sink.keeps_more _ _ _ c.lines.invariant.tied w.make_ready_outlined.ensures.keeps)
+      | then-not-is_ready+in-Ok w ↦ subst keeps (sym w.writer-is) (g.W.ByteSink.sink.keeps_more _ _ _ c.lines.invariant.tied w.make_ready.ensures.keeps)
       | else-not-is_ready w ↦ subst keeps (sym w.writer-is) c.lines.invariant.tied
     ] in
     g.W.ByteSink.sink.keeps_more _ _ _ tied c.give_up.ensures.keeps
