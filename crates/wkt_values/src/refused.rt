@@ -118,23 +118,8 @@ fn message_here<T: WktNum>(machine: Machine, tokens: &mut PeekableTokens<'_, T>)
 }
 
 /// The message after so many parentheses had to close. Each takes a token.
-#[inline(always)]
-fn close<T: WktNum>(message: Message, parens: usize, tokens: &mut PeekableTokens<'_, T>) -> Message
-    ensures message { (result, rest tokens.new) ≡ closings T.read parens message (rest tokens.old) }
-    ensures advances { Advances tokens.old tokens.new }
-{
-    if parens == 0 {
-        return message;
-    }
-    close_outlined(message, parens, tokens)
-}
-
 #[inline(never)]
-fn close_outlined<T: WktNum>(
-    message: Message,
-    parens: usize,
-    tokens: &mut PeekableTokens<'_, T>,
-) -> Message
+fn close<T: WktNum>(message: Message, parens: usize, tokens: &mut PeekableTokens<'_, T>) -> Message
     ensures message { (result, rest tokens.new) ≡ closings T.read parens message (rest tokens.old) }
     ensures advances { Advances tokens.old tokens.new }
 {

@@ -1,7 +1,7 @@
 use Rattle.std.proofs.Common.{◌≡◌}
 use Rattle.wkt_read.specs.Table.{closings}
 use Rattle.wkt_read.specs.Stream.{Advances, rest}
-use Rattle.wkt_values.proofs.refused.close_outlined.Given as goal
+use Rattle.wkt_values.proofs.refused.close.Given as goal
 
 abbrev pub invariant-parens : goal.invariant-parens
 invariant-parens g l =

@@ -3,7 +3,7 @@ use Rattle.std.proofs.Common.{◌-◌, ◌∙◌, arith}
 use Rattle.wkt_read.specs.Stream.{rest}
 use Rattle.wkt_read.specs.Peeks.{found}
 use Rattle.wkt_values.proofs.Reading.{advances_then, advances_one, closes_one, first_taken}
-use Rattle.wkt_values.proofs.refused.close_outlined.Goals as goal
+use Rattle.wkt_values.proofs.refused.close.Goals as goal
 
 pub parens-preserved : goal.parens-preserved
 parens-preserved g c =
