@@ -1,7 +1,7 @@
 -- What a flat tree holds of what has grown, also where it is lent, the flat value that it stands for, and what a source and
 -- a text are read as.
 use Rattle.std.proofs.Common.{refl, sym, subst, inl, inr}
-use Rattle.std.specs.Prelude.{List, [], ◌∷◌, ◌++◌, map, Option, Some, None, Bool, true, false, ◌||◌, ◌≡◌, ◌⊎◌, IfSome, Vec, ℕ, Result, Ok, Err}
+use Rattle.std.specs.Prelude.{List, [], ◌∷◌, ◌++◌, map, Option, Some, None, Bool, true, false, ◌||◌, ◌≡◌, ◌⊎◌, IfSome, Vec, ℕ, Result, Ok, Err, IfOk}
 use Rattle.std.specs.declared.alloc.Global.{Global}
 use Rattle.std.specs.Borrow.{MutBor}
 use Rattle.wkt_access.specs.Values.{Value, Values}
@@ -26,7 +26,10 @@ use Rattle.wkt_machine.specs.Makers.{Maker}
 use Rattle.wkt_flat_read.specs.declared.flat_builder.FlatBuilder.{FlatBuilder}
 use Rattle.wkt_convert.specs.declared.flattened.Found.TheVariants as found
 use Rattle.wkt_values.specs.declared.tree.Ended.TheVariants as ended
-use Rattle.wkt_read.specs.Answered.{IsFront}
+use Rattle.wkt_read.specs.Answered.{IsFront, HasBadNumber, OnText, OnMessage}
+use Rattle.wkt_read.specs.Front.{HasNoFront}
+use Rattle.wkt_read.specs.Items.{bad_number}
+use Rattle.wkt_read.specs.Refusal.{IsTextRefused, IfText}
 use Rattle.wkt_read.specs.declared.error.ReadError.{ReadError}
 use Rattle.wkt_read.specs.declared.error.ReadError.TheVariants.{Text, Memory}
 use Rattle.wkt_values.specs.Values.{IsRead}
@@ -296,3 +299,10 @@ module _ {N : Type 0} (read : List ℕ → Option N) (E : Coord N → Coord N �
   -- It is the flat value of the text's front.
   abbrev pub IsFlatFront : List ℕ → Flattened N → Type 0
   IsFlatFront text f = (k : Tree N) × IsFront read text k × IsFlattened E k f
+
+  -- That, or why there is none.
+  pub record AnswersFlatText (text : List ℕ) (answer : Result (Flattened N) ReadError) : Type 0 where
+    pub found : IfOk answer (IsFlatFront text)
+    pub no_front : OnText answer (HasNoFront read text)
+    pub bad : OnMessage answer bad_number (HasBadNumber read text)
+    pub refusal : IfText answer (λ said. IsTextRefused read text said)

@@ -1,11 +1,6 @@
 //! The geometry at the front of a text, as a flat value.
-ghost use Rattle.std.specs.Prelude.{IfOk};
 ghost use Rattle.wkt_flat.specs.Equal.{coord_eq};
-ghost use Rattle.wkt_read.specs.Answered.{HasBadNumber, OnText, OnMessage};
-ghost use Rattle.wkt_read.specs.Front.{HasNoFront};
-ghost use Rattle.wkt_read.specs.Items.{bad_number};
-ghost use Rattle.wkt_read.specs.Refusal.{IsTextRefused, IfText};
-ghost use Rattle.wkt_flat_read.specs.Trees.{AnswersFlat, IsFlatFront};
+ghost use Rattle.wkt_flat_read.specs.Trees.{AnswersFlat, AnswersFlatText};
 
 use crate::flat_builder::FlatBuilder;
 use crate::tree::FlatTree;
@@ -47,10 +42,7 @@ fn answer_outlined<T: WktNum>(grown: &mut FlatTree<T>) -> Result<Flattened<T>, R
 /// `Text` where no beginning of the text is a geometry, with what was found amiss; `Memory` where memory ran out.
 #[inline(always)]
 pub fn read_text<T: WktNum>(alloc: Global, text: &str) -> Result<Flattened<T>, ReadError>
-    ensures found { IfOk result (IsFlatFront T.read (coord_eq T.eq) text.now) }
-    ensures no_front { OnText result (HasNoFront T.read text.now) }
-    ensures bad { OnMessage result bad_number (HasBadNumber T.read text.now) }
-    ensures refusal { IfText result (λ said. IsTextRefused T.read text.now said) }
+    ensures { AnswersFlatText T.read (coord_eq T.eq) text.now result }
 {
     // A text of no bytes, as of a blank cell, is refused where the call stands.
     if text.is_empty() {
@@ -66,10 +58,7 @@ pub fn read_text<T: WktNum>(alloc: Global, text: &str) -> Result<Flattened<T>, R
 /// The geometry at the front of any text, as a flat value, by the machine. Outlined: only this path zeroes the tree.
 #[inline(never)]
 fn front_of<T: WktNum>(alloc: Global, text: &str) -> Result<Flattened<T>, ReadError>
-    ensures found { IfOk result (IsFlatFront T.read (coord_eq T.eq) text.now) }
-    ensures no_front { OnText result (HasNoFront T.read text.now) }
-    ensures bad { OnMessage result bad_number (HasBadNumber T.read text.now) }
-    ensures refusal { IfText result (λ said. IsTextRefused T.read text.now said) }
+    ensures { AnswersFlatText T.read (coord_eq T.eq) text.now result }
 {
     let source = ByteCursor::<'_, false>::new(text.as_bytes(), 0);
     let mut tree = FlatTree::new(alloc);

@@ -1,12 +1,5 @@
 //! The geometry at the front of a text, as a value.
-ghost use Rattle.std.specs.Prelude.{◌≤◌, ◌<◌, length, IfOk};
-ghost use Rattle.std.specs.Result.{IsOk};
-ghost use Rattle.std.specs.Str.{IsCharBoundary};
-ghost use Rattle.wkt_types.specs.Tree.{tree};
-ghost use Rattle.wkt_read.specs.Answered.{IsFrontTo, HasBadNumber, OnText, OnMessage};
-ghost use Rattle.wkt_read.specs.Front.{Front, HasNoFront, NeedsNoMemory};
-ghost use Rattle.wkt_read.specs.Items.{bad_number};
-ghost use Rattle.wkt_read.specs.Refusal.{IsTextRefused, IfText};
+ghost use Rattle.wkt_values.specs.Values.{AnswersText};
 
 use crate::tree::{Tree, WktBuilder};
 use crate::value::answer;
@@ -24,14 +17,7 @@ use wkt_types::Wkt;
 /// `Text` where no beginning of the text is a geometry, with what was found amiss; `Memory` where memory ran out.
 #[inline(always)]
 pub fn read_text<T: WktNum>(alloc: Global, text: &str) -> Result<(Wkt<T>, usize), ReadError>
-    ensures found { IfOk result (λ r. IsFrontTo T.read text.now (tree r.0) r.1) }
-    ensures some { IfOk result (λ r. 0 < r.1) }
-    ensures within { IfOk result (λ r. r.1 ≤ length text.now) }
-    ensures boundary { IfOk result (λ r. IsCharBoundary text.now r.1) }
-    ensures no_front { OnText result (HasNoFront T.read text.now) }
-    ensures bad { OnMessage result bad_number (HasBadNumber T.read text.now) }
-    ensures refusal { IfText result (λ said. IsTextRefused T.read text.now said) }
-    ensures free { (v end : _) → Front T.read text.now v end → NeedsNoMemory v → IsOk result }
+    ensures { AnswersText T.read text.now result }
 {
     // A text of no bytes, as of a blank cell, is refused where the call stands.
     if text.is_empty() {
@@ -48,14 +34,7 @@ pub fn read_text<T: WktNum>(alloc: Global, text: &str) -> Result<(Wkt<T>, usize)
 /// here.
 #[inline(never)]
 fn front_of<T: WktNum>(alloc: Global, text: &str) -> Result<(Wkt<T>, usize), ReadError>
-    ensures found { IfOk result (λ r. IsFrontTo T.read text.now (tree r.0) r.1) }
-    ensures some { IfOk result (λ r. 0 < r.1) }
-    ensures within { IfOk result (λ r. r.1 ≤ length text.now) }
-    ensures boundary { IfOk result (λ r. IsCharBoundary text.now r.1) }
-    ensures no_front { OnText result (HasNoFront T.read text.now) }
-    ensures bad { OnMessage result bad_number (HasBadNumber T.read text.now) }
-    ensures refusal { IfText result (λ said. IsTextRefused T.read text.now said) }
-    ensures free { (v end : _) → Front T.read text.now v end → NeedsNoMemory v → IsOk result }
+    ensures { AnswersText T.read text.now result }
 {
     let source = ByteCursor::<'_, false>::new(text.as_bytes(), 0);
     let mut tree = Tree::new(alloc);
