@@ -147,19 +147,19 @@ refused
 POINT(3 4) | "
 
 run "$program" < /
-says "a folder as input" "1 |  | wkt: read fault"
+says "a folder as input" "1 |  | wkt: standard input: Is a directory (os error 21)"
 
 run "$program" <&-
-says "a closed input" "1 |  | wkt: read fault"
+says "a closed input" "1 |  | wkt: standard input: Bad file descriptor (os error 9)"
 
 "$program" < "$dir/one" > /dev/full 2> "$dir/err"
 echo $? > "$dir/status"
 : > "$dir/out"
-says "a full device" "1 |  | wkt: write fault"
+says "a full device" "1 |  | wkt: standard output: No space left on device (os error 28)"
 
 "$program" < "$dir/one" >&- 2> "$dir/err"
 echo $? > "$dir/status"
-says "a closed output" "1 |  | wkt: write fault"
+says "a closed output" "1 |  | wkt: standard output: Bad file descriptor (os error 9)"
 
 rm -f "$dir/pipe"
 mkfifo "$dir/pipe"
@@ -168,13 +168,13 @@ mkfifo "$dir/pipe"
 { sleep 0.3; cat "$dir/one"; } | "$program" > "$dir/pipe" 2> "$dir/err"
 echo "${PIPESTATUS[1]}" > "$dir/status"
 wait
-says "a closed pipe" "1 |  | wkt: write fault"
+says "a closed pipe" "1 |  | wkt: standard output: Broken pipe (os error 32)"
 
 run env INTERRUPT=1 LD_PRELOAD="$dir/calls.so" "$program" < "$dir/one"
-says "an interrupted read isn't tried again" "1 | $2 | wkt: read fault"
+says "an interrupted read isn't tried again" "1 | $2 | wkt: standard input: Interrupted system call (os error 4)"
 
 run env STOP=1 COUNT=1 LD_PRELOAD="$dir/calls.so" "$program" < "$dir/three"
-says "an interrupted write isn't tried again" "1 |  | wkt: write fault
+says "an interrupted write isn't tried again" "1 |  | wkt: standard output: Interrupted system call (os error 4)
 1 writes"
 
 env SHORT=1 LD_PRELOAD="$dir/calls.so" "$program" < "$dir/three" > "$dir/whole" 2> "$dir/err"

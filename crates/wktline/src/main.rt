@@ -11,13 +11,12 @@ use wkt_lines::{RunError, run};
 fn main(rt: HostRuntime) -> ExitCode {
     let mut reader = Counted::new(rt.stdin());
     let mut writer = Counted::new(rt.stdout());
-    let message = match run(rt.alloc(), &mut reader, &mut writer) {
-        Ok(()) => return ExitCode::SUCCESS,
-        Err(RunError::Read(_)) => "wkt: read fault",
-        Err(RunError::Write(_)) => "wkt: write fault",
-        Err(RunError::Memory(_)) => "wkt: out of memory",
-    };
     // If standard error fails too, the status still reports it.
-    let _ = eprintln!(rt; "{message}");
+    let _ = match run(rt.alloc(), &mut reader, &mut writer) {
+        Ok(()) => return ExitCode::SUCCESS,
+        Err(RunError::Read(error)) => eprintln!(rt; "wkt: standard input: {error}"),
+        Err(RunError::Write(error)) => eprintln!(rt; "wkt: standard output: {error}"),
+        Err(RunError::Memory(_)) => eprintln!(rt; "wkt: out of memory"),
+    };
     ExitCode::from(1)
 }
