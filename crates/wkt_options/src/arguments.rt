@@ -262,7 +262,7 @@ fn set(
         Flag::Max => options.max = max(alloc, value)?,
         Flag::Whole => options.ends = ends(options.ends, Ends::File)?,
         Flag::Null => options.ends = ends(options.ends, Ends::Nul)?,
-        Flag::Refused => options.refused = Some(copy(alloc, value)?),
+        Flag::Refused => options.refused = Some(refused(alloc, value)?),
         Flag::Front => options.front = true,
         Flag::SkipBlank => options.skip_blank = true,
         Flag::Part => options.part = Some(part(alloc, value)?),
@@ -292,6 +292,16 @@ fn dialects(alloc: Global, value: &str) -> Result<Dialects, UsageError> {
     match dialects_named(value) {
         Some(dialects) => Ok(dialects),
         None => Err(UsageError::Dialect(copy(alloc, value)?)),
+    }
+}
+
+/// A word that stands on a line of its own.
+fn refused(alloc: Global, value: &str) -> Result<String, UsageError> {
+    let word = copy(alloc, value)?;
+    if value.contains('\n') {
+        Err(UsageError::Refused(word))
+    } else {
+        Ok(word)
     }
 }
 

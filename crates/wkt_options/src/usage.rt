@@ -75,6 +75,8 @@ pub enum UsageError {
     Max(String),
     #[error("--format takes text, json or tsv, not {0}")]
     Format(String),
+    #[error("--refused takes a word without a line feed, not {0}")]
+    Refused(String),
     #[error("--part takes a part of so many, as 2/4, not {0}")]
     Part(String),
     #[error("--part goes with lines of FILEs")]
