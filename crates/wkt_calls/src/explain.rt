@@ -11,7 +11,7 @@ use crate::status::{ACCEPTED, NOT_TEXT};
 use wkt_explain::{Expected, Hint, Problem, check_padded};
 use wkt_num::Places;
 
-/// The number of what could stand there.
+/// The number of what could come next.
 pub fn number_of_expected(expected: Expected) -> u32
     ensures { result ≡ expected_number expected }
 {

@@ -228,7 +228,7 @@ module _ {N : Type 0} (read : List ℕ → Option N) (num : N → List ℕ) wher
         written = ap (take after.len) tie ∙ ap (λ (w : EventsWritten). w.bytes) b.written ∙ text;
       }
 
-  -- it stands behind what stood there
+  -- it stands behind what was there
   pub wrote-behind : (t : List ℕ) (at k end n : ℕ) (old back new : List ℕ) → at ≤ length old → n ≤ length new → HasWritten read num t 0 back new end n → HasWritten read num t at old (put_mid at k old new) end (at + n)
   wrote-behind t at k end n old back new within long h = record {
     value = h.value;

@@ -147,7 +147,7 @@ pub record HasSpace {P : Type 0} (p : TextBuilder P) (text : List ℕ) (at : ℕ
   pub some : p.len + 63 ≤ length p.out.now
   pub run : (end : ℕ) → IsRunEnd text at end → at < end → IsTrue (starts_number (get_or text at 0)) → p.len + number_cost (without_plus (slice_range text at end)) + 63 ≤ length p.out.now
 
--- A number stands there up to `end`, and its text was written and is UTF-8, unless the text builder is stuck: then the text is long. Room for what follows is left.
+-- The number at this place ends at `end`, and its text was written and is UTF-8, unless the text builder is stuck: then the text is long. Room for what follows is left.
 pub record Numbered {P N : Type 0} (read : List ℕ → Option N) (num : N → List ℕ) (text : List ℕ) (at : ℕ) (before after : TextBuilder P) (end : ℕ) : Type 0 where
   pub number : N
   pub there : IsNumberAt read text at end number
@@ -156,7 +156,7 @@ pub record Numbered {P N : Type 0} (read : List ℕ → Option N) (num : N → L
   pub stuck : length after.out.now < length before.out.now → number_cost (without_plus (slice_range text at end)) ≤ length (num number)
   pub room : (m : ℕ) → m ≤ 2 * (length text - end) + 1 → before.len + m + number_cost (without_plus (slice_range text at end)) + 63 ≤ length before.out.now → after.len + m + 64 ≤ length after.out.now
 
--- The number that stands there was put, and its end is returned; or none stands there, and the text builder is as it was.
+-- The number at this place was put, and its end is returned; or there is none, and the text builder is as it was.
 pub record PutsNumber {P N : Type 0} (read : List ℕ → Option N) (num : N → List ℕ) (text : List ℕ) (at : ℕ) (before after : TextBuilder P) (end : Option ℕ) : Type 0 where
   pub some : IfSome end (Numbered read num text at before after)
   pub none : IfNone end (NoNumber read text at)

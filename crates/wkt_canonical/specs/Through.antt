@@ -58,7 +58,7 @@ WritesOrSays read num text old new (Ok (Ok w)) = IsCanonicalTo read num text (ta
 WritesOrSays read num text old new (Ok (Err m)) = HasNoFront read text × IsRefusedWith read text m
 WritesOrSays read num text old new (Err e) = (length old < 2 * length text + 65) ⊎ HasLongText read num
 
--- What holds where it stands there.
+-- What holds of the text, where one was written.
 abbrev pub IfWritten : Result (Result TextWritten Message) NoRoom → (TextWritten → Type 0) → Type 0
 IfWritten (Ok (Ok w)) P = P w
 IfWritten (Ok (Err m)) P = Unit {0}

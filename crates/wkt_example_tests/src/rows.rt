@@ -129,7 +129,7 @@ fn empty_or_none(alloc: Global, text: &str) -> Result<String, AllocError> {
     }
 }
 
-/// The canonical text, or where the text is refused and what could stand there.
+/// The canonical text, or where the text is refused and what could come next.
 fn answered(alloc: Global, text: &str) -> Result<String, AllocError> {
     match answer_to::<Number>(alloc, text)? {
         Answer::Text(text) => Ok(text),

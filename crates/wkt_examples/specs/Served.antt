@@ -15,7 +15,7 @@ use Rattle.wkt.specs.Expected.{Expected}
 
 -- What a text is answered with.
 
--- Its one text, or where it is refused and what could stand there.
+-- Its one text, or where it is refused and what could come next.
 abbrev pub IsRefusalAnswer : {N : Type 0} → (List ℕ → Option N) → (N → List ℕ) → List ℕ → Answer → Type 0
 IsRefusalAnswer read num text (Text tidy) = IsCanonical read num text (string_bytes tidy)
 IsRefusalAnswer read num text (Refused start end expected) = IsRefusedAt read text start end expected

@@ -1,4 +1,4 @@
-//! A service that answers a text with its one text, or with where it is refused and what could stand there.
+//! A service that answers a text with its one text, or with where it is refused and what could come next.
 ghost use Rattle.std.specs.Prelude.{IfOk};
 ghost use Rattle.wkt.specs.Explained.{IsRefusedAt};
 ghost use Rattle.wkt.specs.Front.{HasNoFront};
@@ -12,7 +12,7 @@ use wkt::{Expected, Explanation, ReadError, WktNum, canonical_text, explain};
 pub enum Answer {
     /// The one text of the geometry at its front.
     Text(String),
-    /// From which byte to which the text is refused, and what could stand there.
+    /// From which byte to which the text is refused, and what could come next.
     Refused(usize, usize, Expected),
 }
 

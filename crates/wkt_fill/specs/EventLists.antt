@@ -155,7 +155,7 @@ tell_all (e ∷ es) w = tell_all es (tell e w)
 
 -- What is in the rooms.
 
--- A list stands at the front of a room, behind it what stood there before, and so many is its length. Where the room is too short, its length is all that is known.
+-- A list stands at the front of a room, behind it what was there before, and so many is its length. Where the room is too short, its length is all that is known.
 pub record IsAtFront {A : Type 0} (old : List A) (list : List A) (now : List A) (count : ℕ) : Type 0 where
   pub long : length now ≡ length old
   pub counted : count ≡ length list

@@ -71,7 +71,7 @@ module _ {N : Type 0} (read : List ℕ → Option N) (num : N → List ℕ) (fro
     pub is : IsCanonicalTo read num line answer end
     pub whole : EndsAll front line end
 
-  -- That answer was written behind what stood there, with a line feed.
+  -- That answer was written behind what was there, with a line feed.
   pub record AnswersWhole (rest old new : List ℕ) : Type 0 where
     pub answer : List ℕ
     pub is : IsWholeAnswer (before_feed rest) answer

@@ -326,7 +326,7 @@ module _ (text rest : List ℕ) (k : GeometryType) (e : named_in kind_words (str
       sym (take-map to_ascii_uppercase (length text - length rest + j) text) ∙ ap (λ u. take (length text - length rest + j) u) front.1 ∙ ap (λ m. take m (front.0 ++ str_to_ascii_uppercase rest)) n
       ∙ take-append-add front.0 (str_to_ascii_uppercase rest) j ∙ ap (λ u. front.0 ++ u) (take-map to_ascii_uppercase j rest)
 
-  -- the word stands there, whatever is said of the letters behind it
+  -- the word comes next, whatever is said of the letters behind it
   stands : (j : ℕ) (d : Option Dimension) → j ≤ length rest → AllByRecursion IsCapital (str_to_ascii_uppercase (take j rest)) → Names (Some (k, d)) (kind_word (take (length text - length rest + j) text)) → BeginsWith text k d (length text - length rest + j)
   stands j d within capitals names =
       let long = front-long in
@@ -368,7 +368,7 @@ module _ (text rest : List ℕ) (k : GeometryType) (e : named_in kind_words (str
       by_test false h = h
       by_test true h = absurd (not-both (sym other ∙ ap (begins (codes "LINEARRING")) whole ∙ begins-more (codes "LINEARRING") (front.0 ++ v) (str_to_ascii_uppercase (drop j rest)) h))
 
-  -- no longer word stands there, where no dimension goes on with more letters, or none is joined to the word
+  -- no longer word comes next, where no dimension goes on with more letters, or none is joined to the word
   pub front-longest : (at : ℕ) → length text - length rest ≤ at → ((i : ℕ) → at - (length text - length rest) < i → i ≤ length rest → (begins (codes "LINEARRING") (str_to_ascii_uppercase text) ≡ true) ⊎ (dim_word (take i rest) ≡ None))
       → (j : ℕ) → at < j → j ≤ length text → kind_word (take j text) ≡ None
   unfolding kind_word dim_word

@@ -17,7 +17,7 @@ abbrev Tells : Bool → Type 0 → Type 0
 Tells true P = P
 Tells false P = P → ⊥
 
--- whether an opening parenthesis could stand there, the word POINT, the word Z, a comma, a closing parenthesis
+-- whether an opening parenthesis could come next, the word POINT, the word Z, a comma, a closing parenthesis
 abbrev open_at : Expected → Bool
 open_at expected.Dimension = true
 open_at expected.Opening = true

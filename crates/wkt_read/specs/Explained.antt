@@ -91,7 +91,7 @@ module _ {N : Type 0} (read : List ℕ → Option N) where
     pub none : NoneBegins read lexemes
     pub could_stand : IsExpectedAfter lexemes e
 
-  -- Where a text is refused, and what could stand there: at the lexeme that is too much, or where the text ends.
+  -- Where a text is refused, and what could come next: at the lexeme that is too much, or where the text ends.
   abbrev pub IsRefusedAt : List ℕ → ℕ → ℕ → Expected → Type 0
   IsRefusedAt text start end e = IsTooMuch text start end e ⊎ IsTooShort text start end e
 

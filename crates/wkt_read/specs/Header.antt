@@ -156,7 +156,7 @@ LendsPrefix (lent.UnsupportedPrefix prefix) header = prefix.now ≡ header
 LendsPrefix lent.NoSpaceBeforeEmpty header = Unit {0}
 LendsPrefix lent.NoOpenParen header = Unit {0}
 
--- If a prefix is lent, it is the header of a text as it stands there, if the text has one.
+-- If a prefix is lent, it is the header of a text as written, if the text has one.
 abbrev pub LendsPrefixOf : HeaderError → Option Cut → Type 0
 LendsPrefixOf e None = e ≡ lent.NoOpenParen
 LendsPrefixOf e (Some c) = LendsPrefix e c.header

@@ -49,7 +49,7 @@ module _ {N : Type 0} (read : List ℕ → Option N) where
   at_number (Some x) e = at_other e
   at_number None e = at_bad e
 
-  -- The message of the place alone, by the first of the lexemes that stand there.
+  -- The message of the place alone, by the first of the lexemes there.
   abbrev pub at_place : Expected → List Lexeme → Message
   at_place e [] = at_end e
   at_place e (lex.Word w ∷ r) = at_word e w
@@ -94,7 +94,7 @@ module _ {N : Type 0} (read : List ℕ → Option N) where
   closings zero m ls = (m, ls)
   closings (suc n) m ls = closings n (closing m ls).0 (closing m ls).1
 
-  -- The message by what is expected where lexemes are refused, how many parentheses are open there, and the lexemes that stand there; and those of them that are left.
+  -- The message by what is expected where lexemes are refused, how many parentheses are open there, and the lexemes there; and those of them that are left.
   abbrev pub reports : Expected → ℕ → List Lexeme → Message × List Lexeme
   reports e parens ls = closings parens (at_place e ls) (left_at e ls)
 

@@ -33,7 +33,7 @@ pub enum Expected {
 }
 
 impl Expected {
-    /// What could stand there, in words.
+    /// What could come next, in words.
     fn words(self) -> &'static str
         ensures { result.now ≡ words self }
     {

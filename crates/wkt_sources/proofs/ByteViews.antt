@@ -198,7 +198,7 @@ module _ {N : Type 0} {n : ℕ} (feed : Bool) where
     keeps = λ j k. (ap (λ x. x.now) (sym text) ∙ k.0, legible k.1);
   }
 
-  -- a lexeme that stands there is taken
+  -- the lexeme at this place is taken
   pub skips_lexeme : (s t : ByteCursor n) (l : Lexeme) → TakesOne feed s.text.now s.at l t.at → t.text ≡ s.text → Skips {N = N} (bytes_view feed) s t
   skips_lexeme s t l takes text = record {
     lexeme = record { lexeme = l; end = t.at };

@@ -1,4 +1,4 @@
--- Where a drive over a text ends its front does, and which value stands there.
+-- Where a drive over a text ends its front does, and which value it has.
 use Rattle.std.proofs.Common.{◌≡◌, ℕ, List, [], ◌∷◌, ◌++◌, sym, refl, ap, ◌∙◌, subst, append_assoc, append-nil, Option, Some, None, false, true}
 use Rattle.wkt_num.specs.Bytes.{Lexeme}
 use Rattle.wkt_access.specs.Values.{Value}
@@ -89,7 +89,7 @@ module _ {N : Type 0} (read : List ℕ → Option N) where
 -- What the machine took off a source.
 
 module _ {N S B : Type 0} (read : List ℕ → Option N) (view : View N S) (maker : Maker N B) (s : S) (b : B) (to : Progress S B) where
-  -- the value that stands there, whose events were made
+  -- the front's value, whose events were made
   pub taken : GoesFrom read view maker s b to → is_over (state_of to.machine) ≡ true → (v : Value N) × TakesValue read view s v to.source × maker.makes b (events v) to.builder
   taken (m, from, h) o =
       let ls = lexemes_of (h.given ++ (h.last ∷ [])) in

@@ -15,7 +15,7 @@ use Rattle.wkt_machine.specs.declared.part.Axis.{Axis}
 use Rattle.wkt_machine.specs.declared.part.Axis.TheVariants as axis
 use Rattle.wkt_machine.specs.declared.machine.LexemeKind.TheVariants as seen
 
--- The number that stands there is a lexeme, whether or not it is read.
+-- The number at this place is a lexeme, whether or not it is read.
 number_there : (feed : Bool) (text : List ℕ) (from end : ℕ) → IsRunEnd text from end → from < end → IsTrue (starts_number (get_or text from 0)) → TakesOne feed text from (Num (without_plus (slice_range text from end))) end
 number_there feed text from end e order begins = takes-number {N = Unit {0}} (λ run. Some tt) feed text from end tt (record { order = order; ends = e; begins = begins; reads = refl })
 
@@ -24,7 +24,7 @@ module _ {N B : Type 0} (maker : Maker N B) {n : ℕ} (feed : Bool) where
       → need (remaining_spanned feed s.text.now s.at) ≡ number_cost (without_plus (slice_range s.text.now at end)) + 1 + need (remaining_spanned feed s.text.now end)
   spent_there s at end same e order begins = ap need (same ∙ (number_there feed s.text.now at end e order begins).next)
 
-  -- Room for the number that stands there, behind white space or none.
+  -- Room for the number at this place, behind white space or none.
   pub fits_number : (s : ByteCursor n) (b : B) (at : ℕ) → remaining_spanned feed s.text.now s.at ≡ remaining_spanned feed s.text.now at → HasNumberRoom (bytes_view feed) maker s b → FitsNumber maker b s.text.now at
   fits_number s b at same h = record {
     some = maker.less b 0 (need (remaining_spanned feed s.text.now s.at) - 1) (omega arith) h.fits;

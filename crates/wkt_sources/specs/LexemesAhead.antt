@@ -46,7 +46,7 @@ pub record EndsWord (feed : Bool) (text : List ℕ) (at end : ℕ) : Type 0 wher
   pub stops : class_of (get_or text at 0) ≢ Run
   pub opens : TakesOne feed text at Open end
 
--- Such a word stands there, and the parenthesis behind it.
+-- Such a word comes next, and the parenthesis behind it.
 pub record StandsHead (feed : Bool) (text : List ℕ) (at : ℕ) (part : Part) (end : ℕ) : Type 0 where
   pub word : List ℕ
   pub mid : ℕ
@@ -56,7 +56,7 @@ pub record StandsHead (feed : Bool) (text : List ℕ) (at : ℕ) (part : Part) (
 
 -- Headers in bytes, in any form. Only private contracts cite this file.
 
--- The parenthesis or EMPTY stands there, and ends there.
+-- The parenthesis or EMPTY comes next, and ends there.
 abbrev pub EndsHeader : Bool → List ℕ → ℕ → AfterHeader → ℕ → Type 0
 EndsHeader feed text at then.Inside end = TakesOne feed text at Open end
 EndsHeader feed text at then.Outside end = (w : List ℕ) × TakesOne feed text at (Word w) end × (is_empty_word w ≡ true)
@@ -68,7 +68,7 @@ EndsDimension feed text at then.Dimension end = ⊥
 EndsDimension feed text at then.Opening end = end ≡ at
 EndsDimension feed text at t end = EndsHeader feed text at t end
 
--- A dimension stands there, and behind it what stands there.
+-- A dimension comes next, and `t` behind it.
 abbrev pub NamesDimension : Bool → List ℕ → ℕ → Dimension → AfterHeader → ℕ → Type 0
 NamesDimension feed text at dim t end = (w : List ℕ) × (mid : ℕ) × TakesOne feed text at (Word w) mid × (dim_word w ≡ Some dim) × EndsDimension feed text mid t end
 
@@ -82,7 +82,7 @@ abbrev pub EndsWords : Bool → List ℕ → ℕ → Option Dimension → Dimens
 EndsWords feed text at None dim t end = EndsKind feed text at dim t end
 EndsWords feed text at (Some joined) dim t end = (dim ≡ joined) × EndsDimension feed text at t end
 
--- The word of a kind stands there, and behind it what stands there.
+-- The word of a kind comes next, and `t` behind it.
 pub record StandsHeader (feed : Bool) (text : List ℕ) (at : ℕ) (part : Part) (dim : Dimension) (t : AfterHeader) (end : ℕ) : Type 0 where
   pub word : List ℕ
   pub row : KindWord

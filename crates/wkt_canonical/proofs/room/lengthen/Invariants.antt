@@ -1,4 +1,4 @@
--- What stood there still stands at the front, until the room is as long as asked for.
+-- What was there is still at the front, until the room is as long as asked for.
 use Rattle.std.proofs.Common.{◌≡◌, ◌<◌, ◌≤◌, ◌-◌, take}
 use Rattle.std.specs.Prelude.{vec_len}
 use Rattle.wkt_canonical.proofs.room.lengthen.Given as goal

@@ -1,4 +1,4 @@
--- The word stands there, and the parenthesis or EMPTY behind it.
+-- The word comes next, and the parenthesis or EMPTY behind it.
 use Rattle.std.proofs.Common.{◌+◌, ◌<◌, ◌≡◌, ◌≤◌, Bool, List, arith, drop, get_or, inl, length, refl, subst, sym, take, true, ℕ}
 use Rattle.wkt_access.specs.declared.dimensions.Dimension.TheVariants.{XY}
 use Rattle.wkt_num.specs.Bytes.{Word}

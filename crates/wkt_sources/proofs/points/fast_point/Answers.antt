@@ -1,4 +1,4 @@
--- The head, two numbers and a parenthesis stand there.
+-- The head, two numbers and a parenthesis come next.
 use Rattle.std.proofs.Common.{arith}
 use Rattle.std.proofs.lemmas.Bool.{OnTrue_at}
 use Rattle.wkt_sources.proofs.ByteSteps.{point_name, point-held, shuts}

@@ -10,7 +10,7 @@ use Rattle.wkt_machine.proofs.RoomForRest.{bare_after, bare_room, fits_seen, val
 use Rattle.wkt_sources.proofs.TokenSteps.{numbers, unread}
 use Rattle.wkt_sources.proofs.tokens.TokenSourceSource.bare.Goals as goal
 
--- tokens where the stream stands there
+-- tokens where the stream is at that place
 abbrev there_in : {T : Type 0} → TokenSource T → Standing → TokenSource T
 there_in s now = record s { tokens = record s.tokens { now = now } }
 

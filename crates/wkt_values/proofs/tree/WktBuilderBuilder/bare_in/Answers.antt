@@ -1,4 +1,4 @@
--- The number that stands there, in a parenthesis.
+-- The number at this place, in a parenthesis.
 use Rattle.wkt_values.proofs.tree.WktBuilderBuilder.bare_in.Goals as goal
 
 pub returns-in-Some-clause-some : goal.returns-in-Some-clause-some

@@ -1,4 +1,4 @@
--- The number that stands there.
+-- The number at this place.
 use Rattle.std.proofs.Common.{false, refl}
 use Rattle.wkt_machine.specs.Events.{Event}
 use Rattle.wkt_values.proofs.TreeHolds.{one_event}
