@@ -123,19 +123,17 @@ export class Reading {
     let seen = 0; // so much of a line has no line feed
     for (let length = PIECE; ; length *= 16) {
       const part = new Uint8Array(await this.#file.slice(begin, begin + Math.min(length, LONGEST + PIECE)).arrayBuffer());
-      this.#read = begin + part.length;
-      const ends = this.#read === this.#file.size;
+      const ends = begin + part.length === this.#file.size;
       const feed = whole ? -1 : seen > 0 ? part.indexOf(FEED, seen) : ends ? part.length - 1 : part.lastIndexOf(FEED);
       const to = feed >= 0 ? feed + 1 : ends ? part.length : 0;
-      if (to > 0 || this.stopping) {
-        this.#read = begin + to;
-        return part.subarray(0, to);
-      }
+      this.#read = begin + (to || part.length);
+      // One call answers a long line, and says nothing until then: so each of the few times that it is read is said.
+      if (to === 0 || seen > 0) this.#tell(false, 0);
+      if (to > 0 || this.stopping) return part.subarray(0, to);
       if (part.length > LONGEST) throw new Unreadable(`A line behind line ${this.#count.lines} is longer than ${LONGEST >> 20} MB. The command wkt reads it.`);
       // Engines put faster code in place between calls alone, and one call answers a long line. So its front is read before.
       if (seen === 0) this.#wkt.reads(part.subarray(0, WARM), this.#asked.reading);
       seen = part.length;
-      this.#tell(false);
     }
   }
 
@@ -202,9 +200,9 @@ export class Reading {
   }
 
   /** Says how far it is: often in numbers, and less often what is listed and drawn. */
-  #tell(last) {
+  #tell(last, often = TOLD) {
     const now = performance.now();
-    if (!last && now - this.#told < TOLD) return;
+    if (!last && now - this.#told < often) return;
     this.#told = now;
     const { size } = this.#file;
     const said = { done: last && !this.stopping ? size : this.#done, read: this.#read, size, seconds: (now - this.#started) / 1000, ...this.#count,

@@ -149,6 +149,11 @@ class Page(unittest.TestCase):
             time.sleep(0.02)
         return it[1].replace("\u200b", "")
 
+    def read(self, seconds=120):
+        """What the page says of a file, as soon as it has read it, or can't."""
+        self.wait(lambda: not self.script("return document.getElementById('stop').checkVisibility()"), seconds)
+        return self.said("say")
+
     def type(self, text):
         """Types a text, key by key, in place of what stands in the field."""
         self.field().send_keys(Keys.CONTROL, "a")
@@ -249,8 +254,9 @@ class Page(unittest.TestCase):
                     "data": {"items": [], "files": list(paths), "dragOperationsMask": 1},
                 },
             )
-            if kind == "dragOver":
-                self.wait(lambda: self.script("return document.body.classList.contains('dropping')"))
+            # Once it is dropped the page has begun to read it.
+            over = kind != "drop"
+            self.wait(lambda over=over: self.script("return document.body.classList.contains('dropping')") == over)
 
     def file(self, text, name="texts.wkt"):
         path = os.path.join(self.folder.name, name)

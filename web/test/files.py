@@ -1,4 +1,5 @@
 """Files that are dropped on the page."""
+import math
 import os
 import random
 import re
@@ -9,20 +10,32 @@ from selenium.webdriver.common.by import By
 from selenium.webdriver.support.ui import Select
 
 
-# Makes doubles of the lines of a text, and remembers them. Its middle comes so many times, each with its number for #.
-PLAIN = """
-const seen = new Set();
-const [begin, middle, times, end] = window.text;
-const all = Array.from({ length: times }, (_, k) => middle.replaceAll('#', k)).join('');
-for (const line of (begin + all + end).split('\\n')) {
-  if (line.match(/[-0-9.]+/g)?.map(Number).length) seen.add(line);
-}
-return seen.size;
+# Puts a text together: its middle comes so many times, each with its number for #.
+TEXT = """
+const [begin, middle, times, end] = arguments[0];
+window.text = begin + Array.from({ length: times }, (_, k) => middle.replaceAll('#', k)).join('') + end;
 """
-# How many times the processor time of that a file of 8 MB may take, also on a busy machine. It was 0.4 to 2.2 times.
-PLAINS = 4
-# How often a larger one is read on an idle machine, until it is read fast enough: other guests slow the host down.
-TRIES = 20
+# Makes doubles of the numbers in it. It allocates nothing, so that it takes as long each time.
+PLAIN = """
+const { text } = window;
+let [sum, value, scale] = [0, 0, 0];
+for (let i = 0; i < text.length; i++) {
+  const c = text.charCodeAt(i);
+  if (c >= 48 && c < 58) {
+    value = value * 10 + c - 48;
+    scale *= 10;
+  } else if (c === 46) {
+    scale = 1;
+  } else {
+    sum += value / (scale || 1);
+    [value, scale] = [0, 0];
+  }
+}
+return sum;
+"""
+# How often a large file is read until it is read fast enough, and how often the plain script runs: the least counts, since
+# other programs and other guests of the host slow both down.
+TRIES, PLAINS = 20, 5
 
 
 class Files(Page):
@@ -50,7 +63,7 @@ class Files(Page):
         self.assertIn("line 3, column 8", self.said("file-out"))
         # A line feed far behind ends a line, too: then a carriage return is white space.
         self.drop(self.file(f"LINESTRING(1 2,\r{'3 4,' * 80000}5 6)\r\nPOINT(1 2)\r\n"))
-        self.wait(lambda: self.said("say") == "All 2 lines accepted")
+        self.assertEqual("All 2 lines accepted", self.read())
 
     def test_several_files(self):
         """The first of several is read, and the page says that the others aren't."""
@@ -59,7 +72,7 @@ class Files(Page):
             with self.subTest(size):
                 others = self.file("POINT(3 4)\n", "other.wkt"), self.file("x", "third.wkt")
                 self.drop(self.file("POINT(1 2)\n" * size), *others)
-                self.wait(lambda: "accepted" in self.said("say"))
+                self.assertIn("accepted", self.read())
                 self.assertIn("2 other files that came with it are not read.", self.said("file-out"))
 
     def test_no_text(self):
@@ -81,10 +94,11 @@ class Files(Page):
         self.wait(lambda: "or is it a folder?" in self.said("verdict"))
         path = self.file("POINT(1 2)\n" * 50000)
         self.drop(path)
-        self.wait(lambda: "accepted" in self.said("say"))
+        self.assertIn("accepted", self.read())
         os.unlink(path)
         self.script("document.querySelector('[value=lines]').click()")
-        self.wait(lambda: "Was it changed or removed" in self.said("verdict"))
+        self.assertIn("can’t be read", self.read())
+        self.assertIn("Was it changed or removed", self.said("why"))
 
     def test_file(self):
         """A file of many lines: refusals, repeats, counts, bounds, and the lines that are saved."""
@@ -107,8 +121,7 @@ class Files(Page):
             lines.insert(at, line)
             wanted.insert(at, answer)
         self.drop(self.file("\r\n".join(lines)))
-        self.wait(lambda: "lines refused" in self.said("say"))
-        self.assertEqual(f"4 of {len(lines) - 1:,} lines refused", self.said("say"))
+        self.assertEqual(f"4 of {len(lines) - 1:,} lines refused", self.read())
         self.assertEqual("1 line repeats the geometry of an earlier line.", self.said("why"))
         said = self.said("file-out")
         for words in (
@@ -180,44 +193,49 @@ class Files(Page):
     def test_file_read_again(self):
         self.open()
         self.drop(self.file(f"LINESTRING({'1.25 2,' * 60}3 4)\n" * 1000))
-        self.wait(lambda: self.said("say") == "All 1,000 lines accepted")
+        self.assertEqual("All 1,000 lines accepted", self.read())
         Select(self.by_id("places")).select_by_value("1")
-        self.wait(lambda: self.said("say") == "1,000 of 1,000 lines refused")
+        self.assertEqual("1,000 of 1,000 lines refused", self.read())
         self.driver.find_element(By.CSS_SELECTOR, "input[name=split][value=one] + span").click()
-        self.wait(lambda: self.said("say") == "The text is refused")
+        self.assertEqual("The text is refused", self.read())
 
     def test_long_line(self):
         """Lines before and behind one that is longer than a piece of the file."""
         self.open()
         self.drop(self.file("POINT(1 2)\nLINESTRING(" + "1 2," * 1500000 + "1 2)\nPOINT(3 4)\nPOINT(1 2)\n"))
-        self.wait(lambda: self.said("say") == "All 4 lines accepted")
+        self.assertEqual("All 4 lines accepted", self.read())
         self.assertIn("line 4 = line 1", self.said("file-out"))
 
     def test_one_text_in_a_file(self):
         self.open()
         self.drop(self.file("LINESTRING (\n" + ",\n".join(f"{n} {n}" for n in range(40000)) + ")\n"))
-        self.wait(lambda: "accepted" in self.said("say"))
+        self.assertIn("accepted", self.read())
         self.assertIn("LineString 1", self.said("file-out"))
         self.assertIn("40,000\npoints", self.said("file-out"))
         line = "GEOMETRYCOLLECTION(LINESTRING(" + ",".join(f"{n} {n}" for n in range(20000)) + "))\n"
         self.drop(self.file(line + "POINT(1 2)\n" + line))
-        self.wait(lambda: self.said("say") == "All 3 lines accepted")
+        self.assertEqual("All 3 lines accepted", self.read())
 
     def test_large_file(self):
         """The page stays free while a large file is read, and takes little more than a script that makes doubles."""
         place = random.Random(1)
         pairs = [f"{place.gauss(0, 40):.6f} {place.gauss(0, 20):.6f}#" for _ in range(30000)]
-        # On an idle machine a million points, and a line of 50 MB, and how many seconds they may take.
-        for what, times, most, begin, middle, end in (
-            ("lines", 34, 1.2, "", "".join(f"POINT ({it})\n" for it in pairs), ""),
-            ("one line", 75, 1.5, "LINESTRING (", "".join(f"{it}," for it in pairs), "0 0)\n"),
+        # A million points, and a line of 50 MB. How many seconds they may take on an idle machine, and how many times as
+        # long as the plain script on any: half of what they would take if reading took three times as long.
+        for what, times, most, plains, begin, middle, end in (
+            ("lines", 34, 1.2, 10, "", "".join(f"POINT ({it})\n" for it in pairs), ""),
+            ("one line", 75, 1.5, 6, "LINESTRING (", "".join(f"{it}," for it in pairs), "0 0)\n"),
         ):
             with self.subTest(what):
-                made = begin, middle, times if self.idle else 10, end
-                if self.idle:
-                    self.assertTrue(any(self.large_file(what, made) < most for _ in range(TRIES)))
-                else:
-                    self.assertLess(self.large_file(what, made), PLAINS * self.plain(made))
+                made = begin, middle, times, end
+                if not self.idle:
+                    most = plains * self.plain(made)
+                least = math.inf
+                for _ in range(TRIES):
+                    least = min(least, self.large_file(what, made))
+                    if least < most:
+                        break
+                self.assertLess(least, most)
 
     def large_file(self, what, made):
         """The processor time of the page, in seconds, to read a file."""
@@ -228,7 +246,7 @@ class Files(Page):
             file.write(begin + "".join(middle.replace("#", str(k)) for k in range(times)) + end)
         begun, busy, process = time.time(), self.main_thread(), self.metric("ProcessTime")
         self.drop(path)
-        self.wait(lambda: "ccepted" in self.said("say"), 600)
+        self.assertIn("accepted", self.read(600))
         seconds, busy = time.time() - begun, (self.main_thread() - busy) / 1000
         process = self.metric("ProcessTime") - process
         os.remove(path)
@@ -240,11 +258,16 @@ class Files(Page):
         return process
 
     def plain(self, made):
-        """The processor time of a plain script for the same text."""
-        self.script("window.text = arguments[0]", made)
-        before = self.metric("ProcessTime")
-        self.script(PLAIN)
-        return self.metric("ProcessTime") - before
+        """The least processor time of the plain script for the same text, in seconds."""
+        self.open()
+        self.script(TEXT, made)
+        took = []
+        for _ in range(PLAINS):
+            before = self.main_thread()
+            self.script(PLAIN)
+            took.append((self.main_thread() - before) / 1000)
+        self.note(f"plain: {min(took):.2f} to {max(took):.2f} s")
+        return min(took)
 
     def test_stop(self):
         """What was read before one stopped is shown; a long line is stopped too."""
@@ -264,16 +287,15 @@ class Files(Page):
 
         def stops(parts, behind_lines, said):
             # On a busy machine the worker may be done before the page hears how far it is: then the file is longer.
-            for times in (1, 1, 2, 4):
+            for times in (1, 2, 3):
                 self.open()
                 self.script(stop, [[text, n if n == 1 else n * times] for text, n in parts], behind_lines)
-                self.wait(lambda: re.search("accepted|answered", self.said("say")))
-                if re.match(said, self.said("say")):
+                if re.match(said, self.read()):
                     return
             self.fail(f"not stopped: {self.said('say')}")
 
         # It is stopped when the first part is answered, and when the first part of a line is read.
-        all_lines = "(?!4,000,000|8,000,000|16,000,000)[0-9,]+ lines"
-        stops([["POINT(1 2)\n", 4000000]], False, f"Stopped: All {all_lines} accepted")
+        all_lines = "(?!8,000,000|16,000,000|24,000,000)[0-9,]+ lines"
+        stops([["POINT(1 2)\n", 8000000]], False, f"Stopped: All {all_lines} accepted")
         stops([["LINESTRING(", 1], ["1 2,", 20000000], ["1 2)\n", 1]], True, "Stopped")
         self.assertEqual("h-file", self.script("return document.activeElement.id"))
