@@ -71,7 +71,7 @@ class Whole(Page):
         self.open(page=address)
         self.type("POINT(1 2)")
         self.drop(self.file("POINT(1 2)\n" * 50000))
-        self.wait(lambda: "accepted" in self.said("say"))
+        self.assertIn("accepted", self.read())
         self.assertEqual([], self.console())
         sent = [json.loads(line["message"])["message"] for line in self.driver.get_log("performance")]
         urls = {

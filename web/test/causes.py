@@ -99,7 +99,7 @@ class Causes(Page):
     def test_file(self):
         self.open()
         self.drop(self.file("\n".join(map(line, range(30000)))))
-        self.wait(lambda: self.said("say") == "9,300 of 30,000 lines refused")
+        self.assertEqual("9,300 of 30,000 lines refused", self.read())
         self.assertEqual(
             [["srid", "6,000", "2"], ["exponent", "3,000", "3"], ["expected_y", "300", "4"]],
             [[row[0], *row[2:]] for row in self.causes()],

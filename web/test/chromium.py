@@ -288,5 +288,5 @@ class Page(unittest.TestCase):
         yield "many"
         line = ",".join(f"{n} {n * n / 40}" for n in range(-40, 41))
         self.drop(self.file(f"LINESTRING({line})\nPOINT(1)\n" * 500))
-        self.wait(lambda: "refused" in self.said("say"))
+        self.read()
         yield "file"

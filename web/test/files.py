@@ -1,5 +1,4 @@
 """Files that are dropped on the page."""
-import math
 import os
 import random
 import re
@@ -33,9 +32,11 @@ for (let i = 0; i < text.length; i++) {
 }
 return sum;
 """
-# How often a large file is read until it is read fast enough, and how often the plain script runs: the least counts, since
-# other programs and other guests of the host slow both down.
-TRIES, PLAINS = 20, 5
+# How often a large file is read at most, and how often it has to be read fast enough: other programs, and other guests
+# of the host, slow down some tries, or the plain script of one. On an idle machine once of more tries is enough.
+TRIES, ENOUGH, IDLE_TRIES = 10, 3, 20
+# How often the plain script runs for each try, so that both take about as long.
+PLAINS = 4
 
 
 class Files(Page):
@@ -217,25 +218,25 @@ class Files(Page):
         self.assertEqual("All 3 lines accepted", self.read())
 
     def test_large_file(self):
-        """The page stays free while a large file is read, and takes little more than a script that makes doubles."""
+        """The page stays free while a large file is read, and takes a few times what a plain script does."""
         place = random.Random(1)
         pairs = [f"{place.gauss(0, 40):.6f} {place.gauss(0, 20):.6f}#" for _ in range(30000)]
-        # A million points, and a line of 50 MB. How many seconds they may take on an idle machine, and how many times as
-        # long as the plain script on any: half of what they would take if reading took three times as long.
+        # A million points, and a line of 50 MB: how many seconds they may take on an idle machine, and how many times
+        # what the plain script takes on any. Where two to four times as many programs as processors ran, it was 2.3 to
+        # 6.7 and 2.6 to 5 times, but for two of 61 tries, and 7 to 11 times with each block answered three times.
         for what, times, most, plains, begin, middle, end in (
-            ("lines", 34, 1.2, 10, "", "".join(f"POINT ({it})\n" for it in pairs), ""),
+            ("lines", 34, 1.2, 8, "", "".join(f"POINT ({it})\n" for it in pairs), ""),
             ("one line", 75, 1.5, 6, "LINESTRING (", "".join(f"{it}," for it in pairs), "0 0)\n"),
         ):
             with self.subTest(what):
                 made = begin, middle, times, end
-                if not self.idle:
-                    most = plains * self.plain(made)
-                least = math.inf
-                for _ in range(TRIES):
-                    least = min(least, self.large_file(what, made))
-                    if least < most:
+                tries, enough = (IDLE_TRIES, 1) if self.idle else (TRIES, ENOUGH)
+                good = 0
+                for _ in range(tries):
+                    good += self.large_file(what, made) < (most if self.idle else plains * self.plain(made))
+                    if good == enough:
                         break
-                self.assertLess(least, most)
+                self.assertEqual(enough, good, f"so many of {tries} tries were fast enough")
 
     def large_file(self, what, made):
         """The processor time of the page, in seconds, to read a file."""
@@ -258,16 +259,15 @@ class Files(Page):
         return process
 
     def plain(self, made):
-        """The least processor time of the plain script for the same text, in seconds."""
+        """The processor time of the plain script for the same text, in seconds."""
         self.open()
         self.script(TEXT, made)
-        took = []
+        before = self.main_thread()
         for _ in range(PLAINS):
-            before = self.main_thread()
             self.script(PLAIN)
-            took.append((self.main_thread() - before) / 1000)
-        self.note(f"plain: {min(took):.2f} to {max(took):.2f} s")
-        return min(took)
+        took = (self.main_thread() - before) / 1000 / PLAINS
+        self.note(f"a plain script: {took:.2f} s of the processor")
+        return took
 
     def test_stop(self):
         """What was read before one stopped is shown; a long line is stopped too."""

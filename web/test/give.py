@@ -88,7 +88,7 @@ class Give(Page):
     def test_given_of_a_file(self):
         self.open()
         self.drop(self.file("\n".join(["POINT(1 2)", "POINT(1)"] * 30000)))
-        self.wait(lambda: self.said("say") == "30,000 of 60,000 lines refused")
+        self.assertEqual("30,000 of 60,000 lines refused", self.read())
         self.choose(form="geojson", refused="drop")
         self.hear("given")
         features = json.loads(self.saved("texts.geojson"))["features"]
@@ -129,12 +129,12 @@ class Give(Page):
         self.open()
         rows = "".join(f'{n},"POINT({n}.0 1)"\r\n' for n in range(30000))
         self.drop(self.file("id,wkt\r\n" + rows + "30000,POINT(1)\r\n", "table.csv"))
-        self.wait(lambda: "refused" in self.said("say"))
+        self.assertIn("refused", self.read())
         self.driver.find_element(By.CSS_SELECTOR, "#file-out .offer button").click()
-        self.wait(lambda: self.said("say") == "1 of 30,001 lines refused")
+        self.assertEqual("1 of 30,001 lines refused", self.read())
         self.assertIn("line 30,002, column 8", self.said("file-out"))
         self.drop(self.file("POLYGON((0 0,\n1 0,1 1,0 0))\n" * 20000 + "POINT(1\n"))
-        self.wait(lambda: self.said("say") == "1 of 20,001 lines refused")
+        self.assertEqual("1 of 20,001 lines refused", self.read())
         self.assertIn("line 40,001", self.said("file-out"))
         # A byte order mark is taken off, and what stands behind it stays what it was.
         for text, before, after in (
@@ -143,9 +143,9 @@ class Give(Page):
         ):
             with self.subTest(after):
                 self.drop(self.file("\ufeff" + text))
-                self.wait(lambda before=before: self.said("say") == before)
+                self.assertEqual(before, self.read())
                 self.driver.find_element(By.CSS_SELECTOR, "#file-out .offer button").click()
-                self.wait(lambda after=after: self.said("say") == after)
+                self.assertEqual(after, self.read())
 
     def test_readout(self):
         self.open()

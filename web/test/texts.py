@@ -257,7 +257,7 @@ class Texts(Page):
         self.undo()
         self.assertEqual(collection, self.value())
         self.drop(self.file("POINT(5 6)\n" * 30000))
-        self.wait(lambda: self.said("say") == "All 30,000 lines accepted")
+        self.assertEqual("All 30,000 lines accepted", self.read())
         self.undo()
         self.assertEqual((collection, "Accepted: GeometryCollection"), (self.value(), self.said("say")))
 
@@ -289,7 +289,7 @@ class Texts(Page):
         self.assertIn(f"POINT({shown} 2)", self.said("rows"))
         self.assertEqual(["text"], self.raw())
         self.drop(self.file(line.encode() + b"POINT(\xe2\x80\xae\xff 2)\n" * 30000, "a\u202eb.wkt"))
-        self.wait(lambda: self.said("say") == "30,001 of 30,001 lines refused")
+        self.assertEqual("30,001 of 30,001 lines refused", self.read())
         self.assertEqual("a\\u{202e}b.wkt", self.said("h-file"))
         self.assertIn(f"and not {shown}", self.said("file-out"))
         self.assertEqual([], self.raw())
