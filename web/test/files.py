@@ -206,6 +206,12 @@ class Files(Page):
         self.drop(self.file("POINT(1 2)\nLINESTRING(" + "1 2," * 1500000 + "1 2)\nPOINT(3 4)\nPOINT(1 2)\n"))
         self.assertEqual("All 4 lines accepted", self.read())
         self.assertIn("line 4 = line 1", self.said("file-out"))
+        # One call answers a long line, and says nothing until then. So what was read is said, however fast that was.
+        self.hear("file-out")
+        self.drop(self.file("LINESTRING(" + "1 2," * 1500000 + "1 2)"))
+        self.assertEqual("The text is accepted", self.read())
+        told = [it.split(" MB read")[0] for it in self.heard() if " MB read" in it]
+        self.assertEqual(["4.2 of 6.0", "6.0 of 6.0"], list(dict.fromkeys(told)))
 
     def test_one_text_in_a_file(self):
         self.open()
