@@ -287,7 +287,7 @@ class Errors(unittest.TestCase):
             try:
                 for call, given, row in [(refuse, "PINT(1 2)", None), (refuse_row, ["POINT(1 2)", "PINT(1 2)"], 1)]:
                     with self.assertRaises(wkt.WktError) as raised:
-                        pool.submit(call, given).result(timeout=60)
+                        pool.submit(call, given).result(timeout=600)
                     error = raised.exception
                     self.assertEqual((error.status, error.row), (3, row))
             finally:

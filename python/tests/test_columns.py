@@ -372,9 +372,9 @@ class Kinds(unittest.TestCase):
 
 class Long(unittest.TestCase):
     def test_other_threads_run(self):
-        """A long call releases the lock of the interpreter."""
+        """A long call releases the lock of the interpreter: else another thread runs a few times from call to call."""
         text = "LINESTRING(" + ",".join(["1.5 2.5"] * 3_000_000) + ")"
-        ticks, stop = [], threading.Event()
+        ticks, calls, stop = [], 0, threading.Event()
 
         def tick():
             while not stop.is_set():
@@ -384,15 +384,14 @@ class Long(unittest.TestCase):
         thread = threading.Thread(target=tick)
         thread.start()
         start = time.monotonic()
-        for _ in range(20):
+        while calls < 20 and time.monotonic() - start < 1:
             wkt.reads(text)
-            if time.monotonic() - start > 1:
-                break
+            calls += 1
         end = time.monotonic()
         stop.set()
         thread.join()
         during = [at for at in ticks if start < at < end]
-        self.assertGreater(len(during), 10 * (end - start))
+        self.assertGreater(len(during), 10 * calls)
 
     @unittest.skipIf(tqdm is None, "no tqdm")
     def test_bar(self):

@@ -51,7 +51,7 @@ _fast.export_schema(tree)
 
 class Interpreters(unittest.TestCase):
     def ran(self, words, *given):
-        done = subprocess.run([sys.executable, "-c", START + words, *given], stderr=subprocess.PIPE, timeout=60)
+        done = subprocess.run([sys.executable, "-c", START + words, *given], stderr=subprocess.PIPE, timeout=600)
         self.assertEqual((done.returncode, done.stderr.decode()), (0, ""))
 
     def test_answers(self):

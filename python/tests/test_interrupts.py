@@ -39,7 +39,7 @@ for interrupted in (False, True):
     begin = time.process_time()
     try:
         if interrupted:  # on a loaded machine it may come before the call
-            threading.Timer(0.05, os.kill, (os.getpid(), signal.SIGINT)).start()
+            threading.Timer(spent[0] / 10, os.kill, (os.getpid(), signal.SIGINT)).start()
         call()
     except KeyboardInterrupt:
         sys.stdout.write("interrupted ")
