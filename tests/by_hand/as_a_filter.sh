@@ -33,7 +33,7 @@ peak() {
 import resource, subprocess, sys
 folder, given, program = sys.argv[1:]
 with open(given, "rb") as source, open(folder + "/whole", "wb") as out, open(folder + "/err", "wb") as err:
-    status = subprocess.call(["bash", "-c", "ulimit -s 256; exec " + program], stdin=source, stdout=out, stderr=err)
+    status = subprocess.call(["bash", "-c", 'ulimit -s 256; exec "$0"', program], stdin=source, stdout=out, stderr=err)
 with open(folder + "/status", "w") as file:
     print(status, file=file)
 with open(folder + "/peak", "w") as file:
@@ -203,25 +203,25 @@ same "lines of 100 MB" "$dir/longest_answers"
 echo "${PIPESTATUS[1]}" > "$dir/status"
 same "an input that stops for a second within a line" "$dir/three_answers"
 
-run bash -c "ulimit -v 50000; exec $program < $dir/wide"
+run bash -c 'ulimit -v 50000; exec "$1" < "$2"' - "$program" "$dir/wide"
 says "out of memory: the answers to the lines before were written" "1 | POINT(1 2) | wkt: out of memory"
 
 for stack in 8192 256; do
   for case in open open_but_one points_before points_behind side_by_side; do
-    run bash -c "ulimit -s $stack; exec timeout 20 $program < $dir/$case"
+    run bash -c 'ulimit -s "$1"; exec timeout 20 "$2" < "$3"' - "$stack" "$program" "$dir/$case"
     says "a million geometries, $case, on a stack of $stack KB" "0 | refused
 POINT(1 2) | "
   done
 done
 
 for stack in 8192 256; do
-  bash -c "ulimit -s $stack; exec timeout 60 $program < $dir/deep" > "$dir/whole" 2> "$dir/err"
+  bash -c 'ulimit -s "$1"; exec timeout 60 "$2" < "$3"' - "$stack" "$program" "$dir/deep" > "$dir/whole" 2> "$dir/err"
   echo $? > "$dir/status"
   same "a million collections in one another on a stack of $stack KB" "$dir/deep"
 done
 
 for memory in 3500 6000 20000 50000; do
-  run bash -c "ulimit -v $memory; exec timeout 60 $program < $dir/deep"
+  run bash -c 'ulimit -v "$1"; exec timeout 60 "$2" < "$3"' - "$memory" "$program" "$dir/deep"
   head -n "$(wc -l < "$dir/out")" "$dir/deep" | cmp -s - "$dir/out" && : > "$dir/out" || echo "a part of an answer" > "$dir/out"
   says "the same in $memory KB of memory: whole answers alone" "1 |  | wkt: out of memory"
 done
@@ -231,7 +231,7 @@ peak "a million collections in one another in less than 65 MB" 65000 "$dir/deep"
 peak "a line of 20 MB in less than 65 MB" 65000 "$dir/wide" "$program"
 }
 
-cases wktline "" 3 2
+cases wktline "" 3 1
 cases wktstream "POINT(1 2)" 1 1
 
 # What only wktstream does. The pipe is kept open for writing, so the program waits for more.
