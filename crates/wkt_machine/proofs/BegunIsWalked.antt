@@ -16,7 +16,7 @@ use Rattle.wkt_machine.specs.Machine as place
 use Rattle.wkt_machine.proofs.Complete.{Runs, stay, first, both, one, lexemes, number, plain_coord, size_after, Stands, empty_word, ring_run, string_run, polygon_run, polygon_ring_run, member_run, value_run}
 use Rattle.wkt_types.specs.declared.geometry_type.GeometryType.TheVariants as kind
 use Rattle.wkt_machine.specs.declared.part.Part.TheVariants as part
-use Rattle.wkt_machine.specs.Action as act
+use Rattle.wkt_machine.specs.declared.step.Action.TheVariants as act
 use Rattle.wkt_machine.proofs.Places.{Before, In, Past, Then, Headed, Free, Top, To, Alone, ToCoord, Behind, Progress, alone_top, member_past}
 
 -- What is begun as a geometry is walked over.

@@ -12,7 +12,7 @@ use Rattle.wkt_access.specs.Values.{size, Value, Values}
 use Rattle.wkt_read.specs.Grammar.{IsEmptyWord, Within, More, Listed, Perhaps, Numbers, Coord, Ring, Poly, Member, DimPart, Header, StandFor, Geometries, Further}
 use Rattle.wkt_read.proofs.KindWords.{empty_no_dim, is_empty}
 use Rattle.wkt_machine.specs.declared.part.Part.{Part}
-use Rattle.wkt_machine.specs.Action as act
+use Rattle.wkt_machine.specs.declared.step.Action.TheVariants as act
 use Rattle.wkt_machine.specs.declared.part.Axis.TheVariants as axis
 use Rattle.wkt_machine.specs.declared.part.Part.TheVariants as part
 use Rattle.wkt_types.specs.declared.geometry_type.GeometryType.{GeometryType}

@@ -8,8 +8,8 @@ use Rattle.wkt_types.specs.declared.geometry_type.GeometryType.TheVariants as ki
 use Rattle.wkt_read.specs.Context.{Context, no_context, or_else, after_word, after_lexeme, context_from, context, number_next, AtPoint, IsTurn}
 use Rattle.wkt_read.specs.Grammar.{KindWord, kind_word, dim_word, is_empty_word}
 use Rattle.wkt_read.proofs.KindWords.{empty_is, empty_no_dim, empty_no_kind, dim_no_kind}
-use Rattle.wkt_machine.specs.Action.{Action}
-use Rattle.wkt_machine.specs.Action as act
+use Rattle.wkt_machine.specs.declared.step.Action.{Action}
+use Rattle.wkt_machine.specs.declared.step.Action.TheVariants as act
 use Rattle.wkt_machine.specs.Machine.{start, Move, at, part_of, numbers_after, inside, outside, joined_step, kind_step, dimension_step, number_step, bare_step, comma_step, said, moved, move, run, Place, State}
 use Rattle.wkt_machine.specs.Refusing.{number_expected, opening_expected, expected_at, outer_parens}
 use Rattle.wkt_machine.specs.Machine as place

@@ -13,8 +13,8 @@ use Rattle.wkt_machine.specs.Events.{Event}
 use Rattle.wkt_machine.specs.Refusing.{last_number, item_expected, opening_expected, expected_at, outer_parens, open_parens}
 use Rattle.wkt_machine.specs.declared.part.Part.{Part}
 use Rattle.wkt_machine.specs.Machine as place
-use Rattle.wkt_machine.specs.Action.{Action}
-use Rattle.wkt_machine.specs.Action as act
+use Rattle.wkt_machine.specs.declared.step.Action.{Action}
+use Rattle.wkt_machine.specs.declared.step.Action.TheVariants as act
 use Rattle.wkt_machine.proofs.WholeRuns.{exact, goes_on, refuses, run_append, then_some}
 use Rattle.wkt_read.specs.declared.expected.Expected.TheVariants as expected
 use Rattle.wkt_machine.specs.declared.part.Part.TheVariants as part

@@ -13,8 +13,8 @@ use Rattle.wkt_machine.specs.Machine.{part_of, numbers_after, inside, outside, k
 use Rattle.wkt_machine.specs.declared.part.Part.{Part}
 use Rattle.wkt_machine.specs.declared.part.Part.TheVariants as part
 use Rattle.wkt_machine.specs.Machine as place
-use Rattle.wkt_machine.specs.Action.{Action}
-use Rattle.wkt_machine.specs.Action as act
+use Rattle.wkt_machine.specs.declared.step.Action.{Action}
+use Rattle.wkt_machine.specs.declared.step.Action.TheVariants as act
 use Rattle.wkt_machine.proofs.Complete.{size_after, some_after}
 
 -- Items with commas between them.

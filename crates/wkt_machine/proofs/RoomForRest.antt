@@ -1,6 +1,5 @@
 -- How much lexemes take, and room that is left for what they make.
 use Rattle.std.proofs.Common.{◌≡◌, ◌≢◌, ℕ, suc, ◌+◌, ◌-◌, ◌*◌, ◌≤◌, List, [], ◌∷◌, length, get_or, drop, Option, Some, None, Bool, true, false, cond, if◌then◌else◌, ◌&&◌, ◌||◌, ◌==◌, nat_le, refl, sym, ap, ◌∙◌, subst, arith, lit≤, codes}
-use Rattle.std.specs.Prelude.{Result, Ok, IfOk}
 use Rattle.std.specs.Str.{bytes_eq, str_to_ascii_uppercase}
 use Rattle.std.specs.Char.{to_ascii_uppercase}
 use Rattle.std.proofs.lemmas.Bool.{leb-true}
@@ -16,22 +15,14 @@ use Rattle.wkt_read.proofs.KindWords.{empty_is}
 use Rattle.wkt_events.specs.Remaining.{before_feed, line_of, class_in, remaining_spanned}
 use Rattle.wkt_events.proofs.RemainingLexemes.{class-in-mark, class-in-run, spanned-class, within}
 use Rattle.wkt_machine.specs.Machine.{part_of, at, inside, outside}
-use Rattle.wkt_machine.specs.Room.{name_length, header_cost, shortest, number_cost, cost, need, owed, owed_at, Leaves, HasRoom, RoomAt, HasNumberRoom, LeavesNumber}
+use Rattle.wkt_machine.specs.Room.{name_length, header_cost, shortest, number_cost, cost, need, owed, Leaves, HasRoom, HasNumberRoom, LeavesNumber}
 use Rattle.wkt_machine.specs.View.{seen_of, seen_word, seen_other, sight, View}
 use Rattle.wkt_machine.specs.declared.machine.LexemeKind.{LexemeKind}
 use Rattle.wkt_types.specs.declared.geometry_type.GeometryType.TheVariants as kind
 use Rattle.wkt_machine.specs.declared.machine.LexemeKind.TheVariants as seen
-use Rattle.wkt_access.specs.declared.dimensions.Dimension.TheVariants.{XY, XYZM}
 use Rattle.wkt_machine.specs.Goes.{Stays, Skips}
-use Rattle.wkt_machine.specs.Machines.{state_of, place_of, next_after}
 use Rattle.wkt_machine.specs.Makers.{Maker}
-use Rattle.wkt_machine.specs.declared.machine.Machine.{Machine}
-use Rattle.wkt_machine.specs.declared.machine.State.{State as Next}
-use Rattle.wkt_machine.specs.declared.part.Axis.{Axis}
 use Rattle.wkt_machine.specs.declared.part.Part.{Part}
-use Rattle.wkt_machine.specs.declared.source.Progress.{Progress}
-use Rattle.wkt_machine.specs.declared.machine.State.TheVariants as next
-use Rattle.wkt_machine.specs.declared.part.Axis.TheVariants as axis
 use Rattle.wkt_machine.specs.declared.part.Part.TheVariants as part
 
 -- How much lexemes take: what is seen of one at least, and those of a text at most.
@@ -250,12 +241,6 @@ pub outside_owes : (p : Part) (d : Dimension) (n : ℕ) → owed (outside p d n)
 outside_owes part.Ring d n = refl
 outside_owes _ d n = refl
 
-pub after_owes : (a : Axis) (d : Dimension) (p : Part) (n : ℕ) → owed (at n (place_of (next_after a d) p d)) ≡ 0
-after_owes axis.X d p n = refl
-after_owes axis.Y XY p n = refl
-after_owes axis.Z XYZM p n = refl
-after_owes _ _ p n = refl
-
 module _ {N S B : Type 0} (view : View N S) (maker : Maker N B) where
   -- no call takes no room
   pub leaves_none : (b : B) → Leaves maker b 0 b
@@ -287,33 +272,6 @@ module _ {N S B : Type 0} (view : View N S) (maker : Maker N B) where
         values = h.values;
         reads = h.reads;
       }
-
-  -- so much is made, and no lexeme taken
-  pub made_room : (n after spent : ℕ) (s : S) (b c : B) → after + spent ≤ n → Leaves maker b spent c → HasRoom view maker n s b → HasRoom view maker after s c
-  made_room n after spent s b c order leaves h = record {
-    fits = leaves (after + need (view.remaining s)) (maker.less b (after + need (view.remaining s) + spent) (n + need (view.remaining s)) (omega (arith, order)) h.fits);
-    values = h.values;
-    reads = h.reads;
-  }
-
-  pub fits_so_much : (n : ℕ) (s : S) (b : B) → HasRoom view maker n s b → maker.fits b n
-  fits_so_much n s b h = maker.less b n (n + need (view.remaining s)) (omega arith) h.fits
-
-  pub room_at : (s : S) (b : B) (m : Machine) (r : Result (Progress S B) (Progress S B)) → r ≡ Ok (record { source = s; machine = m; builder = b }) → owed (state_of m) ≡ 0 → HasRoom view maker 0 s b → IfOk r (RoomAt view maker)
-  room_at s b m r is owes h = subst (λ r. IfOk r (RoomAt view maker)) (sym is) (subst (λ n. HasRoom view maker n s b) (sym owes) h)
-
-  -- the room at a state
-  pub state_room : (m : Machine) (x : Next) (s : S) (b : B) → m.state ≡ x → HasRoom view maker (owed (state_of m)) s b → HasRoom view maker (owed_at (place_of x m.part m.dim)) s b
-  state_room m x s b e h = subst (λ x. HasRoom view maker (owed_at (place_of x m.part m.dim)) s b) e h
-
-  pub owed_room : (m : Machine) (x : Next) (s : S) (b : B) → m.state ≡ x → HasRoom view maker (owed_at (place_of x m.part m.dim)) s b → HasRoom view maker (owed (state_of m)) s b
-  owed_room m x s b e h = subst (λ x. HasRoom view maker (owed_at (place_of x m.part m.dim)) s b) (sym e) h
-
-  pub kind_room : (m : Machine) (s : S) (b : B) → m.state ≡ next.Kind → HasRoom view maker 0 s b → HasRoom view maker (owed (state_of m)) s b
-  kind_room m s b e h = owed_room m next.Kind s b e h
-
-  pub x_room : (m : Machine) (s : S) (b : B) → m.state ≡ next.Number axis.X → HasRoom view maker 0 s b → HasRoom view maker (owed (state_of m)) s b
-  x_room m s b e h = owed_room m (next.Number axis.X) s b e h
 
   -- what makes no use of room
   pub free_room : (s : S) (b : B) → ((n : ℕ) → maker.fits b n) → ((c : B) (x : N) → maker.takes c x ≡ 0) → (view.by_value → (c : B) → maker.reads c ≡ view.number) → HasRoom view maker 0 s b

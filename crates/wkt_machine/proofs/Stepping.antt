@@ -1,20 +1,20 @@
 -- One lexeme is taken, or none can be.
-use Rattle.std.proofs.Common.{◌≡◌, ◌≢◌, ◌<◌, ◌≤◌, ◌-◌, length, arith, ℕ, zero, suc, List, [], ◌∷◌, ◌++◌, sym, refl, ap, ◌∙◌, subst, append-nil, Option, Some, None, Bool, true, false, cond}
+use Rattle.std.proofs.Common.{◌≡◌, ◌≢◌, ◌≤◌, length, arith, ℕ, zero, suc, List, [], ◌∷◌, ◌++◌, sym, refl, ap, ◌∙◌, subst, append-nil, Option, Some, None, Bool, true, false, cond}
 use Rattle.wkt_num.specs.Bytes.{Lexeme, Open, Close, Comma, Word, Num}
 use Rattle.wkt_access.specs.declared.dimensions.Dimension.{Dimension}
 use Rattle.wkt_access.specs.declared.dimensions.Dimension.TheVariants.{XY}
-use Rattle.wkt_types.specs.declared.geometry_type.GeometryType.{GeometryType}
 use Rattle.wkt_read.specs.Grammar.{KindWord, kind_word, dim_word, is_empty_word}
 use Rattle.wkt_read.specs.Spanned.{Spanned}
 use Rattle.wkt_read.proofs.KindWords.{empty_is, empty_no_kind, empty_no_dim, dim_no_kind}
-use Rattle.wkt_machine.specs.Action.{Action}
-use Rattle.wkt_machine.specs.Action as act
-use Rattle.wkt_machine.specs.Machine.{is_over, over_at, at, part_of, inside, outside, kind_step, joined_step, dimension_step, bare_step, number_step, comma_step, step_at, made, number_of, moved, and_then, move, run, Place, State}
+use Rattle.wkt_machine.specs.declared.step.Action.{Action}
+use Rattle.wkt_machine.specs.declared.step.Action.TheVariants as act
+use Rattle.wkt_machine.specs.Machine.{is_over, at, inside, outside, kind_step, dimension_step, comma_step, step_at, made, number_of, moved, and_then, move, run, Place, State}
 use Rattle.wkt_machine.specs.Events.{Event}
 use Rattle.wkt_machine.specs.Goes.{Stays, Skips, IsStuck, Goes, Refuses}
 use Rattle.wkt_machine.specs.Machines.{state_of, is_single, IsSound}
 use Rattle.wkt_machine.specs.Makers.{Maker}
 use Rattle.wkt_machine.specs.Machine as place
+use Rattle.wkt_machine.specs.Seen.{seen_at}
 use Rattle.wkt_machine.specs.View.{seen_of, seen_word, seen_other, sight, View}
 use Rattle.wkt_machine.specs.declared.machine.Machine.{Machine}
 use Rattle.wkt_machine.specs.declared.machine.LexemeKind.{LexemeKind}
@@ -22,30 +22,6 @@ use Rattle.wkt_machine.specs.declared.machine.LexemeKind.TheVariants as seen
 use Rattle.wkt_machine.specs.declared.part.Part.{Part}
 use Rattle.wkt_machine.specs.declared.part.Part.TheVariants as part
 use Rattle.wkt_machine.specs.declared.source.Progress.{Progress}
-
--- What is seen at each place.
-abbrev pub seen_at : Place → ℕ → LexemeKind → Option (State × Action)
-seen_at place.Kind n (seen.Kind k j) = Some (joined_step (part_of k) j n)
-seen_at (place.Alone p) n (seen.Dimension d) = Some (at n (place.Opening p d), act.Header p d)
-seen_at (place.Alone p) n seen.Empty = Some (outside p XY n, act.HeaderEmpty p)
-seen_at (place.Alone p) n seen.Open = Some (inside p XY n, act.HeaderOpen p)
-seen_at (place.Opening p d) n seen.Open = Some (inside p d n, act.Open p)
-seen_at (place.Opening p d) n seen.Empty = Some (outside p d n, act.Empty p)
-seen_at (place.Opening p d) n seen.Number = bare_step p d n
-seen_at (place.Number p d more) n seen.Number = Some (number_step p d more n)
-seen_at (place.Item p d) n seen.Comma = comma_step p d n
-seen_at (place.Item p d) n seen.Close = Some (outside p d n, act.Close p)
-seen_at place.Geometry (suc n) seen.Comma = Some (at (suc n) place.Kind, act.Comma part.Collection)
-seen_at place.Geometry (suc n) seen.Close = Some (at n place.Geometry, act.Close part.Collection)
-seen_at p n k = None
-
-abbrev pub is_number : LexemeKind → Bool
-is_number seen.Number = true
-is_number k = false
-
-pub never_number : (k : LexemeKind) → is_number k ≡ false → k ≢ seen.Number
-never_number seen.Number e = let never : ⊥ = cc in absurd never
-never_number k e = λ q. cc
 
 -- A word that is all that it can be.
 abbrev Words : Option KindWord → Option Dimension → Bool → Type 0
@@ -132,63 +108,11 @@ seen_is place.Kind n (Num w) = refl
 seen_is place.Geometry zero (Num w) = refl
 seen_is _ n (Num w) = refl
 
--- What isn't seen at a place.
-pub kind_none : (n : ℕ) (k : LexemeKind) → ((g : GeometryType) (d : Option Dimension) → k ≡ seen.Kind g d → ⊥) → seen_at place.Kind n k ≡ None
-kind_none n (seen.Kind g d) never = absurd (never g d refl)
-kind_none n k never = refl
-
-pub alone_none : (p : Part) (n : ℕ) (k : LexemeKind) → ((d : Dimension) → k ≡ seen.Dimension d → ⊥) → (k ≡ seen.Open → ⊥) → (k ≡ seen.Empty → ⊥) → seen_at (place.Alone p) n k ≡ None
-alone_none p n (seen.Dimension d) a b c = absurd (a d refl)
-alone_none p n seen.Open a b c = absurd (b refl)
-alone_none p n seen.Empty a b c = absurd (c refl)
-alone_none p n k a b c = refl
-
-pub opening_none : (p : Part) (d : Dimension) (n : ℕ) (k : LexemeKind) → (k ≡ seen.Open → ⊥) → (k ≡ seen.Empty → ⊥) → (k ≡ seen.Number → ⊥) → seen_at (place.Opening p d) n k ≡ None
-opening_none p d n seen.Open a b c = absurd (a refl)
-opening_none p d n seen.Empty a b c = absurd (b refl)
-opening_none p d n seen.Number a b c = absurd (c refl)
-opening_none p d n k a b c = refl
-
-pub bare_none : (p : Part) (d : Dimension) (n : ℕ) → (p ≡ part.Member → ⊥) → bare_step p d n ≡ None
-bare_none part.Member d n never = absurd (never refl)
-bare_none p d n never = refl
-
-pub number_none : (p : Part) (d : Dimension) (more n : ℕ) (k : LexemeKind) → (k ≡ seen.Number → ⊥) → seen_at (place.Number p d more) n k ≡ None
-number_none p d more n seen.Number never = absurd (never refl)
-number_none p d more n k never = refl
-
-pub item_none : (p : Part) (d : Dimension) (n : ℕ) (k : LexemeKind) → (k ≡ seen.Close → ⊥) → (k ≡ seen.Comma → ⊥) → seen_at (place.Item p d) n k ≡ None
-item_none p d n seen.Close a b = absurd (a refl)
-item_none p d n seen.Comma a b = absurd (b refl)
-item_none p d n k a b = refl
-
-pub single_none : (p : Part) (d : Dimension) (n : ℕ) → is_single p ≡ true → comma_step p d n ≡ None
-single_none part.Point d n e = refl
-single_none part.Member d n e = refl
-single_none p d n e = let never : ⊥ = cc in absurd never
-
+-- a comma of a part that may have more than one item
 pub several : (p : Part) (d : Dimension) (n : ℕ) → is_single p ≡ false → comma_step p d n ≡ Some (inside p d n, act.Comma p)
 several part.Point d n e = let never : ⊥ = cc in absurd never
 several part.Member d n e = let never : ⊥ = cc in absurd never
 several p d n e = refl
-
-pub geometry_none : (n : ℕ) (k : LexemeKind) → (k ≡ seen.Close → ⊥) → (k ≡ seen.Comma → ⊥) → seen_at place.Geometry n k ≡ None
-geometry_none zero k a b = refl
-geometry_none (suc n) seen.Close a b = absurd (a refl)
-geometry_none (suc n) seen.Comma a b = absurd (b refl)
-geometry_none (suc n) k a b = refl
-
-pub inner_close : (n : ℕ) → 0 < n → seen_at place.Geometry n seen.Close ≡ Some (at (n - 1) place.Geometry, act.Close part.Collection)
-inner_close zero h = absurd (omega (arith, h))
-inner_close (suc n) h = let e : suc n - 1 ≡ n = omega arith in ap (λ n. Some (at n place.Geometry, act.Close part.Collection)) (sym e)
-
-pub inner_comma : (n : ℕ) → 0 < n → seen_at place.Geometry n seen.Comma ≡ Some (at n place.Kind, act.Comma part.Collection)
-inner_comma zero h = absurd (omega (arith, h))
-inner_comma (suc n) h = refl
-
-pub inner_open : (n : ℕ) → 0 < n → over_at place.Geometry n ≡ false
-inner_open zero h = absurd (omega (arith, h))
-inner_open (suc n) h = refl
 
 -- what is seen is a lexeme that is left
 pub some_left : (ps : List Spanned) (k : LexemeKind) → k ≡ sight ps → (k ≡ seen.Other → ⊥) → 1 ≤ length ps
@@ -197,7 +121,7 @@ some_left (p ∷ ps) k e never = omega arith
 
 module _ {N S B : Type 0} (read : List ℕ → Option N) (view : View N S) (maker : Maker N B) where
   -- what isn't seen as a number has none
-  no_number : (l : Lexeme) → seen_of l ≢ seen.Number → number_of read l ≡ Some None
+  pub no_number : (l : Lexeme) → seen_of l ≢ seen.Number → number_of read l ≡ Some None
   no_number (Num run) never = absurd (never refl)
   no_number _ never = refl
 

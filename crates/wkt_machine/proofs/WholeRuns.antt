@@ -8,7 +8,7 @@ use Rattle.wkt_read.specs.Begun.{BegunGeometry, NoneBegins, IsDead, IsJustDead, 
 use Rattle.wkt_machine.specs.Machine.{start, is_over, over_at, Move, at, after, and_then, step, number_of, said, moved, move, run, part_of, inside, outside, kind_step, joined_step, dimension_step, number_step, bare_step, comma_step, step_at, Place, State}
 use Rattle.wkt_machine.specs.Events.{Event, events}
 use Rattle.wkt_machine.specs.Machine as place
-use Rattle.wkt_machine.specs.Action.{Action}
+use Rattle.wkt_machine.specs.declared.step.Action.{Action}
 use Rattle.wkt_machine.proofs.Complete.{after-nil, after-after, value_run}
 use Rattle.wkt_machine.proofs.BegunIsWalked.{begun_on, at_begun}
 use Rattle.wkt_machine.proofs.Places.{Progress, Keeps, IsRead, keeps}

@@ -1,15 +1,14 @@
 -- How a machine goes over what a source gives, over lexemes or over none, and where it stops in a text that has no geometry
 -- at its front.
-use Rattle.std.specs.Prelude.{◌≡◌, ℕ, List, [], ◌∷◌, ◌++◌, Option, Some, None, Result, Ok, Err, false, ◌≤◌, length}
+use Rattle.std.specs.Prelude.{◌≡◌, ℕ, List, [], ◌∷◌, ◌++◌, Option, Some, None, false, ◌≤◌, length}
 use Rattle.wkt_read.specs.Spanned.{Spanned, lexemes_of, end_after, spanned}
-use Rattle.wkt_machine.specs.Machine.{start, is_over, at, last_place, run, move}
+use Rattle.wkt_machine.specs.Machine.{start, is_over, run, move}
 use Rattle.wkt_machine.specs.Events.{Event}
 use Rattle.wkt_machine.specs.Machines.{state_of, IsSound}
 use Rattle.wkt_machine.specs.Makers.{Maker}
 use Rattle.wkt_machine.specs.View.{View, IsBetween}
 use Rattle.wkt_machine.specs.declared.machine.Machine.{Machine}
 use Rattle.wkt_machine.specs.declared.part.Axis.{Axis}
-use Rattle.wkt_machine.specs.declared.part.Part.{Part}
 use Rattle.wkt_machine.specs.declared.source.Progress.{Progress}
 use Rattle.wkt_num.specs.Bytes as lex
 use Rattle.wkt_machine.specs.declared.part.Axis.TheVariants as axis
@@ -89,15 +88,6 @@ module _ {N S B : Type 0} (read : List ℕ → Option N) (view : View N S) (make
 
   abbrev pub RefusesFrom : S → B → Progress S B → Type 0
   RefusesFrom s b to = (m : Machine) × (state_of m ≡ start) × Refuses m s b to
-
--- A point without parentheses ends with its last number; what has parentheses stays as it is.
-abbrev pub closes : {N : Type 0} → Part → List (Event N)
-closes part.Bare = Event.Close part.Member ∷ []
-closes p = []
-
-abbrev pub EndsPoint : {N S B : Type 0} → Maker N B → Machine → S → B → Result (Progress S B) (Progress S B) → Type 0
-EndsPoint maker m s b (Ok to) = (to.source ≡ s) × (state_of to.machine ≡ at m.depth (last_place m.part m.dim)) × IsSound to.machine × maker.makes b (closes m.part) to.builder
-EndsPoint maker m s b (Err to) = ⊥
 
 -- How a machine goes over lexemes of a source, or over none. Only private contracts and proofs cite these words.
 

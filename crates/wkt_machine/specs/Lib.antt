@@ -1,4 +1,3 @@
-pub mod Action
 pub mod Events
 pub mod Machine
 pub mod Laws
@@ -8,4 +7,5 @@ pub mod Makers
 pub mod View
 pub mod Refusing
 pub mod Goes
+pub mod Seen
 pub mod Steps

@@ -8,8 +8,8 @@ use Rattle.wkt_num.specs.Bytes as lex
 use Rattle.wkt_access.specs.declared.dimensions.Dimension.TheVariants.{XY, XYZ, XYM, XYZM}
 use Rattle.wkt_types.specs.declared.geometry_type.GeometryType.{GeometryType}
 use Rattle.wkt_read.specs.Grammar.{KindWord, kind_word, dim_word, is_empty_word}
-use Rattle.wkt_machine.specs.Action.{Action}
-use Rattle.wkt_machine.specs.Action as act
+use Rattle.wkt_machine.specs.declared.step.Action.{Action}
+use Rattle.wkt_machine.specs.declared.step.Action.TheVariants as act
 use Rattle.wkt_machine.specs.Events.{Event, axis_of}
 use Rattle.wkt_types.specs.declared.geometry_type.GeometryType.TheVariants as kind
 use Rattle.wkt_machine.specs.declared.part.Axis.TheVariants as axis
@@ -76,7 +76,7 @@ outside p d n = at n Geometry
 -- a kind word, with the dimension that is joined to it
 abbrev pub joined_step : Part → Option Dimension → ℕ → State × Action
 joined_step p (Some d) n = (at n (Opening p d), act.Header p d)
-joined_step p None n = (at n (Alone p), act.NullBuilder)
+joined_step p None n = (at n (Alone p), act.Nothing)
 
 abbrev pub kind_step : Option KindWord → ℕ → Option (State × Action)
 kind_step (Some e) n = Some (joined_step (part_of e.kind) e.joined n)

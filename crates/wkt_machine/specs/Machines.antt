@@ -1,5 +1,5 @@
 -- The place at which a machine is.
-use Rattle.std.specs.Prelude.{ℕ, ◌-◌, Bool, true, false}
+use Rattle.std.specs.Prelude.{ℕ, ◌-◌, Bool, true, false, Option, Some, None}
 use Rattle.wkt_access.specs.declared.dimensions.Dimension.{Dimension}
 use Rattle.wkt_access.specs.declared.dimensions.Dimension.TheVariants.{XY, XYZ, XYM, XYZM}
 use Rattle.wkt_machine.specs.Machine.{at, numbers_after, Place, State}
@@ -42,17 +42,30 @@ HasNext s d = Unit {0}
 abbrev pub IsSound : Machine → Type 0
 IsSound m = HasNext m.state m.dim
 
+-- the number that comes after a number
+abbrev pub number_after : Axis → Dimension → Option Axis
+number_after axis.X d = Some axis.Y
+number_after axis.Y XYZ = Some axis.Z
+number_after axis.Y XYZM = Some axis.Z
+number_after axis.Y XYM = Some axis.M
+number_after axis.Z XYZM = Some axis.M
+number_after a d = None
+
 -- what comes after a number
+abbrev number_next : Option Axis → Next
+number_next (Some a) = next.Number a
+number_next None = next.Item
+
 abbrev pub next_after : Axis → Dimension → Next
-next_after axis.X d = next.Number axis.Y
-next_after axis.Y XYZ = next.Number axis.Z
-next_after axis.Y XYZM = next.Number axis.Z
-next_after axis.Y XYM = next.Number axis.M
-next_after axis.Z XYZM = next.Number axis.M
-next_after a d = next.Item
+next_after a d = number_next (number_after a d)
 
 -- whether a part has one coordinate alone
 abbrev pub is_single : Part → Bool
 is_single part.Point = true
 is_single part.Member = true
 is_single p = false
+
+-- whether it is a point of a multipoint
+abbrev pub is_member : Part → Bool
+is_member part.Member = true
+is_member p = false

@@ -7,8 +7,8 @@ pub mod builder;
 pub mod drive;
 pub mod expected;
 pub mod laws;
+pub mod lexeme;
 pub mod machine;
-mod marks;
 pub mod null_builder;
 mod numbers;
 mod part;
@@ -16,6 +16,7 @@ pub mod source;
 pub mod step;
 
 pub use builder::Builder;
+pub use lexeme::{on, refused, take, take_rare};
 pub use machine::{LexemeKind, Machine, State};
 pub use null_builder::NullBuilder;
 pub use numbers::{pad, read_at, read_by};

@@ -1,10 +1,8 @@
 //! The grammar, as a state machine over lexemes.
-ghost use Rattle.std.specs.Bool.{OnTrue, OnFalse};
-ghost use Rattle.std.specs.Prelude.{◌≡◌, ◌≢◌, ◌<◌, ◌-◌};
+ghost use Rattle.std.specs.Prelude.{◌≡◌, ◌<◌, ◌-◌};
 ghost use Rattle.wkt_machine.specs.Machine.{at, part_of, inside, outside, start, is_over};
-ghost use Rattle.wkt_machine.specs.Machines.{state_of, next_after, is_single, IsSound};
+ghost use Rattle.wkt_machine.specs.Machines.{state_of, number_after, is_single, IsSound};
 ghost use Rattle.wkt_machine.specs.Machine as place;
-ghost use Rattle.wkt_machine.specs.declared.machine.LexemeKind.TheVariants as sees;
 ghost use Rattle.wkt_machine.specs.declared.machine.State.TheVariants as states;
 ghost use Rattle.wkt_machine.specs.declared.part.Part.TheVariants as parts;
 
@@ -71,24 +69,6 @@ pub fn part_of(kind: GeometryType) -> Part
     }
 }
 
-/// Whether it is a closing parenthesis. A match over all lexemes would be a jump by a table.
-#[inline(always)]
-pub(crate) fn is_close(seen: LexemeKind) -> bool
-    ensures on { OnTrue result (seen ≡ sees.Close) }
-    ensures off { OnFalse result (seen ≢ sees.Close) }
-{
-    matches!(seen, LexemeKind::Close)
-}
-
-/// Whether it is a comma.
-#[inline(always)]
-pub(crate) fn is_comma(seen: LexemeKind) -> bool
-    ensures on { OnTrue result (seen ≡ sees.Comma) }
-    ensures off { OnFalse result (seen ≢ sees.Comma) }
-{
-    matches!(seen, LexemeKind::Comma)
-}
-
 /// Whether a part has one coordinate alone.
 #[inline(always)]
 pub fn is_single(part: Part) -> bool
@@ -97,17 +77,16 @@ pub fn is_single(part: Part) -> bool
     matches!(part, Part::Point | Part::Member)
 }
 
-/// What comes after a number of a coordinate.
+/// The number of a coordinate that comes after this one, if one does.
 #[inline(always)]
-pub(crate) fn after(axis: Axis, dim: Dimension) -> State
-    ensures { result ≡ next_after axis dim }
+pub(crate) fn next_number(axis: Axis, dim: Dimension) -> Option<Axis>
+    ensures { result ≡ number_after axis dim }
 {
     match (axis, dim) {
-        (Axis::X, _) => State::Number(Axis::Y),
-        (Axis::Y, Dimension::XYZ | Dimension::XYZM) => State::Number(Axis::Z),
-        (Axis::Y, Dimension::XYM) => State::Number(Axis::M),
-        (Axis::Z, Dimension::XYZM) => State::Number(Axis::M),
-        _ => State::Item,
+        (Axis::X, _) => Some(Axis::Y),
+        (Axis::Y, Dimension::XYZ | Dimension::XYZM) => Some(Axis::Z),
+        (Axis::Y, Dimension::XYM) | (Axis::Z, Dimension::XYZM) => Some(Axis::M),
+        _ => None,
     }
 }
 

@@ -76,12 +76,6 @@ pub trait FastSource<T: WktNum>: Source<T> {
         requires may { MayStep Self.view B.maker machine self builder }
         ensures { Steps Self.view B.maker machine self builder result };
 
-    /// Before the first lexeme: the geometry begins here. Each of the two has one caller, and is built into it.
-    fn first<B: Builder<T>>(self, machine: Machine, builder: B) -> StepResult<Self, B>
-        requires state { machine.state ≡ next.Kind }
-        requires may { MayStep Self.view B.maker machine self builder }
-        ensures { Steps Self.view B.maker machine self builder result };
-
     /// After one lexeme or more: a coordinate begins here.
     fn coordinates<B: Builder<T>>(self, machine: Machine, builder: B) -> StepResult<Self, B>
         requires state { machine.state ≡ next.Number axis.X }

@@ -1,286 +1,143 @@
-//! The step of the machine.
-ghost use Rattle.std.specs.Prelude.{◌≡◌, ◌<◌, IfOk, Ok, Err};
-ghost use Rattle.wkt_machine.specs.Goes.{EndsPoint};
-ghost use Rattle.wkt_machine.specs.Room.{HasRoom, RoomAt};
-ghost use Rattle.wkt_machine.specs.Steps.{MayStep, MayTake, Steps};
+//! The grammar: what each lexeme does at each place.
+ghost use Rattle.std.specs.Prelude.{◌≡◌, ◌≢◌, ◌<◌, IfSome, Some};
+ghost use Rattle.wkt_machine.specs.Machine.{joined_step};
+ghost use Rattle.wkt_machine.specs.Machines.{state_of, is_member, IsSound};
+ghost use Rattle.wkt_machine.specs.Seen.{seen_at, gone, stepped};
 ghost use Rattle.wkt_machine.specs.declared.machine.LexemeKind.TheVariants as sees;
-ghost use Rattle.wkt_machine.specs.declared.machine.State.TheVariants as next;
+ghost use Rattle.wkt_machine.specs.declared.machine.State.TheVariants as states;
+ghost use Rattle.wkt_machine.specs.declared.part.Axis.TheVariants as axes;
+ghost use Rattle.wkt_machine.specs.declared.part.Part.TheVariants as parts;
 
-use crate::builder::Builder;
-use crate::machine::{LexemeKind, Machine, State, after, is_close, is_comma, is_single, part_of};
+use crate::machine::{LexemeKind, Machine, State, is_single, next_number, part_of};
 use crate::part::{Axis, Part};
-use crate::source::{Progress, Source, StepResult};
 use wkt_access::Dimension;
-use wkt_num::WktNum;
+
+/// What is made of a lexeme.
+#[derive(Clone, Copy)]
+pub enum Action {
+    /// Nothing: behind a kind word alone a dimension may come.
+    Nothing,
+    Header(Part, Dimension),
+    /// The header of a kind word alone, and the parenthesis.
+    HeaderOpen(Part),
+    /// The header of a kind word alone, and EMPTY.
+    HeaderEmpty(Part),
+    Open(Part),
+    Comma(Part),
+    Close(Part),
+    Empty(Part),
+    Number(Axis),
+    /// The first number of a point without parentheses.
+    FirstBare,
+    /// The last number of a point without parentheses.
+    LastBare(Axis),
+}
 
 impl Machine {
-    /// After one lexeme.
-    ///
-    /// Outlined: only this path zeroes the result slot.
+    /// The machine behind a lexeme, and what is made of that; `None` where no such lexeme may stand.
     #[inline(always)]
-    pub fn step<T: WktNum, S: Source<T>, B: Builder<T>>(
-        self,
-        source: S,
-        builder: B,
-    ) -> StepResult<S, B>
-        requires { MayStep S.view B.maker self source builder }
-        ensures { Steps S.view B.maker self source builder result }
-    {
-        self.step_outlined(source, builder)
-    }
-
-    #[inline(never)]
-    #[tactic(auto, using(crate::proofs::StepsJoin::looked_at, crate::proofs::StepsJoin::looked_steps))]
-    fn step_outlined<T: WktNum, S: Source<T>, B: Builder<T>>(
-        self,
-        source: S,
-        builder: B,
-    ) -> StepResult<S, B>
-        requires { MayStep S.view B.maker self source builder }
-        ensures { Steps S.view B.maker self source builder result }
-    {
-        let (seen, source) = source.look();
-        match self.state {
-            State::Kind => self.at_kind(seen, source, builder),
-            State::Dimension => self.at_dimension(seen, source, builder),
-            State::Opening => self.at_opening(seen, source, builder),
-            State::Number(axis) => self.at_number(axis, seen, source, builder),
-            State::Item => self.at_item(seen, source, builder),
-            State::Geometry => self.at_geometry(seen, source, builder),
-        }
-    }
-
-    /// A geometry begins here.
-    #[inline(always)]
-    pub fn at_kind<T: WktNum, S: Source<T>, B: Builder<T>>(
-        self,
-        seen: LexemeKind,
-        source: S,
-        builder: B,
-    ) -> StepResult<S, B>
-        requires state { self.state ≡ next.Kind }
-        requires may { MayTake S.view B.maker self seen source builder }
-        ensures { Steps S.view B.maker self source builder result }
-    {
-        match seen {
-            LexemeKind::Kind(kind, joined) => {
-                let part = part_of(kind);
-                match joined {
-                    None => on(
-                        source.skip(),
-                        self.with_part(State::Dimension, part, Dimension::XY),
-                        builder,
-                    ),
-                    Some(dim) => on(
-                        source.skip(),
-                        self.with_part(State::Opening, part, dim),
-                        builder.begin(part, dim),
-                    ),
-                }
-            }
-            _ => refused(source, self, builder),
-        }
-    }
-
-    /// A kind word stands before.
-    #[inline(always)]
-    pub fn at_dimension<T: WktNum, S: Source<T>, B: Builder<T>>(
-        self,
-        seen: LexemeKind,
-        source: S,
-        builder: B,
-    ) -> StepResult<S, B>
-        requires state { self.state ≡ next.Dimension }
-        requires may { MayTake S.view B.maker self seen source builder }
-        ensures { Steps S.view B.maker self source builder result }
+    pub fn step(self, seen: LexemeKind) -> Option<(Machine, Action)>
+        requires sound { IsSound self }
+        requires room { seen ≢ sees.Other → self.depth < usize.MAX }
+        ensures exact { stepped result ≡ seen_at (state_of self).place self.depth seen }
+        ensures sound { IfSome result (λ r. IsSound r.0) }
     {
         let part = self.part;
-        match seen {
-            LexemeKind::Dimension(dim) => on(
-                source.skip(),
-                self.with_part(State::Opening, part, dim),
-                builder.begin(part, dim),
+        let gone = match (self.state, seen) {
+            (State::Kind, LexemeKind::Kind(kind, joined)) => self.behind_kind(
+                part_of(kind),
+                joined,
             ),
-            LexemeKind::Open => on(
-                source.skip(),
-                self.with_part(State::Opening, part, Dimension::XY).inside(),
-                builder.begin(part, Dimension::XY).open(part),
+            (State::Dimension, LexemeKind::Dimension(dim)) => (
+                self.headed(part, dim),
+                Action::Header(part, dim),
             ),
-            LexemeKind::Empty => on(
-                source.skip(),
-                self.with_part(State::Opening, part, Dimension::XY)
-                    .outside(),
-                builder.begin(part, Dimension::XY).empty(part),
+            (State::Dimension, LexemeKind::Open) => (
+                self.headed(part, Dimension::XY).inside(),
+                Action::HeaderOpen(part),
             ),
-            _ => refused(source, self, builder),
-        }
-    }
-
-    /// A part begins here.
-    #[inline(always)]
-    pub(crate) fn at_opening<T: WktNum, S: Source<T>, B: Builder<T>>(
-        self,
-        seen: LexemeKind,
-        source: S,
-        builder: B,
-    ) -> StepResult<S, B>
-        requires state { self.state ≡ next.Opening }
-        requires may { MayTake S.view B.maker self seen source builder }
-        ensures { Steps S.view B.maker self source builder result }
-    {
-        match seen {
-            LexemeKind::Open => on(source.skip(), self.inside(), builder.open(self.part)),
-            LexemeKind::Empty => on(source.skip(), self.outside(), builder.empty(self.part)),
-            LexemeKind::Number => self.at_member(source, builder),
-            _ => refused(source, self, builder),
-        }
-    }
-
-    /// A number stands where a part begins: a point without parentheses begins with it.
-    #[inline(always)]
-    fn at_member<T: WktNum, S: Source<T>, B: Builder<T>>(
-        self,
-        source: S,
-        builder: B,
-    ) -> StepResult<S, B>
-        requires state { self.state ≡ next.Opening }
-        requires may { MayTake S.view B.maker self sees.Number source builder }
-        ensures { Steps S.view B.maker self source builder result }
-    {
-        match self.part {
-            Part::Member => match source.bare(builder) {
-                Ok((behind, made)) => on(
-                    behind,
-                    self.with_part(State::Number(Axis::Y), Part::Bare, self.dim),
-                    made,
-                ),
-                Err((before, made)) => refused(before, self, made),
-            },
-            _ => refused(source, self, builder),
-        }
-    }
-
-    /// A number of a coordinate comes next. A point without parentheses ends with its last.
-    #[inline(always)]
-    pub fn at_number<T: WktNum, S: Source<T>, B: Builder<T>>(
-        self,
-        axis: Axis,
-        seen: LexemeKind,
-        source: S,
-        builder: B,
-    ) -> StepResult<S, B>
-        requires axis { self.state ≡ next.Number axis }
-        requires may { MayTake S.view B.maker self seen source builder }
-        ensures { Steps S.view B.maker self source builder result }
-    {
-        match seen {
-            LexemeKind::Number => {
-                let state = after(axis, self.dim);
-                match source.number(builder, axis) {
-                    Ok((behind, made)) => match state {
-                        State::Item => self.behind_coordinate(behind, made),
-                        _ => on(behind, self.with_state(state), made),
-                    },
-                    Err((before, made)) => refused(before, self, made),
-                }
-            }
-            _ => refused(source, self, builder),
-        }
-    }
-
-    /// Behind the last number of a coordinate.
-    #[inline(always)]
-    fn behind_coordinate<T: WktNum, S: Source<T>, B: Builder<T>>(
-        self,
-        source: S,
-        builder: B,
-    ) -> StepResult<S, B>
-        requires room { HasRoom S.view B.maker 1 source builder }
-        ensures ends { EndsPoint B.maker self source builder result }
-        ensures room { IfOk result (RoomAt S.view B.maker) }
-    {
-        match self.part {
-            Part::Bare => on(source, self.outside(), builder.close(Part::Member)),
-            _ => on(source, self.with_state(State::Item), builder),
-        }
-    }
-
-    /// An item of a part stands before.
-    #[inline(always)]
-    pub(crate) fn at_item<T: WktNum, S: Source<T>, B: Builder<T>>(
-        self,
-        seen: LexemeKind,
-        source: S,
-        builder: B,
-    ) -> StepResult<S, B>
-        requires state { self.state ≡ next.Item }
-        requires may { MayTake S.view B.maker self seen source builder }
-        ensures { Steps S.view B.maker self source builder result }
-    {
-        if is_close(seen) {
-            on(source.skip(), self.outside(), builder.close(self.part))
-        } else if is_comma(seen) {
-            if is_single(self.part) {
-                refused(source, self, builder)
-            } else {
-                on(source.skip(), self.inside(), builder.comma(self.part))
-            }
-        } else {
-            refused(source, self, builder)
-        }
-    }
-
-    /// A geometry stands before, in a collection.
-    #[inline(always)]
-    pub(crate) fn at_geometry<T: WktNum, S: Source<T>, B: Builder<T>>(
-        self,
-        seen: LexemeKind,
-        source: S,
-        builder: B,
-    ) -> StepResult<S, B>
-        requires state { self.state ≡ next.Geometry }
-        requires inner { 0 < self.depth }
-        requires may { MayTake S.view B.maker self seen source builder }
-        ensures { Steps S.view B.maker self source builder result }
-    {
-        if is_close(seen) {
-            on(
-                source.skip(),
-                self.leave_collection(),
-                builder.close(Part::Collection),
-            )
-        } else if is_comma(seen) {
-            on(
-                source.skip(),
+            (State::Dimension, LexemeKind::Empty) => (
+                self.headed(part, Dimension::XY).outside(),
+                Action::HeaderEmpty(part),
+            ),
+            (State::Opening, LexemeKind::Open) => (self.inside(), Action::Open(part)),
+            (State::Opening, LexemeKind::Empty) => (self.outside(), Action::Empty(part)),
+            (State::Opening, LexemeKind::Number) if is_member(part) => (
+                self.bare(),
+                Action::FirstBare,
+            ),
+            (State::Number(axis), LexemeKind::Number) => self.behind_number(axis),
+            (State::Item, LexemeKind::Comma) if !is_single(part) => (
+                self.inside(),
+                Action::Comma(part),
+            ),
+            (State::Item, LexemeKind::Close) => (self.outside(), Action::Close(part)),
+            (State::Geometry, LexemeKind::Comma) if self.depth > 0 => (
                 self.with_state(State::Kind),
-                builder.comma(Part::Collection),
-            )
-        } else {
-            refused(source, self, builder)
+                Action::Comma(Part::Collection),
+            ),
+            (State::Geometry, LexemeKind::Close) if self.depth > 0 => (
+                self.leave_collection(),
+                Action::Close(Part::Collection),
+            ),
+            _ => return None,
+        };
+        Some(gone)
+    }
+
+    /// Behind a kind word, and the dimension that is joined to it.
+    #[inline(always)]
+    fn behind_kind(self, part: Part, joined: Option<Dimension>) -> (Machine, Action)
+        ensures exact { gone result ≡ joined_step part joined self.depth }
+        ensures sound { IsSound result.0 }
+    {
+        match joined {
+            Some(dim) => (self.headed(part, dim), Action::Header(part, dim)),
+            None => (
+                self.with_part(State::Dimension, part, Dimension::XY),
+                Action::Nothing,
+            ),
+        }
+    }
+
+    /// Behind a header.
+    #[inline(always)]
+    fn headed(self, part: Part, dim: Dimension) -> Machine
+        ensures { result ≡ record { state = states.Opening; part = part; dim = dim; depth = self.depth } }
+    {
+        self.with_part(State::Opening, part, dim)
+    }
+
+    /// Behind the first number of a point without parentheses.
+    #[inline(always)]
+    fn bare(self) -> Machine
+        ensures { result ≡ record { state = states.Number axes.Y; part = parts.Bare; dim = self.dim; depth = self.depth } }
+    {
+        self.with_part(State::Number(Axis::Y), Part::Bare, self.dim)
+    }
+
+    /// Behind a number. A point without parentheses ends with its last.
+    #[inline(always)]
+    fn behind_number(self, axis: Axis) -> (Machine, Action)
+        requires state { self.state ≡ states.Number axis }
+        requires sound { IsSound self }
+        ensures exact { Some (gone result) ≡ seen_at (state_of self).place self.depth sees.Number }
+        ensures sound { IsSound result.0 }
+    {
+        match next_number(axis, self.dim) {
+            Some(next) => (self.with_state(State::Number(next)), Action::Number(axis)),
+            None => match self.part {
+                Part::Bare => (self.outside(), Action::LastBare(axis)),
+                _ => (self.with_state(State::Item), Action::Number(axis)),
+            },
         }
     }
 }
 
-/// On at the place, with what was made.
+/// Whether a part is a point of a multipoint.
 #[inline(always)]
-pub fn on<S, B>(source: S, machine: Machine, builder: B) -> StepResult<S, B>
-    ensures { result ≡ Ok (record { source = source; machine = machine; builder = builder }) }
+fn is_member(part: Part) -> bool
+    ensures { result ≡ is_member part }
 {
-    Ok(Progress {
-        source,
-        machine,
-        builder,
-    })
-}
-
-/// Refused at the place.
-#[inline(always)]
-pub fn refused<S, B>(source: S, machine: Machine, builder: B) -> StepResult<S, B>
-    ensures { result ≡ Err (record { source = source; machine = machine; builder = builder }) }
-{
-    Err(Progress {
-        source,
-        machine,
-        builder,
-    })
+    matches!(part, Part::Member)
 }

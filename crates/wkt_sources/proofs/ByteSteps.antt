@@ -1,37 +1,35 @@
 -- Kind words, numbers, commas and parentheses in bytes, as steps of the machine.
 use Rattle.std.proofs.Common.{◌≡◌, ℕ, ◌+◌, ◌-◌, ◌<◌, List, [], ◌∷◌, length, length-append, get_or, Option, Some, None, Bool, true, false, refl, sym, ap, ◌∙◌, subst, arith, ◌≢◌, ◌≤◌, take, drop, slice_range, if◌then◌else◌, IfSome, codes, ℤ, ◌++◌, inl, IsUtf8, to_z, of_z}
-use Rattle.std.specs.Prelude.{Ok}
 use Rattle.std.specs.Int.{w64}
 use Rattle.std.proofs.lemmas.List.{take_rest}
 use Rattle.wkt_num.specs.Bytes.{Lexeme, Open, Close, Comma, Word, Num, Mark, class_of, Run, AllRun}
 use Rattle.wkt_access.specs.declared.dimensions.Dimension.{Dimension}
 use Rattle.wkt_read.specs.Spanned.{Spanned, AreEnds}
 use Rattle.wkt_events.specs.Remaining.{Legible, remaining_spanned, class_in, IsRunEnd, TakesOne, NoNumber, IsNumberAt}
-use Rattle.wkt_machine.specs.Action as act
+use Rattle.wkt_machine.specs.declared.step.Action.TheVariants as act
 use Rattle.wkt_machine.specs.View.{IsBetween, IsDark, seen_of, sight}
 use Rattle.wkt_sources.specs.Views.{bytes_view, has_coordinates}
-use Rattle.wkt_machine.specs.Events.{Event}
-use Rattle.wkt_machine.specs.Goes.{Stays, MakesOneNumber, IsUnread, IsStuck, Goes, Refuses, closes}
-use Rattle.wkt_machine.specs.Machine.{at, numbers_after, inside, outside, last_place, number_step, said, moved, move, kind_step, joined_step, part_of, State}
+use Rattle.wkt_machine.specs.Events.{Event, axis_of}
+use Rattle.wkt_machine.specs.Goes.{Stays, MakesOneNumber, IsUnread, IsStuck, Goes, Refuses}
+use Rattle.wkt_machine.specs.Machine.{at, numbers_after, inside, outside, last_place, last_step, number_step, step_at, said, moved, move, part_of, State}
 use Rattle.wkt_machine.specs.Machines.{state_of, place_of, after_third, next_after, is_single, HasNext, IsSound}
 use Rattle.wkt_machine.specs.Makers.{Maker}
 use Rattle.wkt_machine.specs.Machine as place
 use Rattle.wkt_sources.specs.declared.bytes.ByteCursor.{ByteCursor}
 use Rattle.wkt_machine.specs.declared.machine.Machine.{Machine}
-use Rattle.wkt_machine.specs.declared.machine.State.{State as Next}
 use Rattle.wkt_machine.specs.declared.part.Axis.{Axis}
 use Rattle.wkt_machine.specs.declared.part.Part.{Part}
 use Rattle.wkt_machine.specs.declared.source.Progress.{Progress}
 use Rattle.wkt_machine.proofs.WaysJoin.{goes_on_to}
-use Rattle.wkt_machine.proofs.NumberSteps.{over_number, inner_number, closes_number}
-use Rattle.wkt_machine.proofs.Stepping.{skipped, several}
+use Rattle.wkt_machine.proofs.NumberSteps.{over_number}
+use Rattle.wkt_machine.proofs.Stepping.{goes_one, skipped, several}
 use Rattle.wkt_machine.specs.declared.machine.LexemeKind.TheVariants as seen
 use Rattle.wkt_machine.specs.declared.machine.State.TheVariants as next
 use Rattle.wkt_machine.specs.declared.part.Axis.TheVariants as axis
 use Rattle.wkt_machine.specs.declared.part.Part.TheVariants as part
 use Rattle.wkt_sources.proofs.ByteViews.{close_mark}
 use Rattle.wkt_sources.proofs.ByteViews as bytes
-use Rattle.wkt_access.specs.declared.dimensions.Dimension.TheVariants.{XY}
+use Rattle.wkt_access.specs.declared.dimensions.Dimension.TheVariants.{XY, XYZ, XYM, XYZM}
 use Rattle.wkt_read.specs.Grammar.{is_empty_word, kind_word, kind_words, DimPart, Header, StandFor}
 use Rattle.wkt_read.specs.Lexemes.{lexeme_of, starts_number, without_plus}
 use Rattle.wkt_events.proofs.RemainingLexemes.{space, spanned-white, takes-mark, takes-run, takes-after, mark-in, remaining-all, takes-number}
@@ -67,9 +65,9 @@ holds part.Line e = ((λ d n. refl), (λ d. refl))
 holds part.AreaRing e = ((λ d n. refl), (λ d. refl))
 holds p e = let never : ⊥ = cc in absurd never
 
-never_closes : (N : Type 0) (p : Part) → has_coordinates p ≡ true → closes {N = N} p ≡ []
-never_closes N part.Bare e = let never : ⊥ = cc in absurd never
-never_closes N p e = refl
+plain_last : (p : Part) (d : Dimension) → has_coordinates p ≡ true → last_step p d ≡ act.Number (axis_of d 0)
+plain_last part.Bare d e = let never : ⊥ = cc in absurd never
+plain_last p d e = refl
 
 -- the place of a number
 abbrev more_of : Axis → Dimension → ℕ
@@ -83,6 +81,34 @@ number_place axis.X p d = refl
 number_place axis.Y p d = refl
 number_place axis.Z p d = refl
 number_place axis.M p d = refl
+
+-- a number of such a part leads to what comes after it
+abbrev Follows : Axis → Dimension → Part → ℕ → Type 0
+Follows a d p n = (number_step p d (more_of a d) n ≡ (at n (place_of (next_after a d) p d), act.Number a)) × HasNext (next_after a d) d
+
+follows : (a : Axis) (d : Dimension) (p : Part) (n : ℕ) → has_coordinates p ≡ true → HasNext (next.Number a) d → Follows a d p n
+follows a d p n e = go a d
+  where
+    ends : (d : Dimension) → number_step p d 0 n ≡ (at n (place.Item p d), act.Number (axis_of d 0))
+    ends d = ap (λ x. (at n x, last_step p d)) ((holds p e).1 d) ∙ ap (λ x. (at n (place.Item p d), x)) (plain_last p d e)
+
+    go : (a : Axis) (d : Dimension) → HasNext (next.Number a) d → Follows a d p n
+    go axis.X XY h = (refl, tt)
+    go axis.X XYZ h = (refl, tt)
+    go axis.X XYM h = (refl, tt)
+    go axis.X XYZM h = (refl, tt)
+    go axis.Y XY h = (ends XY, tt)
+    go axis.Y XYZ h = (refl, tt)
+    go axis.Y XYM h = (refl, tt)
+    go axis.Y XYZM h = (refl, tt)
+    go axis.Z XY h = absurd h
+    go axis.Z XYM h = absurd h
+    go axis.Z XYZ h = (ends XYZ, tt)
+    go axis.Z XYZM h = (refl, tt)
+    go axis.M XY h = absurd h
+    go axis.M XYZ h = absurd h
+    go axis.M XYM h = (ends XYM, tt)
+    go axis.M XYZM h = (ends XYZM, tt)
 
 -- the same machine behind a coordinate
 abbrev pub behind_item : Machine → Machine
@@ -116,26 +142,14 @@ module _ {N B : Type 0} (read : List ℕ → Option N) (maker : Maker N B) {n : 
   -- a number is taken
   pub number_goes : (m k : Machine) (s t : ByteCursor n) (b c : B) (a : Axis) → m.state ≡ next.Number a → IsSound m → has_coordinates m.part ≡ true → MakesOneNumber read (bytes_view feed) maker s b a t c
       → k ≡ record { state = next_after a m.dim; part = m.part; dim = m.dim; depth = m.depth } → Goes read (bytes_view feed) maker m s b (record { source = t; machine = k; builder = c })
-  number_goes m k s t b c a at_a sound has h is = go (next_after a m.dim) refl
-    where
-      inner : (next_after a m.dim ≡ next.Item → ⊥) → Goes read (bytes_view feed) maker m s b (record { source = t; machine = k; builder = c })
-      inner never = inner_number read (bytes_view feed) maker m s t b c a at_a sound h k never is
-
-      go : (x : Next) → next_after a m.dim ≡ x → Goes read (bytes_view feed) maker m s b (record { source = t; machine = k; builder = c })
-      go next.Item e =
-          let plain = holds m.part has in
-          let there : state_of k ≡ at m.depth (last_place m.part m.dim) = ap state_of is ∙ ap (λ x. at m.depth (place_of x m.part m.dim)) e ∙ ap (at m.depth) (sym (plain.1 m.dim)) in
-          let sound_k : IsSound k = subst IsSound (sym is) (subst (λ x. HasNext x m.dim) (sym e) tt) in
-          closes_number read (bytes_view feed) maker m s t b c a at_a sound h (Ok (record { source = t; machine = k; builder = c })) e
-          (refl, there, sound_k, subst (λ es. maker.makes c es c) (sym (never_closes N m.part has)) (maker.none c))
-      go next.Kind e = inner (λ i. let clash : next.Kind ≡ next.Item = sym e ∙ i in cc)
-      go next.Dimension e = inner (λ i. let clash : next.Dimension ≡ next.Item = sym e ∙ i in cc)
-      go next.Opening e = inner (λ i. let clash : next.Opening ≡ next.Item = sym e ∙ i in cc)
-      go (next.Number axis.X) e = inner (λ i. let clash : next.Number axis.X ≡ next.Item = sym e ∙ i in cc)
-      go (next.Number axis.Y) e = inner (λ i. let clash : next.Number axis.Y ≡ next.Item = sym e ∙ i in cc)
-      go (next.Number axis.Z) e = inner (λ i. let clash : next.Number axis.Z ≡ next.Item = sym e ∙ i in cc)
-      go (next.Number axis.M) e = inner (λ i. let clash : next.Number axis.M ≡ next.Item = sym e ∙ i in cc)
-      go next.Geometry e = inner (λ i. let clash : next.Geometry ≡ next.Item = sym e ∙ i in cc)
+  number_goes m k s t b c a at_a sound has h is =
+      let (leads, next_has) = follows a m.dim m.part m.depth has (subst (λ x. HasNext x m.dim) at_a sound) in
+      let moves : move read (state_of m) (Num h.run) ≡ Some (state_of k, Event.Number a h.number ∷ []) =
+      ap (λ p. moved read (step_at p m.depth (Num h.run)) (said read (read h.run))) (ap (λ x. place_of x m.part m.dim) at_a ∙ number_place a m.part m.dim)
+      ∙ ap (λ o. moved read (Some (number_step m.part m.dim (more_of a m.dim) m.depth)) (said read o)) h.reads
+      ∙ ap (λ x. moved read (Some x) (Some (Some h.number))) leads
+      ∙ ap (λ x. Some (state_of x, Event.Number a h.number ∷ [])) (sym is) in
+      goes_one read (bytes_view feed) maker m k s t b c (record { lexeme = Num h.run; end = h.end }) (Event.Number a h.number ∷ []) h.remaining h.place h.keeps moves h.makes (subst IsSound (sym is) next_has)
 
   -- none is
   pub number_stays : (m : Machine) (s t : ByteCursor n) (b c : B) (a : Axis) → m.state ≡ next.Number a → Stays {N = N} (bytes_view feed) s t → IsDark feed t.text.now t.at → NoNumber read t.text.now t.at → maker.makes b [] c

@@ -8,8 +8,8 @@ use Rattle.wkt_read.specs.Stream.{first_of, IsFirst, TakesNext}
 use Rattle.wkt_read.specs.Spanned.{Spanned, lexemes_of}
 use Rattle.wkt_read.specs.Table.{at_bad, at_number, stays, at_end, at_place, closing, closings}
 use Rattle.wkt_read.specs.declared.expected.Expected.{Expected}
-use Rattle.wkt_machine.specs.Action.{Action}
-use Rattle.wkt_machine.specs.Action as act
+use Rattle.wkt_machine.specs.declared.step.Action.{Action}
+use Rattle.wkt_machine.specs.declared.step.Action.TheVariants as act
 use Rattle.wkt_machine.specs.Refusing.{expected_at, last_number, number_expected, blamed, is_number, takes_number}
 use Rattle.wkt_machine.specs.Goes.{IsStuck}
 use Rattle.wkt_machine.specs.Machine.{at, move, moved, number_step, numbers_after, said, Place, State}

@@ -1,12 +1,10 @@
 -- Tokens as a source.
-use Rattle.std.proofs.Common.{◌≡◌, ◌≢◌, ℕ, List, [], ◌∷◌, arith, sym, refl, ap, ◌∙◌, subst, Option, Some, None, false}
+use Rattle.std.proofs.Common.{◌≡◌, ◌≢◌, ℕ, List, [], ◌∷◌, arith, sym, refl, ap, ◌∙◌, subst, Option, Some, None}
 use Rattle.wkt_num.specs.Bytes.{Lexeme}
 use Rattle.wkt_read.specs.Stream.{remaining, end_of, first_of, Moves, Looks, StaysUnread, TakesNumber}
 use Rattle.wkt_read.specs.Spanned.{Spanned}
-use Rattle.wkt_machine.specs.Machine.{is_over, at}
 use Rattle.wkt_machine.specs.Events.{Event}
 use Rattle.wkt_machine.specs.Goes.{Stays, Skips, MakesOneNumber, IsUnread}
-use Rattle.wkt_machine.specs.Machines.{place_of, state_of, HasNext, IsSound}
 use Rattle.wkt_machine.specs.Makers.{Maker}
 use Rattle.wkt_machine.specs.View.{sight}
 use Rattle.wkt_sources.specs.Views.{seen_found, tokens_view}
@@ -15,26 +13,11 @@ use Rattle.wkt_machine.specs.declared.part.Axis.{Axis}
 use Rattle.wkt_sources.specs.declared.tokens.TokenSource.{TokenSource}
 use Rattle.wkt_machine.specs.declared.machine.LexemeKind.TheVariants as seen
 use Rattle.wkt_machine.specs.declared.machine.State.TheVariants as next
-use Rattle.wkt_machine.specs.declared.part.Axis.TheVariants as axis
 use Rattle.wkt_access.specs.declared.dimensions.Dimension.{Dimension}
 use Rattle.wkt_machine.specs.declared.part.Part.{Part}
 use Rattle.wkt_access.specs.declared.dimensions.Dimension.TheVariants.{XY}
 
 -- What the tokenizer's clauses say of tokens as a source.
-
--- before a geometry the machine isn't over
-pub kind_open : (m : Machine) → m.state ≡ next.Kind → is_over (state_of m) ≡ false
-kind_open m e = ap (λ k. is_over (at m.depth (place_of k m.part m.dim))) e
-
-pub kind_sound : (m : Machine) → m.state ≡ next.Kind → IsSound m
-kind_sound m e = subst (λ k. HasNext k m.dim) (sym e) tt
-
--- nor is it before a coordinate
-pub x_open : (m : Machine) → m.state ≡ next.Number axis.X → is_over (state_of m) ≡ false
-x_open m e = ap (λ k. is_over (at m.depth (place_of k m.part m.dim))) e
-
-pub x_sound : (m : Machine) → m.state ≡ next.Number axis.X → IsSound m
-x_sound m e = subst (λ k. HasNext k m.dim) (sym e) tt
 
 -- what comes first is what is seen
 pub sees_first : (ps : List Spanned) → seen_found (first_of ps) ≡ sight ps

@@ -7,7 +7,7 @@ ghost use Rattle.wkt_sources.specs.Views.{Sees};
 use crate::coordinates::{coordinates, has_coordinates};
 use crate::header::take_header;
 use wkt_events::{begins_number, byte_at, run_end, skip_white};
-use wkt_machine::{Axis, Builder, FastSource, LexemeKind, Machine, Source, StepResult};
+use wkt_machine::{Axis, Builder, FastSource, LexemeKind, Machine, Source, StepResult, take_rare};
 use wkt_num::WktNum;
 use wkt_read::words::{dimension_in, is_empty_in, kind_in};
 
@@ -130,17 +130,9 @@ impl<'a, T: WktNum, const LF_ENDS: bool> FastSource<T> for ByteCursor<'a, LF_END
     #[inline(always)]
     fn header<B: Builder<T>>(self, machine: Machine, builder: B) -> StepResult<Self, B> {
         if self.at > self.text.len() {
-            return machine.step(self, builder);
+            return take_rare::<T, Self, B>(machine, self, builder);
         }
-        take_header::<T, B, LF_ENDS, true>(machine, self, builder)
-    }
-
-    #[inline(always)]
-    fn first<B: Builder<T>>(self, machine: Machine, builder: B) -> StepResult<Self, B> {
-        if self.at > self.text.len() {
-            return machine.step(self, builder);
-        }
-        take_header::<T, B, LF_ENDS, false>(machine, self, builder)
+        take_header::<T, B, LF_ENDS>(machine, self, builder)
     }
 
     #[inline(always)]
@@ -148,7 +140,7 @@ impl<'a, T: WktNum, const LF_ENDS: bool> FastSource<T> for ByteCursor<'a, LF_END
     fn coordinates<B: Builder<T>>(self, machine: Machine, builder: B) -> StepResult<Self, B> {
         // A point without parentheses ends with its coordinate.
         if self.at > self.text.len() || !has_coordinates(machine.part) {
-            return machine.step(self, builder);
+            return take_rare::<T, Self, B>(machine, self, builder);
         }
         coordinates::<T, B, LF_ENDS>(machine, self, builder)
     }

@@ -15,8 +15,7 @@ use crate::bytes::ByteCursor;
 use wkt_access::Dimension;
 use wkt_events::{byte_at, skip_white};
 use wkt_machine::machine::is_single;
-use wkt_machine::step::{on, refused};
-use wkt_machine::{Axis, Builder, Machine, Part, Progress, State, StepResult};
+use wkt_machine::{Axis, Builder, Machine, Part, Progress, State, StepResult, on, refused};
 use wkt_num::WktNum;
 
 /// Whether coordinates stand in the parentheses of a part.

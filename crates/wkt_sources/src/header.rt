@@ -19,8 +19,7 @@ use crate::coordinates::{coordinates, has_coordinates};
 use wkt_access::Dimension;
 use wkt_events::{byte_at, is_of_run, skip_white};
 use wkt_machine::machine::part_of;
-use wkt_machine::step::on;
-use wkt_machine::{Axis, Builder, Machine, Part, Progress, State, StepResult};
+use wkt_machine::{Axis, Builder, Machine, Part, Progress, State, StepResult, on, take_rare};
 use wkt_num::WktNum;
 use wkt_read::words::{dimension_front, is_empty_in, kind_front};
 
@@ -60,10 +59,8 @@ pub(crate) struct Header {
 }
 
 /// Behind the header that comes next; of a point behind its coordinate.
-///
-/// There is one for the first geometry and one for those inside, so each has one caller and is inlined there.
 #[inline(always)]
-pub(crate) fn take_header<'a, T: WktNum, B: Builder<T>, const LF_ENDS: bool, const INNER: bool>(
+pub(crate) fn take_header<'a, T: WktNum, B: Builder<T>, const LF_ENDS: bool>(
     machine: Machine,
     source: ByteCursor<'a, LF_ENDS>,
     builder: B,
@@ -113,9 +110,11 @@ pub(crate) fn take_header<'a, T: WktNum, B: Builder<T>, const LF_ENDS: bool, con
     match head {
         Some(head) => Ok(enter::<T, B, LF_ENDS>(head, at, machine, source, builder)),
         // Made anew, so that of the machine its depth alone is kept until here.
-        None => machine
-            .with_part(State::Kind, Part::Collection, Dimension::XY)
-            .step(source, builder),
+        None => take_rare::<T, ByteCursor<'a, LF_ENDS>, B>(
+            machine.with_part(State::Kind, Part::Collection, Dimension::XY),
+            source,
+            builder,
+        ),
     }
 }
 

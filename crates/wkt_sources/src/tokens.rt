@@ -4,10 +4,7 @@ ghost use Rattle.wkt_read.specs.Peeks.{found};
 ghost use Rattle.wkt_sources.specs.Views.{seen_found, tokens_of};
 
 use crate::bytes::seen_word;
-use wkt_machine::step::on;
-use wkt_machine::{
-    Axis, Builder, FastSource, LexemeKind, Machine, Part, Progress, Source, State, StepResult,
-};
+use wkt_machine::{Axis, Builder, FastSource, LexemeKind, Machine, Part, Source, StepResult, take};
 use wkt_num::WktNum;
 use wkt_read::PeekableTokens;
 use wkt_read::words::Lexeme;
@@ -90,47 +87,14 @@ impl<'t, 'a, T: WktNum> Source<T> for TokenSource<'t, 'a, T> {
 }
 
 /// What begins in tokens is taken lexeme by lexeme: so none is looked at before those in front of it are taken.
-///
-/// A kind word and what stands behind it, and two numbers, are taken by the steps for these lexemes, which are built into
-/// the loop: `from_str` takes 30 instructions a byte of mixed lines, and 15 more where each goes by a call.
-#[tactic(auto, using(wkt_machine::proofs::StepsJoin::looked_at))]
 impl<'t, 'a, T: WktNum> FastSource<T> for TokenSource<'t, 'a, T> {
     #[inline(always)]
     fn header<B: Builder<T>>(self, machine: Machine, builder: B) -> StepResult<Self, B> {
-        let (seen, source) = self.look();
-        let Progress {
-            source: behind,
-            machine: next,
-            builder: made,
-        } = machine.at_kind(seen, source, builder)?;
-        match next.state {
-            State::Dimension => {
-                let (seen, source) = behind.look();
-                next.at_dimension(seen, source, made)
-            }
-            _ => on(behind, next, made),
-        }
-    }
-
-    #[inline(always)]
-    fn first<B: Builder<T>>(self, machine: Machine, builder: B) -> StepResult<Self, B> {
-        self.header(machine, builder)
+        take::<T, Self, B>(machine, self, builder)
     }
 
     #[inline(always)]
     fn coordinates<B: Builder<T>>(self, machine: Machine, builder: B) -> StepResult<Self, B> {
-        let (seen, source) = self.look();
-        let Progress {
-            source: behind,
-            machine: next,
-            builder: made,
-        } = machine.at_number(Axis::X, seen, source, builder)?;
-        match next.state {
-            State::Number(Axis::Y) => {
-                let (seen, source) = behind.look();
-                next.at_number(Axis::Y, seen, source, made)
-            }
-            _ => on(behind, next, made),
-        }
+        take::<T, Self, B>(machine, self, builder)
     }
 }

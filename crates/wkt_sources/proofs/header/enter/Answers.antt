@@ -20,7 +20,7 @@ use Rattle.wkt_machine.specs.declared.machine.State.TheVariants as next
 use Rattle.wkt_machine.specs.declared.part.Part.{Part}
 use Rattle.wkt_sources.specs.declared.header.AfterHeader.{AfterHeader}
 use Rattle.wkt_sources.specs.declared.header.AfterHeader.TheVariants as then
-use Rattle.wkt_machine.specs.Action as act
+use Rattle.wkt_machine.specs.declared.step.Action.TheVariants as act
 use Rattle.std.specs.Prelude.{◌⊎◌, if◌then◌else◌, not, ◌==◌}
 use Rattle.wkt_read.proofs.KindWords.{empty_is, empty_no_dim}
 use Rattle.wkt_read.proofs.HeaderPlaces.{upper-length}
