@@ -244,10 +244,6 @@ pub point_name : IsKindName part.Point (codes "POINT")
 unfolding kind_word kind_words class_of
 point_name = record { row = _; names = refl; kind = refl; joined = refl; letters = (refl, (refl, (refl, (refl, (refl, tt))))); begins = refl }
 
-pub polygon_name : IsKindName part.Polygon (codes "POLYGON")
-unfolding kind_word kind_words class_of
-polygon_name = record { row = _; names = refl; kind = refl; joined = refl; letters = (refl, (refl, (refl, (refl, (refl, (refl, (refl, tt))))))); begins = refl }
-
 pub multipoint_name : IsKindName part.MultiPoint (codes "MULTIPOINT")
 unfolding kind_word kind_words class_of
 multipoint_name = record { row = _; names = refl; kind = refl; joined = refl; letters = (refl, (refl, (refl, (refl, (refl, (refl, (refl, (refl, (refl, (refl, tt)))))))))); begins = refl }

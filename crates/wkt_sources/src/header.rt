@@ -26,8 +26,6 @@ use wkt_read::words::{dimension_front, is_empty_in, kind_front};
 // The first bytes of words, each as one number: the compiler doesn't make one comparison of a loop over them.
 const POIN: u32 = 0x4e49_4f50;
 
-const POLY: u32 = 0x594c_4f50;
-
 const LINESTRI: u64 = 0x49525453454e494c;
 
 const MULTIPOI: u64 = 0x494f_5049_544c_554d;
@@ -92,8 +90,6 @@ pub(crate) fn take_header<'a, T: WktNum, B: Builder<T>, const LF_ENDS: bool>(
             }
             None => None,
         }
-    } else if is_polygon(rest) {
-        plain::<7, LF_ENDS>(Part::Polygon, b"POLYGON", text, at)
     } else if is_multipoint(rest) {
         plain::<10, LF_ENDS>(Part::MultiPoint, b"MULTIPOINT", text, at)
     } else if is_linestring(rest) {
@@ -171,29 +167,6 @@ pub(crate) fn is_point(bytes: &[u8]) -> bool
         return false;
     }
     if bytes[4] != b'T' {
-        return false;
-    }
-    true
-}
-
-/// Whether the bytes begin with `POLYGON` in capitals, by four comparisons.
-#[inline(always)]
-fn is_polygon(bytes: &[u8]) -> bool
-    ensures { OnTrue result (take 7 bytes.now ≡ codes "POLYGON") }
-{
-    if bytes.len() < 7 {
-        return false;
-    }
-    if u32::from_le_bytes([bytes[0], bytes[1], bytes[2], bytes[3]]) != POLY {
-        return false;
-    }
-    if bytes[4] != b'G' {
-        return false;
-    }
-    if bytes[5] != b'O' {
-        return false;
-    }
-    if bytes[6] != b'N' {
         return false;
     }
     true

@@ -2,7 +2,7 @@
 use Rattle.std.proofs.Common.{◌≡◌, arith, codes, subst, take}
 use Rattle.std.proofs.lemmas.Bool.{OnTrue_at}
 use Rattle.std.proofs.lemmas.List.{take_rest}
-use Rattle.wkt_sources.proofs.ByteSteps.{collection_name, linestring_name, multipoint_name, point_name, polygon_name}
+use Rattle.wkt_sources.proofs.ByteSteps.{collection_name, linestring_name, multipoint_name, point_name}
 use Rattle.wkt_machine.proofs.StepsJoin.{then_steps}
 use Rattle.wkt_sources.proofs.header.take_header.Goals as goal
 
@@ -21,24 +21,6 @@ plain-requires g c = (
         (
           c.skip_white-at.ensures.inside,
           subst (λ t. take 5 t ≡ codes "POINT") (take_rest c.args.source.text.now c.skip_white-at.result) (OnTrue_at c.if-is_point.true c.is_point.ensures),
-        ),
-      ),
-    ),
-  ),
-)
-
-pub plain-requires-then-is_polygon : goal.plain-requires-then-is_polygon
-plain-requires-then-is_polygon g c = (
-  omega arith,
-  (
-    polygon_name,
-    (
-      omega arith,
-      (
-        omega arith,
-        (
-          c.skip_white-at.ensures.inside,
-          subst (λ t. take 7 t ≡ codes "POLYGON") (take_rest c.args.source.text.now c.skip_white-at.result) (OnTrue_at c.if-is_polygon.true c.is_polygon.ensures),
         ),
       ),
     ),
