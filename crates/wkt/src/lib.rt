@@ -170,16 +170,6 @@ pub mod geo_types_from_wkt {
     pub use wkt_types::ConvertError as Error;
 }
 
-/// Walks over the coordinates of two-dimensional geometries, as the crate `geo` has them.
-///
-/// ```text
-/// let geometry = Geometry::<i64>::try_from_wkt_str(alloc, "LINESTRING(3 1,0 5)")?;
-/// let rect = bounding_rect(&geometry); // from (0, 1) to (3, 5)
-/// ```
-pub mod walks {
-    pub use wkt_flat::{Mapper, Visitor, bounding_rect, map_coords, num_coords, visit_coords};
-}
-
 /// Why a geometry isn't written, and one error for whatever a function here returns.
 pub mod error {
     pub use crate::any_error::AnyError;

@@ -17,7 +17,7 @@ use wkt_examples::json_service::serve;
 use wkt_examples::key::key;
 use wkt_examples::my_map::{Figure, Map};
 use wkt_examples::my_sinks::{Page, Piecewise, answers};
-use wkt_examples::one_text::write_flat_key;
+use wkt_examples::one_text::{self, write_flat_key};
 use wkt_examples::scene::{Layer, scene_text};
 use wkt_lines::RunError;
 
@@ -253,4 +253,27 @@ fn scenes(rt: HostRuntime) {
     let want =
         "GEOMETRYCOLLECTION(POINT(0 7),GEOMETRYCOLLECTION(LINESTRING(1 -2,3 4)),GEOMETRYCOLLECTION EMPTY)";
     equal(&rt, text.as_str(), want);
+}
+
+const LINES: &[&str] = &[
+    "point(1.50 2)",
+    "POINT (+1.5 02.0)",
+    "no",
+    "POLYGON(EMPTY)",
+    "POLYGON EMPTY",
+];
+
+/// Two keys are counted twice each.
+fn are_counted(rt: &impl Abort, alloc: Global, all: &[String]) {
+    let counted = one_text::counts(alloc, all).expect(rt, "memory");
+    equal(rt, counted.len(), 2);
+    equal(rt, counted.get("POINT(1.5 2)").copied(), Some(2));
+    equal(rt, counted.get("POLYGON EMPTY").copied(), Some(2));
+}
+
+#[test]
+fn keys_are_counted(rt: HostRuntime) {
+    let all = one_text::keys::<Decimal<6>>(rt.alloc(), LINES).expect(&rt, "memory");
+    equal(&rt, all.len(), 4);
+    are_counted(&rt, rt.alloc(), &all);
 }

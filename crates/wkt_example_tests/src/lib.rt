@@ -10,8 +10,6 @@ mod io_errors;
 #[cfg(test)]
 mod rows;
 #[cfg(test)]
-mod visit;
-#[cfg(test)]
 mod write;
 
 #[cfg(test)]

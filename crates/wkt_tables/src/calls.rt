@@ -2,7 +2,7 @@
 use crate::dialects::in_dialects;
 use crate::flat_calls::{becomes, converted, flat_of};
 use crate::json_calls::json_given;
-use crate::made::{built, canonical, lines, pushed, turned};
+use crate::made::{built, canonical, lines, pushed};
 use crate::numbers::{answer_of, number_of};
 use crate::parts::{flat_of_whole, held, lexemes, message, place};
 use crate::table::said;
@@ -51,7 +51,6 @@ fn of_text(alloc: Global, call: &str, text: &str) -> Result<String, AnyError> {
         "convert_from" => converted(alloc, text),
         "kinds" => becomes(alloc, text),
         "into_canonical" => canonical(alloc, text),
-        "map_coords" => turned(alloc, text),
         "literals" => built(alloc, text),
         "lines" => lines(alloc, text),
         "explain" => place(alloc, text),

@@ -1,6 +1,6 @@
 //! Calls that make a geometry or a text of another, by their names, and the builders of geometries, called with the
 //! numbers that a text holds.
-use crate::calls::{Number, flat_shown};
+use crate::calls::Number;
 use std::alloc::{AllocError, Global};
 use wkt::error::Error as WriteError;
 use wkt::geo_types::{Geometry, Line, LineString, Rect, Triangle};
@@ -11,16 +11,8 @@ use wkt::to_wkt::{
     push_rect, push_triangle,
 };
 use wkt::types::{self, Coord, Point, Polygon};
-use wkt::walks::map_coords;
 use wkt::{AnyError, FromWktStr, ReadError, TryFromWkt, Wkt};
-use wkt_all_calls::Swapped;
 use wkt_lines::Lines;
-
-/// The two-dimensional geometry of a text, with x for y.
-pub(crate) fn turned(alloc: Global, text: &str) -> Result<String, AnyError> {
-    let geometry = Geometry::<Number>::try_from_wkt_str(alloc, text)?;
-    flat_shown(alloc, map_coords(alloc, &geometry, &Swapped))
-}
 
 /// The geometry of a text made canonical, if its text is read as the same.
 pub(crate) fn canonical(alloc: Global, text: &str) -> Result<String, AnyError> {
