@@ -13,7 +13,6 @@ use wkt_examples::any_geometry::{count_members, first_member, write_members};
 use wkt_examples::every_geometry::{every_geometry, every_geometry_of_stream};
 use wkt_examples::flat_from_reader::{CopyError, copy_polygon};
 use wkt_examples::from_text::geometry_in;
-use wkt_examples::json_service::serve;
 use wkt_examples::key::key;
 use wkt_examples::my_map::{Figure, Map};
 use wkt_examples::my_sinks::{Page, Piecewise, answers};
@@ -198,33 +197,6 @@ fn runs(rt: HostRuntime) {
     equal(&rt, text.as_slice(), want);
     let answer = answers(rt.alloc(), input, 23);
     holds(&rt, matches!(answer, Err(RunError::Write(_))));
-}
-
-const SERVED: &[u8] =
-    b"\"point ( 10 -20.50 )\"\n\"POINT(1)\"\n7\n\"POINT(1 2)\n\n \"POLYGON EMPTY\" ";
-
-const SERVICE: &[u8] =
-    b"\"POINT(10 -20.5)\"\n{\"refused\":7}\n{\"refused\":null}\n{\"refused\":null}\n{\"refused\":null}\n\"POLYGON EMPTY\"\n";
-
-/// A page with no more room is filled with a beginning of the answers, and fails so often.
-fn serves_to(rt: &impl Abort, alloc: Global, room: usize, failures: u64) {
-    let mut page = page(alloc, room);
-    let answer = serve::<Decimal<6>, _, _>(alloc, &mut piecewise(SERVED), &mut page);
-    let is_full = matches!(answer, Err(RunError::Write(_)));
-    equal(
-        rt,
-        (answer.is_ok(), is_full),
-        (failures == 0, failures == 1),
-    );
-    equal(rt, (page.text.len(), page.failures), (room, failures));
-    holds(rt, SERVICE.starts_with(page.text.as_slice()));
-}
-
-#[test]
-fn serves(rt: HostRuntime) {
-    serves_to(&rt, rt.alloc(), SERVICE.len(), 0);
-    serves_to(&rt, rt.alloc(), SERVICE.len().saturating_sub(1), 1);
-    serves_to(&rt, rt.alloc(), 0, 1);
 }
 
 /// A group of that name.

@@ -10,7 +10,6 @@ pub mod any_geometry;
 pub mod every_geometry;
 pub mod flat_from_reader;
 pub mod from_text;
-pub mod json_service;
 pub mod key;
 pub mod my_builder;
 pub mod my_map;

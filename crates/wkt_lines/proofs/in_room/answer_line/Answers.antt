@@ -1,7 +1,7 @@
 -- A line is answered by its front and by what stands behind that.
 use Rattle.std.proofs.Common.{arith}
 use Rattle.wkt_lines.proofs.Answering.{from-within, from-in-line, refused-line, no-front, no-text, text-line}
-use Rattle.wkt_lines.proofs.in_room.answer_line_by.Goals as goal
+use Rattle.wkt_lines.proofs.in_room.answer_line.Goals as goal
 
 pub ends_there-requires-clause-inside : goal.ends_there-requires-clause-inside
 ends_there-requires-clause-inside g c =
