@@ -1,6 +1,6 @@
 -- A text without a front is one in which the machine stops.
 use Rattle.wkt_sources.proofs.TableMessages.{stops_message}
-use Rattle.wkt_explain.proofs.api.message_by.Goals as goal
+use Rattle.wkt_explain.proofs.api.message.Goals as goal
 
 pub unreachable-requires : goal.unreachable-requires
 unreachable-requires g c = let (v, front) = c.in-Ok.ensures.front in c.requires v _ front
