@@ -10,7 +10,7 @@
 # out of memory, which no wrong value does, or to pass.
 #
 # The gate runs it on what it has built; alone, build all of them first (rt run in crates/wktline, crates/wktstream,
-# crates/wkt_command and crates/wkt_tables, rt test in crates/wkt, crates/wkt_read_tests and crates/wkt_example_tests).
+# crates/wkt_command and crates/wkt_tables, rt test in crates/wkt, crates/wkt_read_tests and crates/wkt_examples).
 set -u
 cd "$(dirname "$0")/../.." || exit 1
 dir=$(mktemp -d)
@@ -111,7 +111,7 @@ each wkt_command "$dir/dialects" 1 2 1 canon --dialect ewkt,exponents,nan --refu
 each wkt_command /dev/null 0 2 1 same 'LINESTRING(1 2,3 4)' 'linestring ( 1.0 2, 3 +4)'
 each_test wkt
 each_test wkt_read_tests values::
-each_test wkt_example_tests rows::
+each_test wkt_examples rows
 
 # nested N: a point in so many collections
 nested() { printf 'GEOMETRYCOLLECTION(%.0s' $(seq "$1"); printf 'POINT(1 2)'; printf ')%.0s' $(seq "$1"); }

@@ -1,17 +1,16 @@
 //! The custom representation of `my_map`, written by all eleven writers.
-use crate::{equal, holds};
+use crate::my_map::{Area, Areas, Corners, Dot, Dots, Figure, Map, Segment, Spot, Track, Tracks};
+use crate::tests::{equal, holds};
 use std::alloc::Global;
 use std::process::Abort;
 use wkt::error::Error;
 use wkt::geo_traits::Dimensions;
 use wkt::to_wkt::{
-    CountedText, TextSink, push_geometry, write_geometry, write_geometry_collection, write_line,
-    write_linestring, write_multi_linestring, write_multi_point, write_multi_polygon, write_point,
-    write_polygon, write_rect, write_triangle,
+    CountedText, TextSink, WriterWrapper, push_geometry, write_geometry, write_geometry_collection,
+    write_line, write_linestring, write_multi_linestring, write_multi_point, write_multi_polygon,
+    write_point, write_polygon, write_rect, write_triangle,
 };
-use wkt_examples::my_map::{Area, Areas, Corners, Figure, Map, Segment, Track, Tracks};
-use wkt_examples::my_points::{Dot, Dots, Spot};
-use wkt_examples::my_sinks::Paper;
+use wkt_test_support::Slow;
 
 fn spot(rt: &impl Abort, alloc: Global, x: i32, y: i32, others: &[i32]) -> Spot {
     let first: &[i32] = &[x, y];
@@ -245,30 +244,20 @@ fn drops_spare_numbers(rt: HostRuntime) {
     equal(&rt, text.as_str(), "at: LINESTRING Z(1 2 3)");
 }
 
-/// A paper with so little left takes a beginning of the group, and fails once.
-fn fails_at(rt: &impl Abort, alloc: Global, group: &Figure, left: usize) {
-    let mut paper = Paper::new(alloc, left);
-    holds(
-        rt,
-        matches!(write_geometry(&mut paper, group), Err(Error::FmtError(_))),
-    );
-    holds(rt, ALL.as_bytes().starts_with(paper.bytes.as_slice()));
-    holds(rt, paper.bytes.len() < ALL.len());
-    equal(rt, paper.failures, 1);
+/// A sink that fails at a byte that is put out before the end holds a beginning of the group, and failed once.
+fn fails_at(rt: &impl Abort, group: &Figure, calls: usize) {
+    let mut sink = Slow::new(1, calls);
+    let answer = write_geometry(&mut WriterWrapper::new(&mut sink), group);
+    holds(rt, matches!(answer, Err(Error::FmtError(_))));
+    equal(rt, sink.taken(), &ALL.as_bytes()[..calls]);
+    equal(rt, sink.failures, 1);
 }
 
-/// How much of a paper with room for the group it takes.
-fn taken(rt: &impl Abort, alloc: Global, group: &Figure) -> usize {
-    let mut whole = Paper::new(alloc, 1000);
-    write_geometry(&mut whole, group).expect(rt, "written");
-    equal(rt, whole.bytes.as_slice(), ALL.as_bytes());
-    1000usize.saturating_sub(whole.left)
-}
-
+// The text is longer than the 256 bytes that are gathered.
 #[test]
 fn fails_with_the_sink(rt: HostRuntime) {
     let group = Figure::Group(Dimensions::Xy, figures(&rt, rt.alloc()));
-    for left in 0..taken(&rt, rt.alloc(), &group) {
-        fails_at(&rt, rt.alloc(), &group, left);
+    for calls in 0..256 {
+        fails_at(&rt, &group, calls);
     }
 }

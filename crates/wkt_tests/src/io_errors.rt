@@ -1,17 +1,17 @@
 //! The error that a sink or a source gave is the one that comes: its kind, its code and its words.
-use crate::equal;
+use crate::asserts::equal;
 use std::alloc::Global;
 use std::io;
 use std::io::ErrorKind;
 use std::process::Abort;
 use wkt::geo_types::{Geometry, LineString, Point, Polygon};
 use wkt::geo_types_from_wkt::Error as FlatError;
-use wkt::to_wkt::{ByteSink, ByteSource, ReadAllError, TextSink, WriterWrapper, put_all, read_all};
+use wkt::to_wkt::{
+    ByteSink, ByteSource, Counted, ReadAllError, TextSink, WriterWrapper, put_all, read_all,
+};
 use wkt::{ToWkt, ToWktError, TryFromWkt};
-use wkt_examples::flat_from_reader::{CopyError, copy_polygon};
-use wkt_examples::my_sinks::{Page, Piecewise};
-use wkt_examples::one_text::write_flat_key;
 use wkt_lines::{RunError, run, stream};
+use wkt_test_support::source;
 
 /// Which error a sink or a source gives.
 #[derive(Clone, Copy, Drop)]
@@ -83,24 +83,11 @@ fn of_run(answer: Result<(), RunError>) -> Option<io::Error> {
     }
 }
 
-fn of_copy(answer: Result<(), CopyError>) -> Option<io::Error> {
-    match answer {
-        Err(CopyError::Read(FlatError::Reader(e))) => Some(e),
-        Err(CopyError::Write(e)) => of_writing(Err(e)),
-        _ => None,
-    }
-}
-
 fn of_reading<G: Drop>(answer: Result<G, FlatError>) -> Option<io::Error> {
     match answer {
         Err(FlatError::Reader(e)) => Some(e),
         _ => None,
     }
-}
-
-/// A source of these bytes.
-fn piecewise(rest: &[u8]) -> Piecewise<'_> {
-    Piecewise { rest, step: 7 }
 }
 
 /// The error that a wrapper returns which had text for the sink.
@@ -111,31 +98,16 @@ fn of_wrapper(failing: &mut Failing) -> Option<io::Error> {
     wrapper.take_fault()
 }
 
-/// What comes of the calls of the library that write.
-fn of_writer(alloc: Global, call: usize, failing: &mut Failing) -> Option<io::Error> {
+/// What comes of each of six calls that take a sink, or text that is gathered for one.
+fn of_sink(alloc: Global, call: usize, failing: &mut Failing) -> Option<io::Error> {
     let point = Point::new(1i32, 2);
+    let mut line = source(b"POINT(1 2)\n", 7, 100);
     match call {
         0 => of_writing(point.write_wkt(alloc, failing)),
         1 => of_writing(Geometry::from(point).write_wkt(alloc, failing)),
-        _ => of_writing(write_flat_key(alloc, &Geometry::from(point), failing)),
-    }
-}
-
-/// The error of a copy whose sink fails.
-fn of_copy_out(alloc: Global, failing: &mut Failing) -> Option<io::Error> {
-    let mut polygon = piecewise(b"POLYGON((0 0,4 0,2 4))");
-    of_copy(copy_polygon::<i32, Piecewise<'_>, Failing>(alloc, &mut polygon, failing))
-}
-
-/// What comes of each of eight calls that take a sink, or text that is gathered for one.
-fn of_sink(alloc: Global, call: usize, failing: &mut Failing) -> Option<io::Error> {
-    let mut line = piecewise(b"POINT(1 2)\n");
-    match call {
-        0..=2 => of_writer(alloc, call, failing),
-        3 => put_all(failing, b"POINT").err(),
-        4 => of_run(run(alloc, &mut line, failing)),
-        5 => of_run(stream(alloc, &mut line, failing)),
-        6 => of_copy_out(alloc, failing),
+        2 => put_all(failing, b"POINT").err(),
+        3 => of_run(run(alloc, &mut line, failing)),
+        4 => of_run(stream(alloc, &mut line, failing)),
         _ => of_wrapper(failing),
     }
 }
@@ -157,19 +129,14 @@ fn of_reader(alloc: Global, call: usize, failing: &mut Failing) -> Option<io::Er
     }
 }
 
-/// What comes of each of eight calls that take a source.
+/// What comes of each of seven calls that take a source.
 fn of_source(alloc: Global, call: usize, failing: &mut Failing) -> Option<io::Error> {
-    let mut page = Page {
-        text: Vec::new(alloc),
-        room: 100,
-        failures: 0,
-    };
+    let mut sink = Counted::new(Vec::<u8>::new(alloc));
     match call {
         0 => of_read_all(read_all(alloc, failing)),
         1..=4 => of_reader(alloc, call, failing),
-        5 => of_run(run(alloc, failing, &mut page)),
-        6 => of_run(stream(alloc, failing, &mut page)),
-        _ => of_copy(copy_polygon::<i32, Failing, Page>(alloc, failing, &mut page)),
+        5 => of_run(run(alloc, failing, &mut sink)),
+        _ => of_run(stream(alloc, failing, &mut sink)),
     }
 }
 
@@ -185,12 +152,12 @@ fn is_unchanged(rt: &impl Abort, alloc: Global, came: &io::Error, want: &io::Err
     equal(rt, words(rt, alloc, came), words(rt, alloc, want));
 }
 
-/// What comes of each of those sixteen calls.
+/// What comes of each of those thirteen calls.
 fn of_call(alloc: Global, call: usize, failing: &mut Failing) -> Option<io::Error> {
-    if call < 8 {
+    if call < 6 {
         of_sink(alloc, call, failing)
     } else {
-        of_source(alloc, call - 8, failing)
+        of_source(alloc, call - 6, failing)
     }
 }
 
@@ -205,7 +172,7 @@ fn comes_unchanged(rt: &impl Abort, alloc: Global, call: usize, given: CallGiven
 #[test]
 fn errors_come_unchanged(rt: HostRuntime) {
     for &given in GIVEN {
-        for call in 0..16 {
+        for call in 0..13 {
             comes_unchanged(&rt, rt.alloc(), call, given);
         }
     }
