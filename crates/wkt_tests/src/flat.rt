@@ -1,5 +1,5 @@
 //! The two-dimensional types: flat values from readers that are slow or fail.
-//! `wkt_type_tests` has what needs no reading.
+//! `wkt_test_support` has what needs no reading.
 use crate::asserts::{equal, holds};
 use std::alloc::Global;
 use std::io::ErrorKind;

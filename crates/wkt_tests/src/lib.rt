@@ -2,7 +2,7 @@
 //! row of `wkt_tables`.
 //!
 //! Below stand `wkt`, the crates that it is made of, `wkt_lines`, and what tests share. Tests of one crate that reads are
-//! those of `wkt_read_tests`, and tests that need no reading those of `wkt_type_tests`.
+//! those of `wkt_read_tests`, and tests that need no reading those of `wkt_test_support`.
 #![tactic(auto)]
 
 #[cfg(test)]

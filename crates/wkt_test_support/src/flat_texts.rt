@@ -1,5 +1,6 @@
 //! The text of a value of each two-dimensional type, by each call that writes it, also to writers that are slow or
 //! fail, and the texts of the errors.
+use crate::Slow;
 use crate::asserts::{equal, holds, says};
 use std::alloc::{AllocError, Global};
 use std::io;
@@ -13,7 +14,6 @@ use wkt_flat::{
     MultiPolygon, Point, Polygon, Rect, Triangle,
 };
 use wkt_num::{CountedText, Decimal, TextSink, WktNum};
-use wkt_test_support::Slow;
 use wkt_types::{ConvertError as Error, Dimension, Point as WktPoint};
 use wkt_write::{
     write_geometry, write_geometry_collection, write_line, write_linestring,
