@@ -1,7 +1,7 @@
 #!/usr/bin/env bash
 # Prints the tables of each operation beside the Rust crate's: operations.sh OURS CRATE
 #
-# OURS is crates/wkt_operations/out/wkt_operations, which rt run builds; CRATE is the same program over the Rust
+# OURS is crates/wkt_tables/out/wkt_tables, which rt run builds, by its argument `count`; CRATE does the same over the Rust
 # crate: cargo build --release --manifest-path bench/rust/Cargo.toml makes bench/rust/target/release/operations.
 #
 # callgrind counts instructions, so the figures are the same on every run. A figure is what an operation takes beyond the
@@ -61,7 +61,9 @@ PRIVATE = ["tokens", "whole"]
 
 @lru_cache(maxsize=None)
 def count(program, numbers, operation, workload):
-    words = ["valgrind", "--tool=callgrind", "--callgrind-out-file=/dev/null", program, numbers, operation]
+    words = ["valgrind", "--tool=callgrind", "--callgrind-out-file=/dev/null", program]
+    words += ["count"] if os.path.basename(program) == "wkt_tables" else []
+    words += [numbers, operation]
     with open(f"{work}/{workload}") as lines:
         run = subprocess.run(words, stdin=lines, capture_output=True, text=True, check=True)
     return int(re.search(r"Collected *: *(\d+)", run.stderr).group(1))

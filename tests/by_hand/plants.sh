@@ -23,11 +23,6 @@ wkt_sources plain: \{ None \}
 wkt_sources is_(point|polygon|multipoint|linestring|collection): \{ false \}
 # A fast way of reading a point: its None says nothing, and the text then goes by the machine.
 wkt_sources fast_point: \{ (None|self::fast_point\(places, &\[\]\)) \}
-# Which of two texts stands first makes no difference.
-wkt_examples same_place: \{ .*\(alloc, other, one\) \}
-# The sink that it makes may have no room, and memory may run out: both are answers that its contract allows at any time.
-wkt_examples answers: \{ Err\(RunError::(Write|Memory)\(.*\)\) \}
-wkt_examples answers: \{ .*\(alloc, input, 0\) \}
 # That two calls differ says nothing of the text: the tables take it for wrong.
 wkt_tests answer: \{ Err\(AnswerError::Differ\) \}
 # Which error a sink gives is no part of a contract. That it comes unchanged is tested.

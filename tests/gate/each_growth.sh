@@ -1,5 +1,5 @@
 #!/usr/bin/env bash
-# Refuses each allocation of the five built programs in turn, and of the built tests of the macros, of the callers
+# Refuses each allocation of the four built programs in turn, and of the built tests of the macros, of the callers
 # over rows, and of values made of events, until a run meets none.
 #
 # wktline, wktstream and the command wkt answer lines of every kind: each refusal has to end them with their words and status, after the
@@ -10,7 +10,7 @@
 # out of memory, which no wrong value does, or to pass.
 #
 # The gate runs it on what it has built; alone, build all of them first (rt run in crates/wktline, crates/wktstream,
-# crates/wkt_command, crates/wkt_tables and crates/wkt_operations, rt test in crates/wkt, crates/wkt_read_tests and crates/wkt_example_tests).
+# crates/wkt_command and crates/wkt_tables, rt test in crates/wkt, crates/wkt_read_tests and crates/wkt_examples).
 set -u
 cd "$(dirname "$0")/../.." || exit 1
 dir=$(mktemp -d)
@@ -100,7 +100,7 @@ each wktline "$dir/lines" 0 1 1
 each wktstream "$dir/lines" 0 1 1
 each wkt_tables tests/data/growth.tsv 0 2 1
 each wkt_tables /dev/null 0 2 1 tests/data/growth.jsonl
-each wkt_operations "$dir/lines" 0 1 1 decimal canonical to_string display wkt_string
+each wkt_tables "$dir/lines" 0 2 1 count decimal canonical to_string display wkt_string
 # The command answers some lines with words for people, and its status says that some were refused.
 each wkt_command "$dir/lines" 1 2 1 canon --refused refused
 each wkt_command "$dir/lines" 1 2 1 kind --refused refused -q
@@ -111,7 +111,7 @@ each wkt_command "$dir/dialects" 1 2 1 canon --dialect ewkt,exponents,nan --refu
 each wkt_command /dev/null 0 2 1 same 'LINESTRING(1 2,3 4)' 'linestring ( 1.0 2, 3 +4)'
 each_test wkt
 each_test wkt_read_tests values::
-each_test wkt_example_tests rows::
+each_test wkt_examples rows
 
 # nested N: a point in so many collections
 nested() { printf 'GEOMETRYCOLLECTION(%.0s' $(seq "$1"); printf 'POINT(1 2)'; printf ')%.0s' $(seq "$1"); }

@@ -35,7 +35,7 @@ use Rattle.wkt_flat.specs.Rings.{Rings, lesser, greater}
 use Rattle.wkt_flat.specs.Shape.{flat_shape, flat_shapes, sequence_numbers, rings_shape}
 use Rattle.wkt_flat.specs.Shape as shape
 use Rattle.wkt_convert.specs.Back.{back, all_back, flat_xy, line_string_back, rings_back, point_back, polygon_back}
-use Rattle.wkt_flat.specs.Bounds.{IsAtMost}
+use Rattle.wkt.specs.Laws.{IsAtMost}
 use Rattle.wkt_flat.specs.declared.point.Point as flat_point
 
 -- The answers to texts and JSON values: the flat value of the front, or a refusal with its message.

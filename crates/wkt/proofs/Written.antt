@@ -44,9 +44,6 @@ module _ {X : Type 0} (E : X → X → Bool) (as' bs : List X) (i : ℕ) where
       left ≡ pointwise E (drop (i + 1) as') (drop (i + 1) bs)
   parts_agree x y h e lt f agrees = part_step x y h e lt f ∙ ap (λ b. b && pointwise E (drop (i + 1) as') (drop (i + 1) bs)) agrees
 
-  pub parts_short : (x : X) → i < length as' → length bs ≤ i → left ≡ false
-  parts_short x h k = rw (drop-cons as' i x h, drop_all i bs k) refl
-
 none_short : {X : Type 0} (E : X → X → Bool) (n m : ℕ) (ws : List X) → length ws ≡ m - n → n ≤ m → nat_eq n m ≡ pointwise E [] ws
 none_short E n m [] h k = eq-eqb n m (omega (arith, h))
 none_short E n m (w ∷ ws) h k = differ n m (omega (arith, h))
@@ -109,9 +106,6 @@ lists_each {f = f} {E = E} e (x ∷ xs) (y ∷ ys) h =
     let first : f x ≡ f y = cc in
     let rest : map f xs ≡ map f ys = cc in
     and_true (e.each x y first) (lists_each e xs ys rest)
-
-lists_test : {X V : Type 0} {f : X → V} {E : X → X → Bool} → IsTestOf f E → IsTestOf (map f) (pointwise E)
-lists_test e = record { only = lists_only e; each = lists_each e }
 
 option_only : {X V : Type 0} {f : X → V} {E : X → X → Bool} → IsTestOf f E → (x y : Option X) → option_eq E x y ≡ true → option_map f x ≡ option_map f y
 option_only e None None h = refl

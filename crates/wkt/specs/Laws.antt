@@ -1,5 +1,6 @@
 -- What the law of flat values and their texts says; `laws` proves it.
-use Rattle.std.specs.Prelude.{◌≡◌, ◌↔◌, ℕ, Bool, List, Option, map}
+use Rattle.std.specs.Prelude.{◌≡◌, ◌↔◌, ℕ, Bool, false, List, Option, map}
+use Rattle.std.specs.Ordering.{is_gt}
 use Rattle.std.specs.declared.cmp.Ordering.{Ordering}
 use Rattle.wkt_access.specs.WellFormed.{IsLawful}
 use Rattle.wkt_access.specs.Texts.{shape_text}
@@ -9,7 +10,6 @@ use Rattle.wkt_flat.specs.Equal.{coord_eq}
 use Rattle.wkt_flat.specs.Shape.{flat_shape}
 use Rattle.wkt_flat.specs.declared.coord.Coord.{Coord}
 use Rattle.wkt_flat.specs.declared.geometry.Geometry.{Geometry}
-use Rattle.wkt_flat.specs.Bounds.{IsAtMost}
 use Rattle.wkt_types.specs.Tree.{tree, members}
 use Rattle.wkt_types.specs.declared.geometry.Wkt.{Wkt}
 use Rattle.wkt_types.specs.Outcome.{Outcome, value}
@@ -33,6 +33,10 @@ PlainReadsBack {T} is_value num read E = (t : Flat T) → HasClosedRings t → F
 abbrev pub BackIsRead : {T : Type 0} → (T → Type 0) → (T → List ℕ) → (List ℕ → Option T) → Type 0
 BackIsRead {T} is_value num read =
     (t : Flat T) → IsLawful is_value (flat_shape t) → IsFront read (shape_text num (flat_shape t)) (back t)
+
+-- By this order x is not above y.
+abbrev pub IsAtMost : {N : Type 0} → (N → N → Ordering) → N → N → Type 0
+IsAtMost cmp x y = is_gt (cmp x y) ≡ false
 
 -- Of the corners that a rectangle is made of, the least has on each axis a number that is at most that of the greatest.
 abbrev pub CornersAreInOrder : {T : Type 0} → (T → T → Ordering) → (T → T → Option Ordering) → Type 0

@@ -78,10 +78,6 @@ pub use Rattle.wkt_flat.specs.Equal as FlatEqual
 pub use Rattle.wkt_flat.specs.Shape as FlatShape
 pub use Rattle.wkt_flat.specs.Rings
 pub use Rattle.wkt_flat.specs.declared.coord.Coord as FlatCoord
--- walks over its coordinates
-pub use Rattle.wkt_flat.specs.FlatCoords
-pub use Rattle.wkt_flat.specs.Bounds
-pub use Rattle.wkt_flat.specs.Mapped
 -- conversions between the two
 pub use Rattle.wkt_convert.specs.Flatten
 pub use Rattle.wkt_convert.specs.Kinds as FlatKinds

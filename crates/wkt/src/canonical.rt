@@ -34,7 +34,7 @@ fn message_of<T: WktNum>(text: &str) -> Message
     requires { HasNoFront T.read text.now }
     ensures { IsRefusedWith T.read text.now result }
 {
-    message::<T>(text)
+    message(OfType::<T>::new(), text)
 }
 
 /// The canonical text of the geometry at the front of the text. Texts of one geometry have the same, and texts of two
@@ -68,7 +68,7 @@ pub fn canonical_text<T: WktNum>(alloc: Global, text: &str) -> Result<String, Re
         }
     }
     let mut bytes = Vec::new(alloc);
-    match write_growing::<T>(text, &mut bytes)? {
+    match write_growing(OfType::<T>::new(), text, &mut bytes)? {
         Some(TextWritten { end: _, len }) => {
             bytes.truncate(len);
             bytes.shrink_to_fit();

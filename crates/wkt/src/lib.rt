@@ -151,9 +151,7 @@ pub mod to_wkt {
     pub use wkt_convert::{ToWkt, ToWktError};
     pub use wkt_num::{CountedText, FormatterText, StringText, TextSink};
     pub use wkt_write::{
-        push_geometry, push_geometry_collection, push_line, push_linestring, push_multi_linestring,
-        push_multi_point, push_multi_polygon, push_point, push_polygon, push_rect, push_triangle,
-        write_geometry, write_geometry_collection, write_line, write_linestring,
+        push_geometry, write_geometry, write_geometry_collection, write_line, write_linestring,
         write_multi_linestring, write_multi_point, write_multi_polygon, write_point, write_polygon,
         write_rect, write_triangle,
     };
@@ -168,16 +166,6 @@ pub mod to_wkt {
 pub mod geo_types_from_wkt {
     pub use wkt_convert::{ConvertFrom, try_into_geometry, try_into_geometry_collection};
     pub use wkt_types::ConvertError as Error;
-}
-
-/// Walks over the coordinates of two-dimensional geometries, as the crate `geo` has them.
-///
-/// ```text
-/// let geometry = Geometry::<i64>::try_from_wkt_str(alloc, "LINESTRING(3 1,0 5)")?;
-/// let rect = bounding_rect(&geometry); // from (0, 1) to (3, 5)
-/// ```
-pub mod walks {
-    pub use wkt_flat::{Mapper, Visitor, bounding_rect, map_coords, num_coords, visit_coords};
 }
 
 /// Why a geometry isn't written, and one error for whatever a function here returns.

@@ -70,7 +70,7 @@ fn refusal(places: Places, text: &str) -> u32
     requires { HasNoFront (read_at places) text.now }
     ensures { RefusesText (read_at places) text.now result }
 {
-    wkt_explain::message_by(places, text).number()
+    wkt_explain::message(places, text).number()
 }
 
 /// Why bytes are refused that have no front.

@@ -11,7 +11,7 @@ ghost use Rattle.wkt_calls.specs.Calls.{AnswersSure, AreWholeLines, IsChunkStuck
 use crate::status::{MEMORY, SMALL};
 use wkt_canonical::laws::texts_are_short;
 use wkt_canonical::{NoRoom, SPARE, has_room};
-use wkt_lines::{Answer, answer_line_by, line_end};
+use wkt_lines::{Answer, answer_line, line_end};
 use wkt_num::Places;
 
 /// How many bytes of an input are looked at together for whole lines, mostly.
@@ -43,7 +43,7 @@ fn answer_first(places: Places, rest: &[u8], out: &mut [u8], len: usize) -> Answ
     ensures line { result.taken ≡ length (before_feed rest.now) + 1 }
     ensures within { result.taken ≤ length rest.now + 1 }
 {
-    match answer_line_by(places, rest, out, len) {
+    match answer_line(places, rest, out, len) {
         Ok(answer) => answer,
         Err(NoRoom) => {
             // No effect at run time. The proof reads that decimals have no such texts.

@@ -398,49 +398,6 @@ module _ {P N : Type 0} (reads : P → List ℕ → Option N) (nums : P → N �
   pub leaves-bare : LeavesBehindBare (text_builder_maker reads nums) self text at made end
   leaves-bare = λ m most fits. h.room m most (omega (arith, fits, before.len, before.whole))
 
-module _ {P N : Type 0} (read : List ℕ → Option N) (num : N → List ℕ) (text : List ℕ) (at end : ℕ) (x : N) (there : IsNumberAt read text at end x) (self builder : TextBuilder P) where
-  -- a number whose text left room for what follows
-  pub fitting-number : Extends self (num x) builder → IsUtf8 (num x) → builder.len + (2 * (length text - end) + 66) ≤ length builder.out.now → Numbered read num text at self builder end
-  fitting-number h utf8 room = record {
-    number = x;
-    there = there;
-    wrote = wrote_of self builder (num x) h;
-    utf8 = λ _. utf8;
-    stuck = λ less. absurd (omega (arith, less, h.whole));
-    room = λ m most _. omega (arith, most, room);
-  }
-
-  -- a number whose text is shorter than twice its run
-  pub short-number : Extends self (num x) builder → IsUtf8 (num x) → builder.len < self.len + number_cost (without_plus (slice_range text at end)) → Numbered read num text at self builder end
-  short-number h utf8 short = record {
-    number = x;
-    there = there;
-    wrote = wrote_of self builder (num x) h;
-    utf8 = λ _. utf8;
-    stuck = λ less. absurd (omega (arith, less, h.whole));
-    room = λ m most f. omega (arith, most, f, short, h.whole);
-  }
-
-  -- one that didn't
-  pub stuck-number : IsTextBuilderStuck self.numbers (length self.out.now) builder → number_cost (without_plus (slice_range text at end)) ≤ length (num x) → Numbered read num text at self builder end
-  stuck-number stuck long =
-      let less = stuck.less in let none = stuck.none in let some = some-cost in
-      record {
-        number = x;
-        there = there;
-        wrote = record { numbers = stuck.numbers; shorter = omega (arith, less); unless = λ e. absurd (omega (arith, e, less)) };
-        utf8 = λ e. absurd (omega (arith, e, less));
-        stuck = λ _. long;
-        room = λ m most h. omega (arith, h, less, none, some);
-      }
-    where
-      some-bytes : (r : List ℕ) → (r ≡ [] → ⊥) → 1 ≤ length r
-      some-bytes [] h = absurd (h refl)
-      some-bytes (b ∷ bs) h = omega arith
-
-      some-cost : 1 ≤ length (shortest (without_plus (slice_range text at end)))
-      some-cost = some-bytes (shortest (without_plus (slice_range text at end))) (shortest-some (without_plus (slice_range text at end)))
-
 -- A number that keeps its text was written as it stands.
 pub kept-numbered : {P T : Type 0} (read : List ℕ → Option T) (num : T → List ℕ) (utf8 : (run : List ℕ) (x : T) → read run ≡ Some x → IsUtf8 (num x)) (text : List ℕ) (at end kept : ℕ) (before after : TextBuilder P) → at ≤ length text
     → KeepsText read num (take (length text - at) (drop at text)) end kept → Extends before (take kept (take (length text - at) (drop at text))) after → Numbered read num text at before after (at + end)

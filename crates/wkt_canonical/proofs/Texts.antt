@@ -74,9 +74,6 @@ module _ {N : Type 0} (num : N → List ℕ) where
   pub writes_added : (es : List (Event N)) (bs : List ℕ) → Adds es bs → Writes es bs
   writes_added es bs h w = ap (λ x. x.bytes) (h w)
 
-  pub adds_one : (e : Event N) (bs : List ℕ) → ((w : EventsWritten) → write num e w ≡ added bs w) → Adds (e ∷ []) bs
-  adds_one e bs h w = h w
-
   number_adds : (d : Dimension) (n : ℕ) (x : N) (bs : List ℕ) → separator (axis_of d n) ≡ bs → Adds (Event.Number (axis_of d n) x ∷ []) (bs ++ num x)
   number_adds d n x bs e w = ap (λ l. added (l ++ num x) w) e
 

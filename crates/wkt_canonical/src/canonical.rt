@@ -42,29 +42,14 @@ pub fn canonical_into<T: WktNum>(
     ensures writes { WritesInto T.read T.num text.now buffer.old buffer.new result }
     ensures whole { length buffer.new ≡ length buffer.old }
 {
-    canonical_into_by(OfType::<T>::new(), text, buffer)
-}
-
-/// The same, with numbers of any kind.
-///
-/// # Errors
-/// [`NoRoom`], as there.
-pub fn canonical_into_by<N: Numbers>(
-    numbers: N,
-    text: &str,
-    buffer: &mut [u8],
-) -> Result<Option<TextWritten>, NoRoom>
-    ensures writes { WritesInto (N.read numbers) (N.num numbers) text.now buffer.old buffer.new result }
-    ensures whole { length buffer.new ≡ length buffer.old }
-{
-    match canonical_or_message_outlined(numbers, text, buffer) {
+    match canonical_or_message_outlined(OfType::<T>::new(), text, buffer) {
         Ok(Ok(written)) => Ok(Some(written)),
         Ok(Err(_)) => Ok(None),
         Err(NoRoom) => Err(NoRoom),
     }
 }
 
-/// The same, into a buffer that surely is long enough, which isn't looked at.
+/// The same, with numbers of any kind, into a buffer that surely is long enough, which isn't looked at.
 ///
 /// # Errors
 /// [`NoRoom`]: a number's text is at least twice as long as what it was read from.

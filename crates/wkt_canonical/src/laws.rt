@@ -3,20 +3,7 @@ ghost use Rattle.std.specs.Prelude.{ℕ, ◌≤◌};
 ghost use Rattle.std.specs.Fmt.{decimal, signed_decimal};
 ghost use Rattle.wkt_num.specs.Decimal.{read_decimal, decimal_text};
 ghost use Rattle.wkt_num.specs.Whole.{read_signed, read_unsigned};
-ghost use Rattle.wkt_canonical.specs.Written.{WritesTexts};
 ghost use Rattle.wkt_canonical.specs.Canonical.{HasLongText};
-
-use wkt_num::{Numbers, WktNum};
-
-/// The events of a value whose coordinates fit their headers write its canonical text.
-pub fn writes_texts<T: WktNum>()
-    ensures { WritesTexts T.is_value T.num }
-{}
-
-/// The same, with numbers of any kind.
-pub fn writes_texts_by<N: Numbers>()
-    ensures { (numbers : N) → WritesTexts (N.is_value numbers) (N.num numbers) }
-{}
 
 /// No text of a decimal or of a whole number is twice as long as what it is read from: there is always room for it.
 pub fn texts_are_short()

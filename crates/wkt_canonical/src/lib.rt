@@ -11,10 +11,8 @@ mod space;
 mod text_builder;
 
 pub use canonical::{
-    NoRoom, TextWritten, canonical_in_room, canonical_into, canonical_into_by,
-    canonical_or_message_outlined, write_canonical, write_front,
+    NoRoom, TextWritten, canonical_in_room, canonical_into, canonical_or_message_outlined,
+    write_canonical, write_front,
 };
-pub use room::{
-    SPARE, has_room, lengthen, make_room, room_for, widen, write_growing, write_growing_by,
-};
+pub use room::{SPARE, has_room, lengthen, make_room, room_for, widen, write_growing};
 pub use text_builder::TextBuilder;

@@ -2,9 +2,9 @@
 ghost use Rattle.std.specs.Prelude.{◌≡◌, ◌+◌, ◌*◌, ◌^◌, ◌<◌, ◌≤◌, OnOk, SomeIff, take, vec_len, true, false};
 ghost use Rattle.wkt_canonical.specs.Through.{HoldsCanonical};
 
-use crate::canonical::{NoRoom, TextWritten, canonical_into_by};
+use crate::canonical::{NoRoom, TextWritten, canonical_or_message_outlined};
 use std::alloc::AllocError;
-use wkt_num::{Numbers, OfType, WktNum};
+use wkt_num::Numbers;
 
 /// How much longer than twice a text the room for its canonical text is.
 ///
@@ -101,20 +101,7 @@ pub fn widen(room: &mut Vec<u8>) -> Result<(), AllocError>
 ///
 /// # Errors
 /// Out of memory.
-pub fn write_growing<T: WktNum>(
-    text: &str,
-    room: &mut Vec<u8>,
-) -> Result<Option<TextWritten>, AllocError>
-    ensures { HoldsCanonical T.read T.num text.now room.new.items result }
-{
-    write_growing_by(OfType::<T>::new(), text, room)
-}
-
-/// The same, with numbers of any kind.
-///
-/// # Errors
-/// Out of memory.
-pub fn write_growing_by<N: Numbers>(
+pub fn write_growing<N: Numbers>(
     numbers: N,
     text: &str,
     room: &mut Vec<u8>,
@@ -126,8 +113,9 @@ pub fn write_growing_by<N: Numbers>(
         Err(e) => return Err(e),
     }
     'room: loop {
-        match canonical_into_by(numbers, text, room.as_mut_slice()) {
-            Ok(written) => return Ok(written),
+        match canonical_or_message_outlined(numbers, text, room.as_mut_slice()) {
+            Ok(Ok(written)) => return Ok(Some(written)),
+            Ok(Err(_)) => return Ok(None),
             Err(NoRoom) => {}
         }
         match widen(room) {

@@ -8,7 +8,7 @@ ghost use Rattle.wkt_command.specs.Verdict.{IsVerdict};
 ghost use Rattle.wkt_num.specs.Decimal.{decimal_text, read_decimal};
 
 use std::alloc::{AllocError, Global};
-use wkt_canonical::{TextWritten, write_growing_by};
+use wkt_canonical::{TextWritten, write_growing};
 use wkt_explain::{Explanation, explain_by};
 use wkt_lines::{WholeLines, write_whole_lines};
 use wkt_num::{Numbers, Places};
@@ -53,7 +53,7 @@ pub fn judge<'a, N: Numbers>(
 ) -> Result<Verdict<'a>, AllocError>
     ensures { IfOk result (IsVerdict (N.read numbers) (N.num numbers) front text.now room.new.items) }
 {
-    match write_growing_by(numbers, text, room)? {
+    match write_growing(numbers, text, room)? {
         Some(TextWritten { end, len }) => {
             if front || is_blank(&text.as_bytes()[end..]) {
                 Ok(Verdict::Read(len))

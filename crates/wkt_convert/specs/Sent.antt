@@ -27,12 +27,6 @@ IsMemory UnknownDimension = ⊥
 IsMemory TooFewNumbers = ⊥
 IsMemory (Memory e) = Unit {0}
 
--- The fact is claimed where the writer failed.
-abbrev pub OnIo : {A : Type 0} → Result A ToWktError → Type 0 → Type 0
-OnIo (Ok x) P = Unit {0}
-OnIo (Err (send.Shape e)) P = Unit {0}
-OnIo (Err (send.Io e)) P = P
-
 -- The fact is claimed where the shape was refused.
 abbrev pub IfShape : {A : Type 0} → Result A ToWktError → (Error → Type 0) → Type 0
 IfShape (Ok x) P = Unit {0}

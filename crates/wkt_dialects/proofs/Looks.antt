@@ -23,9 +23,6 @@ module _ (d : Dialects) (text : List ℕ) (at : ℕ) (f : Found) (is : IsFound t
   pub numbers-more : counts d (lexeme_in text f) ≡ true → numbers_there d there ≡ suc (numbers_there d behind)
   numbers-more e = ap (numbers_there d) is.next ∙ ap (λ b. if b then suc (numbers_there d behind) else 0) e
 
-  pub numbers-stop : counts d (lexeme_in text f) ≡ false → numbers_there d there ≡ 0
-  numbers-stop e = ap (numbers_there d) is.next ∙ ap (λ b. if b then suc (numbers_there d behind) else 0) e
-
   pub first-there : (n : ℕ) → 0 < n → counts d (lexeme_in text f) ≡ true → first_numbers d (Some n) there ≡ numbers_there d there
   unfolding first_numbers
   first-there zero h e = absurd (omega (arith, h))
@@ -42,9 +39,6 @@ module _ (text : List ℕ) (at : ℕ) (f : Found) (is : IsFound text at f) where
 
   pub nans-more : (k : ℕ) → is_nan (lexeme_in text f) ≡ true → nans (suc k) (remaining_spanned false text at) ≡ nans k after
   nans-more k e = ap (nans (suc k)) is.next ∙ ap (λ b. b && nans k after) e
-
-  pub nans-stop : (k : ℕ) → is_nan (lexeme_in text f) ≡ false → nans (suc k) (remaining_spanned false text at) ≡ false
-  nans-stop k e = ap (nans (suc k)) is.next ∙ ap (λ b. b && nans k after) e
 
   pub past-one : (from count : ℕ) → IsPastSome text from count at → IsPastSome text from (count + 1) f.end
   past-one from count p = record {

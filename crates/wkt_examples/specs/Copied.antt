@@ -1,12 +1,11 @@
--- A polygon that is read as a flat one and written, and the bounding box of a text.
-use Rattle.std.specs.Prelude.{ℕ, List, Option, Result, Ok, Err, Bool, IsUtf8, ◌≡◌, [], MatchOption}
+-- A polygon that is read as a flat one, and written.
+use Rattle.std.specs.Prelude.{ℕ, List, Option, Result, Ok, Err, Bool, IsUtf8, ◌≡◌}
 use Rattle.std.specs.Io.KnownBytes.{Appends}
-use Rattle.std.specs.declared.cmp.Ordering.{Ordering}
 use Rattle.wkt.specs.Sinks.{BeginningOut}
 use Rattle.wkt.specs.ConvertError.{ConvertError}
 use Rattle.wkt_examples.specs.declared.flat_from_reader.CopyError.{CopyError}
 use Rattle.wkt.specs.Texts.{shape_text}
-use Rattle.wkt.specs.Rings.{Rings, Corners}
+use Rattle.wkt.specs.Rings.{Rings}
 use Rattle.wkt.specs.FlatTree.{Flat}
 use Rattle.wkt.specs.FlatCoord.{Coord}
 use Rattle.wkt.specs.Outcome.{value}
@@ -16,12 +15,6 @@ use Rattle.wkt.specs.FromText.{FrontGives}
 use Rattle.wkt.specs.FlatKinds.{only_flat, polygon_kind}
 use Rattle.wkt.specs.ToWktError.TheVariants as send
 use Rattle.wkt_examples.specs.declared.flat_from_reader.CopyError.TheVariants as copy
-use Rattle.wkt.specs.Flatten.{flat}
-use Rattle.wkt.specs.FlatEqual.{coord_eq}
-use Rattle.wkt.specs.FlatCoords.{all_coords}
-use Rattle.wkt.specs.Bounds.{IsBounds}
-
--- A polygon that is read as a flat one, and written.
 
 -- The bytes are a text that has a polygon at its front, and the text of its flat value went out.
 pub record IsCopied {T : Type 0} (read : List ℕ → Option T) (num : T → List ℕ) (E : T → T → Bool) (old new : Option (List ℕ)) (bytes : List ℕ) : Type 0 where
@@ -49,11 +42,3 @@ OnWrite (Ok x) P = Unit {0}
 OnWrite (Err (copy.Read e)) P = Unit {0}
 OnWrite (Err (copy.Write (send.Shape e))) P = ⊥
 OnWrite (Err (copy.Write (send.Io e))) P = P
-
--- The bounding box of a text.
-
--- The text begins with a geometry whose flat value has no coordinate, where there is no box, and else this least one.
-pub record IsBox {N : Type 0} (read : List ℕ → Option N) (cmp : N → N → Ordering) (E : N → N → Bool) (text : List ℕ) (box : Option (Corners N)) : Type 0 where
-  pub tree : Flat N
-  pub front : FrontGives read (flat (coord_eq E)) text (value tree)
-  pub least : MatchOption box (all_coords tree ≡ []) (IsBounds cmp (all_coords tree))

@@ -1,10 +1,5 @@
-pub mod Ordered
 pub mod Mine
 pub mod Halves
 pub mod Served
 pub mod Empties
-pub mod Fronts
-pub mod Fields
-pub mod Keys
 pub mod Copied
-pub mod Scene

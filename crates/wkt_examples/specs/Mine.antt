@@ -1,4 +1,4 @@
--- What the types of `my_points` and `my_map` stand for.
+-- What the types of `my_map` stand for.
 use Rattle.std.specs.Prelude.{ℤ, List, Option, map, option_map}
 use Rattle.wkt.specs.Shapes.{Shape, PolygonShape}
 use Rattle.wkt.specs.Parts.{collection_of}
@@ -7,7 +7,7 @@ use Rattle.wkt_examples.specs.declared.my_map.Area.{Area}
 use Rattle.wkt_examples.specs.declared.my_map.Figure.{Figure}
 use Rattle.wkt_examples.specs.declared.my_map.Figure.TheOpen.{Figure-F, Point, Line, Polygon, Points, Lines, Polygons, Rect, Triangle, Segment, Group}
 use Rattle.wkt_examples.specs.declared.my_map.Figure.TheFolds.{fold-Figure}
-use Rattle.wkt_examples.specs.declared.my_points.Dot.{Dot}
+use Rattle.wkt_examples.specs.declared.my_map.Dot.{Dot}
 
 -- The numbers of a point's coordinate, if it has one.
 abbrev pub point_of : Dot → Option (List ℤ)

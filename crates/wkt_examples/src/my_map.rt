@@ -1,13 +1,35 @@
-//! A custom representation, whole: line strings, polygons and lists of them, lines, rectangles and triangles, a geometry
-//! of any kind that may hold geometries, and a collection. `my_points` has its coordinates and points.
-ghost use Rattle.std.specs.Prelude.{map};
-ghost use Rattle.wkt_examples.specs.Mine.{line_of, polygon_of, figure_shape};
+//! A custom representation over whole numbers, by the access traits: coordinates, points, line strings, polygons and lists of
+//! them, lines, rectangles and triangles, a geometry of any kind that may hold geometries, and a collection.
+ghost use Rattle.std.specs.Prelude.{◌≤◌, map, vec_len};
+ghost use Rattle.wkt.specs.Dimensions.TheVariants.{Unknown};
 
-use crate::my_points::{Dot, Dots, Spot};
 use wkt::geo_traits::{
-    Dimensions, GeometryCollectionTrait, GeometryTrait, GeometryType, LineStringTrait, LineTrait,
-    MultiLineStringTrait, MultiPolygonTrait, PolygonTrait, RectTrait, TriangleTrait,
+    CoordTrait, Dimensions, GeometryCollectionTrait, GeometryTrait, GeometryType, LineStringTrait,
+    LineTrait, MultiLineStringTrait, MultiPointTrait, MultiPolygonTrait, PointTrait, PolygonTrait,
+    RectTrait, TriangleTrait,
 };
+
+/// A coordinate of as many numbers as one likes, but two at least.
+#[derive(Drop)]
+pub struct Spot {
+    /// x, y, and whatever follows.
+    pub numbers: Vec<i32>,
+    pub ghost two: { 2 ≤ vec_len numbers },
+}
+
+/// A point, or an empty one.
+#[derive(Drop)]
+pub struct Dot {
+    pub header: Dimensions,
+    pub spot: Option<Spot>,
+}
+
+/// A list of points.
+#[derive(Drop)]
+pub struct Dots {
+    pub header: Dimensions,
+    pub members: Vec<Dot>,
+}
 
 /// A line string, or a ring.
 #[derive(Drop)]
@@ -77,7 +99,77 @@ pub struct Map {
     pub figures: Vec<Figure>,
 }
 
+impl CoordTrait for Spot {
+    type T = i32;
+
+    ghost numbers = { λ s. s.numbers.items };
+
+    ghost dimension = { λ s. Unknown (vec_len s.numbers) };
+
+    fn dim(&self) -> Dimensions {
+        Dimensions::Unknown(self.numbers.len())
+    }
+
+    fn x(&self) -> i32 {
+        self.numbers[0]
+    }
+
+    fn y(&self) -> i32 {
+        self.numbers[1]
+    }
+
+    fn nth(&self, n: usize) -> i32 {
+        self.numbers[n]
+    }
+}
+
+impl PointTrait for Dot {
+    ghost use Rattle.wkt_examples.specs.Mine.{point_of};
+
+    type T = i32;
+
+    type CoordType = Spot;
+
+    ghost dimension = { λ p. p.header };
+
+    ghost coordinate = { point_of };
+
+    fn dim(&self) -> Dimensions {
+        self.header
+    }
+
+    fn coord(&self) -> Option<&Spot> {
+        self.spot.as_ref()
+    }
+}
+
+impl MultiPointTrait for Dots {
+    ghost use Rattle.wkt_examples.specs.Mine.{point_of};
+
+    type T = i32;
+
+    type InnerPointType = Dot;
+
+    ghost dimension = { λ m. m.header };
+
+    ghost points = { λ m. map point_of m.members.items };
+
+    fn dim(&self) -> Dimensions {
+        self.header
+    }
+
+    fn num_points(&self) -> usize {
+        self.members.len()
+    }
+
+    fn point(&self, i: usize) -> &Dot {
+        &self.members[i]
+    }
+}
+
 impl LineStringTrait for Track {
+    ghost use Rattle.wkt_examples.specs.Mine.{line_of};
+
     type T = i32;
 
     type CoordType = Spot;
@@ -100,6 +192,8 @@ impl LineStringTrait for Track {
 }
 
 impl MultiLineStringTrait for Tracks {
+    ghost use Rattle.wkt_examples.specs.Mine.{line_of};
+
     type T = i32;
 
     type InnerLineStringType = Track;
@@ -146,6 +240,8 @@ impl LineTrait for Segment {
 }
 
 impl PolygonTrait for Area {
+    ghost use Rattle.wkt_examples.specs.Mine.{polygon_of};
+
     type T = i32;
 
     type RingType = Track;
@@ -172,6 +268,8 @@ impl PolygonTrait for Area {
 }
 
 impl MultiPolygonTrait for Areas {
+    ghost use Rattle.wkt_examples.specs.Mine.{polygon_of};
+
     type T = i32;
 
     type InnerPolygonType = Area;
@@ -248,6 +346,8 @@ impl TriangleTrait for Corners {
 }
 
 impl GeometryTrait for Figure {
+    ghost use Rattle.wkt_examples.specs.Mine.{figure_shape};
+
     type T = i32;
 
     type PointType = Dot;
@@ -311,6 +411,8 @@ impl GeometryTrait for Figure {
 }
 
 impl GeometryCollectionTrait for Map {
+    ghost use Rattle.wkt_examples.specs.Mine.{figure_shape};
+
     type T = i32;
 
     type GeometryType = Figure;

@@ -15,15 +15,7 @@ use wkt_sources::message_at;
 
 /// With which message a text is refused that has no geometry at its front. It takes no memory, and no stack for
 /// nesting, and less time than `refusal`.
-pub fn message<T: WktNum>(text: &str) -> Message
-    requires { HasNoFront T.read text.now }
-    ensures { IsRefusedWith T.read text.now result }
-{
-    message_by(OfType::<T>::new(), text)
-}
-
-/// The same, with numbers of any kind.
-pub fn message_by<N: Numbers>(numbers: N, text: &str) -> Message
+pub fn message<N: Numbers>(numbers: N, text: &str) -> Message
     requires { HasNoFront (N.read numbers) text.now }
     ensures { IsRefusedWith (N.read numbers) text.now result }
 {

@@ -10,8 +10,8 @@ pub mod laws;
 mod walked;
 mod whole;
 
-pub use api::{explain, explain_by, message, message_by, refusal};
+pub use api::{explain, explain_by, message, refusal};
 pub use explanation::{Explanation, Refusal};
 pub use hint::Hint;
-pub use whole::{Problem, check, check_by, check_padded};
+pub use whole::{Problem, check, check_padded};
 pub use wkt_read::Expected;

@@ -28,20 +28,10 @@ pub enum Problem {
 pub fn check<T: WktNum>(text: &str, whole: bool) -> Result<usize, Problem>
     ensures { MatchResult result (IsAccepted T.read whole text.now) (IsProblem T.read whole text.now) }
 {
-    check_by(OfType::<T>::new(), text, whole)
+    check_padded(OfType::<T>::new(), text, text, whole)
 }
 
-/// The same, with numbers of any kind.
-///
-/// # Errors
-/// As there.
-pub fn check_by<N: Numbers>(numbers: N, text: &str, whole: bool) -> Result<usize, Problem>
-    ensures { MatchResult result (IsAccepted (N.read numbers) whole text.now) (IsProblem (N.read numbers) whole text.now) }
-{
-    check_padded(numbers, text, text, whole)
-}
-
-/// The same, where `padded_text` is the text, or the text, a NUL and more. With 31 bytes or more behind the NUL the numbers at the
+/// The same, with numbers of any kind, where `padded_text` is the text, or the text, a NUL and more. With 31 bytes or more behind the NUL the numbers at the
 /// text's end are read as fast as those before them.
 ///
 /// # Errors

@@ -184,10 +184,6 @@ module _ (g : Given) (w : AreWhole g) (k : ℕ) where
   pub polygon-within : k < length g.polygons.now → slice_index g.polygons.now k ≤ length g.rings.now - 1
   polygon-within lt = offset-within g.polygons.now (length g.rings.now - 1) w.polygons k lt
 
--- a coordinate before others
-pub coordinate-within : (d : Dimension) (i to n : ℕ) → i < to → to * size d ≤ n → i * size d + size d ≤ n
-coordinate-within d i to n lt le = omega (arith, fewer d i to lt, le)
-
 -- Arrays of a value: its parts are found between their offsets.
 
 -- ---- the value of some parts, by its kind

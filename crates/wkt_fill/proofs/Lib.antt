@@ -7,4 +7,3 @@ pub mod Costs
 pub mod EventsTold
 pub mod EventRooms
 pub mod EventsWritten
-pub mod ListsBack

@@ -141,16 +141,10 @@ module _ {N B : Type 0} (maker : Maker N B) where
           last : Owes b all m ((Event.Close p ∷ []) ++ [])
           last = owes-so b m all (left i) _ (list-end i to le) owes
 
-          pub close-fits : maker.fits m 1
-          close-fits = owes-fits b m all (Event.Close p ∷ []) [] 1 (omega arith) last
-
           pub closed : (c : B) → maker.makes m (Event.Close p ∷ []) c → Leaves maker m 1 c → Tells maker b all c
           closed c makes leaves = owes-none b m c all (Event.Close p ∷ []) last (tells-one m c (Event.Close p) 1 refl makes leaves)
 
       module _ (le : to ≤ from) where
-        pub empty-fits : maker.fits b (events_cost (maker.takes b) all) → maker.fits b 6
-        empty-fits room = owes-fits b b all (Event.Empty p ∷ []) [] 6 (omega arith) (owes-so b b all all _ (list-none from to le) (owes-all b all room))
-
         pub emptied : (c : B) → maker.makes b (Event.Empty p ∷ []) c → Leaves maker b 6 c → Tells maker b all c
         emptied c makes leaves = subst (λ es. Tells maker b es c) (sym (list-none from to le)) (tells-one b c (Event.Empty p) 6 refl makes leaves)
 
@@ -262,9 +256,6 @@ parts-of-kind g (places, (v, h)) k e = subst (λ j. HasPartsOf j g) e (has-parts
 
 module _ {B : Type 0} (maker : Maker ℤ B) (g : Given) (b : B) (given : (places : ℕ) × AreGiven places g) (room : (places : ℕ) (v : Value ℤ) → IsGiven places g v → maker.fits b (events_cost (maker.takes b) (events v)))
     (p : Part) (rest : List (Event ℤ)) (split : (places : ℕ) (v : Value ℤ) → IsGiven places g v → events v ≡ (Event.Header p g.dimension ∷ []) ++ rest) where
-  header-all : List (Event ℤ)
-  header-all = (Event.Header p g.dimension ∷ []) ++ rest
-
   enough : maker.fits b (events_cost (maker.takes b) ((Event.Header p g.dimension ∷ []) ++ rest))
   enough = subst (λ es. maker.fits b (events_cost (maker.takes b) es)) (split given.0 given.1.0 given.1.1) (room given.0 given.1.0 given.1.1)
 

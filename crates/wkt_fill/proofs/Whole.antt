@@ -66,9 +66,6 @@ module _ (places : ℕ) (g : Given) (w : AreWhole g) (units : AllByRecursion (Is
   ring-count : ℕ
   ring-count = length g.rings.now - 1
 
-  polygon-count : ℕ
-  polygon-count = length g.polygons.now - 1
-
   -- each coordinate, ring and polygon fits the dimension
   coordinate-fits : (k : ℕ) → k < w.coordinates → CoordFits (IsUnits places) g.dimension (coordinate_at g k)
   coordinate-fits k lt =

@@ -81,29 +81,11 @@ module _ {A : Type 0} {all : List A → List A → Bool} {one : A → A → Bool
 pub flat-point : {T : Type 0} (p : Point T) → flat_tree (variants.Point p) ≡ point p
 flat-point {T} p = ap flat_tree (sym (variants.rolls-Point p)) ∙ folds.fold-roll-Geometry T (Flat T) (Flats T) geometry_step flats_step (opens.Geometry-F.Point p)
 
-pub flat-line : {T : Type 0} (l : Line T) → flat_tree (variants.Line l) ≡ line l
-flat-line {T} l = ap flat_tree (sym (variants.rolls-Line l)) ∙ folds.fold-roll-Geometry T (Flat T) (Flats T) geometry_step flats_step (opens.Geometry-F.Line l)
-
-pub flat-line_string : {T : Type 0} (l : List (Coord T)) → flat_tree (variants.LineString l) ≡ line_string l
-flat-line_string {T} l = ap flat_tree (sym (variants.rolls-LineString l)) ∙ folds.fold-roll-Geometry T (Flat T) (Flats T) geometry_step flats_step (opens.Geometry-F.LineString l)
-
 pub flat-polygon : {T : Type 0} (y : Rings (Coord T)) → flat_tree (variants.Polygon y) ≡ polygon y
 flat-polygon {T} y = ap flat_tree (sym (variants.rolls-Polygon y)) ∙ folds.fold-roll-Geometry T (Flat T) (Flats T) geometry_step flats_step (opens.Geometry-F.Polygon y)
 
 pub flat-multi_point : {T : Type 0} (m : List (Point T)) → flat_tree (variants.MultiPoint m) ≡ multi_point m
 flat-multi_point {T} m = ap flat_tree (sym (variants.rolls-MultiPoint m)) ∙ folds.fold-roll-Geometry T (Flat T) (Flats T) geometry_step flats_step (opens.Geometry-F.MultiPoint m)
-
-pub flat-multi_line_string : {T : Type 0} (m : List (List (Coord T))) → flat_tree (variants.MultiLineString m) ≡ multi_line_string m
-flat-multi_line_string {T} m = ap flat_tree (sym (variants.rolls-MultiLineString m)) ∙ folds.fold-roll-Geometry T (Flat T) (Flats T) geometry_step flats_step (opens.Geometry-F.MultiLineString m)
-
-pub flat-multi_polygon : {T : Type 0} (m : List (Rings (Coord T))) → flat_tree (variants.MultiPolygon m) ≡ multi_polygon m
-flat-multi_polygon {T} m = ap flat_tree (sym (variants.rolls-MultiPolygon m)) ∙ folds.fold-roll-Geometry T (Flat T) (Flats T) geometry_step flats_step (opens.Geometry-F.MultiPolygon m)
-
-pub flat-rect : {T : Type 0} (r : Corners T) → flat_tree (variants.Rect r) ≡ rect r
-flat-rect {T} r = ap flat_tree (sym (variants.rolls-Rect r)) ∙ folds.fold-roll-Geometry T (Flat T) (Flats T) geometry_step flats_step (opens.Geometry-F.Rect r)
-
-pub flat-triangle : {T : Type 0} (t : Triangle T) → flat_tree (variants.Triangle t) ≡ triangle t
-flat-triangle {T} t = ap flat_tree (sym (variants.rolls-Triangle t)) ∙ folds.fold-roll-Geometry T (Flat T) (Flats T) geometry_step flats_step (opens.Geometry-F.Triangle t)
 
 pub flat-collection : {T : Type 0} (c : GeometryCollection T) → flat_tree (views.GeometryCollection c) ≡ collection (flat_trees c)
 flat-collection {T} c =

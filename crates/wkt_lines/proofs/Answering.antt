@@ -7,13 +7,9 @@ use Rattle.std.specs.Io.KnownBytes.{Appends}
 use Rattle.std.specs.Str.{is_utf8}
 use lib.Utf8.{encode}
 use Rattle.wkt_lines.specs.Lines.{input_lines, before_feed, after_feed, EndsText}
-use Rattle.wkt_lines.specs.Output.{IsAnswer}
-use Rattle.wkt_lines.specs.Replies.{AreReplies, BreaksReply, AddsReplyLine, BreaksReplyLine, BreaksReplies, RepliesLine, RepliesAll, RepliesBefore, ArePartReplies, PartReplied, PutsAnswer, OnSink, OnAnswerMemory}
-use Rattle.wkt_num.specs.Sink.{Sink, Adds, Breaks, next_count}
-use Rattle.wkt_lines.specs.declared.answer.AnswerError.{AnswerError}
+use Rattle.wkt_lines.specs.Replies.{AreReplies, RepliesBefore, ArePartReplies, PartReplied}
 use Rattle.wkt_lines.proofs.Outcomes.{lines_step}
-use Rattle.wkt_lines.specs.declared.answer.AnswerError.TheVariants as answered
-use Rattle.wkt_lines.specs.First.{AnswersFirst, EndsLine, AnswersBehind, TestsFrom, EndsAll, AnswersWhole}
+use Rattle.wkt_lines.specs.First.{EndsLine, AnswersBehind, TestsFrom, EndsAll, AnswersWhole}
 use Rattle.wkt_access.specs.Shapes.{shape_of}
 use Rattle.wkt_access.specs.Texts.{shape_text}
 use Rattle.wkt_read.specs.Front.{HasNoFront}
@@ -51,80 +47,7 @@ module _ (is : List ℕ → List ℕ → Type 0) where
   one_reply (l ∷ ls) out line answer (b, rest, e, a, r) k =
       (b, rest ++ (answer ++ 10 ∷ []), ap (λ xs. xs ++ (answer ++ 10 ∷ [])) e ∙ append_assoc (b ++ 10 ∷ []) rest (answer ++ 10 ∷ []), a, one_reply ls rest line answer r k)
 
--- what was written is an answer
-module _ {S A : Type 0} (sink : Sink S) where
-  pub answer_ok : {N : Type 0} (read : List ℕ → Option N) (num : N → List ℕ) (s t : S) (line answer : List ℕ) (r : Result A AnswerError) → IsAnswer read num line answer → PutsAnswer sink s answer t r → OnOk r ((a : List ℕ) × IsAnswer read num line a × Adds sink s a t)
-  answer_ok read num s t line answer (Ok x) is h = (answer, is, h)
-  answer_ok read num s t line answer (Err e) is h = tt
-
-  pub answer_sink : {N : Type 0} (read : List ℕ → Option N) (num : N → List ℕ) (s t : S) (line answer : List ℕ) (r : Result A AnswerError) → IsAnswer read num line answer → PutsAnswer sink s answer t r → OnSink r ((a : List ℕ) × IsAnswer read num line a × Breaks sink s a t)
-  answer_sink read num s t line answer (Ok x) is h = tt
-  answer_sink read num s t line answer (Err (answered.Sink e)) is h = (answer, is, h)
-  answer_sink read num s t line answer (Err (answered.Memory e)) is h = tt
-
--- Answers added one after the other.
-
-abbrev failed : (A : Type 0) → AnswerError → Result A AnswerError
-failed A e = Err e
-
-module _ {S : Type 0} (sink : Sink S) where
-  pub adds_none : (s : S) → Adds sink s [] s
-  adds_none s = record { given = sink.none s; unfailed = refl }
-
-  pub adds_more : (s t u : S) (bs cs : List ℕ) → Adds sink s bs t → Adds sink t cs u → Adds sink s (bs ++ cs) u
-  adds_more s t u bs cs h k = record { given = sink.more s t u bs cs h.given k.given; unfailed = k.unfailed ∙ h.unfailed }
-
-  pub breaks_after : (s t u : S) (bs cs : List ℕ) → Adds sink s bs t → Breaks sink t cs u → Breaks sink s (bs ++ cs) u
-  breaks_after s t u bs cs h k = record { left = sink.after s t u bs cs h.given k.left; failed = k.failed ∙ ap next_count h.unfailed }
-
-  pub breaks_longer : (s t : S) (bs cs : List ℕ) → Breaks sink s bs t → Breaks sink s (bs ++ cs) t
-  breaks_longer s t bs cs h = record { left = sink.longer s t bs cs h.left; failed = h.failed }
-
-  -- the reply to a line failed
-  pub reply_failed : (is : List ℕ → List ℕ → Type 0) (s t : S) (line : List ℕ) (e : AnswerError) → OnSink (failed (Unit {0}) e) (BreaksReply is sink s t line) → OnAnswerMemory (failed (Unit {0}) e) (t ≡ s) → RepliesLine is sink s line (failed (Unit {0}) e) t
-  reply_failed is s t line (answered.Sink e) (answer, is_one, broke) m = record { ok = tt; sink = (answer, is_one, breaks_longer s t answer (10 ∷ []) broke); memory = tt }
-  reply_failed is s t line (answered.Memory e) h m = record { ok = tt; sink = tt; memory = m }
-
-  module _ (is : List ℕ → List ℕ → Type 0) (input : List ℕ) (s : S) where
-    -- The answers to the lines before `rest` were added.
-    pub record AddsTo (rest : List ℕ) (t : S) : Type 0 where
-      pub first : List (List ℕ)
-      pub out : List ℕ
-      pub lines : first ++ input_lines rest ≡ input_lines input
-      pub answers : AreReplies is first out
-      pub added : Adds sink s out t
-
-    pub adds_to_none : AddsTo input s
-    adds_to_none = record { first = []; out = []; lines = refl; answers = refl; added = adds_none s }
-
-    module _ (rest : List ℕ) (some : rest ≢ []) (t u : S) (to : AddsTo rest t) where
-      -- the next line was answered
-      pub adds_to_more : (line next : List ℕ) → line ≡ before_feed rest → next ≡ after_feed rest → AddsReplyLine is sink t u line → AddsTo next u
-      adds_to_more line next e f (answer, is_one, more) = record {
-        first = to.first ++ (line ∷ []);
-        out = to.out ++ (answer ++ 10 ∷ []);
-        lines = one_more to.first rest input line next to.lines some e f;
-        answers = one_reply is to.first to.out line answer to.answers is_one;
-        added = adds_more s t u to.out (answer ++ 10 ∷ []) to.added more;
-      }
-
-      -- the next line broke off
-      breaks_next : (line : List ℕ) → line ≡ before_feed rest → BreaksReplyLine is sink t u line → BreaksReplies is sink s u input
-      breaks_next line e (answer, is_one, broke) =
-          let split = next_line to.first rest input line to.lines some e in
-          record {
-            before = record { first = to.first; line = line; others = input_lines (after_feed rest); split = split; out = to.out; answers = to.answers };
-            answer = answer;
-            is_answer = is_one;
-            broke = breaks_after s t u to.out (answer ++ 10 ∷ []) to.added broke;
-          }
-
-      -- the next line was not answered
-      pub adds_to_last : (A B : Type 0) (line : List ℕ) → line ≡ before_feed rest → (e : AnswerError) → RepliesLine is sink t line (failed A e) u → RepliesAll is sink s input (failed B e) u
-      adds_to_last A B line same (answered.Sink e) h = record { ok = tt; sink = breaks_next line same h.sink; memory = tt }
-      adds_to_last A B line same (answered.Memory e) h = record { ok = tt; sink = tt; memory = record { first = to.first; others = input_lines rest; lines = to.lines; out = to.out; answers = to.answers; added = subst (λ (v : S). Adds sink s to.out v) (sym h.memory) to.added } }
-
--- The answer to the first line, from a part of what is left.
+-- The first line, and a part of what is left.
 
 drop-one : (b : ℕ) (rest : List ℕ) (n : ℕ) (after : List ℕ) → drop (n + 1) rest ≡ after → drop (suc n + 1) (b ∷ rest) ≡ after
 drop-one b rest n after e = let s : suc n + 1 ≡ suc (n + 1) = omega arith in ap (λ k. drop k (b ∷ rest)) s ∙ e
@@ -156,31 +79,9 @@ near-line (suc k) (b ∷ rest) h = elim (b == 10) as (λ t. length (if t then []
       | false ↦ λ less. ap (λ l. b ∷ l) (near-line k rest (omega (arith, less)))
     ] h
 
--- a line has no feed
-line-of : (b : ℕ) (rest : List ℕ) (t : Bool) → (b == 10) ≡ t → before_feed (before_feed rest) ≡ before_feed rest
-    → before_feed (if t then [] else b ∷ before_feed rest) ≡ (if t then [] else b ∷ before_feed rest)
-line-of b rest true e h = refl
-line-of b rest false e h = ap (λ t. if t then [] else b ∷ before_feed (before_feed rest)) e ∙ ap (λ l. b ∷ l) h
-
-pub line_alone : (rest : List ℕ) → before_feed (before_feed rest) ≡ before_feed rest
-line_alone [] = refl
-line_alone (b ∷ rest) = line-of b rest (b == 10) refl (line_alone rest)
-
--- the answer to a part's first line is the whole's
-pub first-of : {N : Type 0} (read : List ℕ → Option N) (num : N → List ℕ) (part rest written : List ℕ) → before_feed part ≡ before_feed rest → AnswersFirst read num part written → AnswersFirst read num rest written
-first-of read num part rest written e h = record { answer = h.answer; is = subst (λ l. IsAnswer read num l h.answer) e h.is; utf8 = h.utf8; text = h.text }
-
-pub ok-map : {A E : Type 0} (r : Result A E) (P Q : A → Type 0) → ((x : A) → P x → Q x) → IfOk r P → IfOk r Q
-ok-map (Ok x) P Q f h = f x h
-ok-map (Err e) P Q f h = tt
-
 pub feed-utf8 : IsUtf8 (10 ∷ [])
 unfolding encode
 feed-utf8 = (10 ∷ [], (refl, refl))
-
--- an answer and a line feed are text
-pub first-utf8 : {N : Type 0} (read : List ℕ → Option N) (num : N → List ℕ) (rest written : List ℕ) → AnswersFirst read num rest written → IsUtf8 written
-first-utf8 read num rest written h = subst IsUtf8 (sym h.text) (IsUtf8-append h.answer (10 ∷ []) h.utf8 feed-utf8)
 
 -- The answer to a line, by its front and by what stands behind it.
 
@@ -197,9 +98,6 @@ module _ {N : Type 0} (read : List ℕ → Option N) (num : N → List ℕ) wher
   -- the front ends in the line
   pub end-in-line : (rest : List ℕ) (len : ℕ) (old new : List ℕ) (end n : ℕ) → HasWritten read num (before_feed rest) len old new end n → end ≤ length (before_feed rest)
   end-in-line rest len old new end n h = let e = h.front.ends in omega (arith, e)
-
-  pub end-within : (rest : List ℕ) (len : ℕ) (old new : List ℕ) (end n : ℕ) → HasWritten read num (before_feed rest) len old new end n → end ≤ length rest
-  end-within rest len old new end n h = let e = h.front.ends in omega (arith, e, line-within rest)
 
   pub refused-line : (rest : List ℕ) (len : ℕ) (old mid new : List ℕ) (taken n : ℕ) → (IsUtf8 (before_feed rest) → ⊥) ⊎ HasNoFront read (before_feed rest)
       → take len mid ≡ take len old → take n new ≡ take len mid ++ codes "refused\n" → drop taken rest ≡ after_feed rest → AnswersBehind read num rest len old new taken n

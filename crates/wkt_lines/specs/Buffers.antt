@@ -9,7 +9,6 @@ use Rattle.wkt_lines.specs.Output.{IsAnswer, OnRunRead, OnRunWrite, OnRunMemory,
 use Rattle.wkt_lines.specs.Lines.{after_feed}
 use Rattle.wkt_lines.specs.Replies.{IsAllReplied, IsBeforeReplied, IsPartReplied}
 use Rattle.wkt_lines.specs.declared.output_buffer.OutputBuffer.{OutputBuffer}
-use Rattle.wkt_lines.specs.declared.into_output.ByReply.{ByReply}
 use Rattle.wkt_lines.specs.declared.lines.RunError.{RunError}
 use Rattle.wkt_lines.specs.declared.lines.RunError.TheVariants as run
 
@@ -29,38 +28,27 @@ has_room b = b.len < vec_len b.bytes
 abbrev pub output_text : OutputBuffer → List ℕ
 output_text p = take p.len p.bytes.items
 
--- How many writes to it have failed.
-abbrev pub output_failures : OutputBuffer → ℕ
-output_failures p = p.failures
-
 -- There is room for the answer to a text of so many bytes.
 abbrev pub HasRoomFor : OutputBuffer → ℕ → Type 0
 HasRoomFor p n = p.len + 2 * n + 65 ≤ vec_len p.bytes
 
--- The answers by which lines are answered.
-abbrev pub reply_of : {A : Type 0} → ByReply A → A
-reply_of s = s.reply.now
-
-module _ (is : List ℕ → List ℕ → Type 0) where
+-- Numbers are read by `read` and printed by `num`.
+module _ {N : Type 0} (read : List ℕ → Option N) (num : N → List ℕ) where
   -- The answer to the first line was added, and a line feed.
-  abbrev pub AddsReplyTo : List ℕ → List ℕ → List ℕ → Type 0
-  AddsReplyTo rest old new = (answer : List ℕ) × is (before_feed rest) answer × (new ≡ old ++ (answer ++ 10 ∷ []))
+  abbrev pub AddsAnswer : List ℕ → List ℕ → List ℕ → Type 0
+  AddsAnswer rest old new = (answer : List ℕ) × IsAnswer read num (before_feed rest) answer × (new ≡ old ++ (answer ++ 10 ∷ []))
 
   -- So was it, and so much is taken with the line feed.
-  pub record RepliesOne (rest old new : List ℕ) (taken : ℕ) : Type 0 where
-    pub adds : AddsReplyTo rest old new
+  pub record AnswersOne (rest old new : List ℕ) (taken : ℕ) : Type 0 where
+    pub adds : AddsAnswer rest old new
     pub left : drop taken rest ≡ after_feed rest
     pub some : 0 < taken
     pub within : taken ≤ length rest + 1
 
   -- That, or nothing was added.
-  abbrev pub RepliesNext : {E : Type 0} → List ℕ → List ℕ → List ℕ → Result ℕ E → Type 0
-  RepliesNext rest old new (Ok taken) = RepliesOne rest old new taken
-  RepliesNext rest old new (Err e) = new ≡ old
-
--- The program's answer to the first line was added, or nothing was. Numbers are read by `read` and printed by `num`.
-abbrev pub AnswersNext : {N E : Type 0} → (List ℕ → Option N) → (N → List ℕ) → List ℕ → List ℕ → List ℕ → Result ℕ E → Type 0
-AnswersNext read num = RepliesNext (IsAnswer read num)
+  abbrev pub AnswersNext : {E : Type 0} → List ℕ → List ℕ → List ℕ → Result ℕ E → Type 0
+  AnswersNext rest old new (Ok taken) = AnswersOne rest old new taken
+  AnswersNext rest old new (Err e) = new ≡ old
 
 module _ {D : Type 0} (sink : SinkOfBytes D) where
   -- Of an output buffer some went out from the front, and the rest still stands in it.

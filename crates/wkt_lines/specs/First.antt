@@ -1,4 +1,4 @@
--- The answer to the first line of what is left of an input, also behind what a room holds.
+-- The answer to the first line of what is left of an input, behind what a room holds.
 use Rattle.std.specs.Prelude.{◌≡◌, ℕ, ◌+◌, ◌≤◌, List, [], ◌∷◌, ◌++◌, length, take, drop, Option, IsUtf8, ◌⊎◌, Result, Ok, Err, Bool, true}
 use Rattle.wkt_events.specs.Remaining.{before_feed}
 use Rattle.wkt_lines.specs.Lines.{after_feed, EndsText}
@@ -9,26 +9,11 @@ use Rattle.wkt_canonical.specs.Canonical.{HasLongText, IsCanonicalTo}
 use Rattle.wkt_canonical.specs.declared.canonical.NoRoom.{NoRoom}
 use Rattle.wkt_lines.specs.declared.in_room.Answer.{Answer}
 
--- The answer to the first line of what is left of an input.
-
--- What was written is the answer to the first line, in UTF-8, and a line feed.
-pub record AnswersFirst {N : Type 0} (read : List ℕ → Option N) (num : N → List ℕ) (rest written : List ℕ) : Type 0 where
-  pub answer : List ℕ
-  pub is : IsAnswer read num (before_feed rest) answer
-  pub utf8 : IsUtf8 answer
-  pub text : written ≡ answer ++ 10 ∷ []
-
--- That was added.
-abbrev pub AddsFirst : {N : Type 0} → (List ℕ → Option N) → (N → List ℕ) → List ℕ → List ℕ → List ℕ → Type 0
-AddsFirst read num rest old new = (written : List ℕ) × AnswersFirst read num rest written × (new ≡ old ++ written)
-
 -- The first line ends there.
 pub record EndsLine (rest : List ℕ) (end : ℕ) : Type 0 where
   pub before : take end rest ≡ before_feed rest
   pub after : drop (end + 1) rest ≡ after_feed rest
   pub within : end ≤ length rest
-
--- The answer to the first line, behind what a room holds.
 
 module _ {N : Type 0} (read : List ℕ → Option N) (num : N → List ℕ) where
   -- The first line is answered behind the first `len` bytes, up to `n`, in UTF-8, and what stands behind it is left.

@@ -1,13 +1,12 @@
 -- The output of a program that answers line by line. Numbers are read by `read` and printed by `num`; those of the program
 -- are decimals of eighteen places.
 use Rattle.std.specs.Prelude.{◌≡◌, ℕ, List, ◌⊎◌, Option, codes, IsUtf8, Result, Ok, Err, ℤ}
-use Rattle.wkt_num.specs.Sink.{Sink}
 use Rattle.wkt_access.specs.Values.{Value}
 use Rattle.wkt_access.specs.Shapes.{shape_of}
 use Rattle.wkt_access.specs.Texts.{shape_text}
 use Rattle.wkt_read.specs.Front.{Front, HasNoFront}
 use Rattle.wkt_lines.specs.Lines.{input_lines}
-use Rattle.wkt_lines.specs.Replies.{AreReplies, AddsReply, BreaksReply}
+use Rattle.wkt_lines.specs.Replies.{AreReplies}
 use Rattle.wkt_lines.specs.declared.lines.RunError.{RunError}
 use Rattle.wkt_lines.specs.declared.lines.RunError.TheVariants as run
 use Rattle.wkt_num.specs.Decimal.{read_decimal, decimal_text}
@@ -39,15 +38,6 @@ module _ {N : Type 0} (read : List ℕ → Option N) (num : N → List ℕ) wher
   -- The answers to all lines of the input.
   abbrev pub IsOutput : List ℕ → List ℕ → Type 0
   IsOutput input out = AreAnswers (input_lines input) out
-
-  module _ {S : Type 0} (sink : Sink S) where
-    -- The answer to a line was added to a sink of text.
-    abbrev pub AddsAnswer : S → S → List ℕ → Type 0
-    AddsAnswer = AddsReply IsAnswer sink
-
-    -- A beginning of the answer to a line was added to a sink of text.
-    abbrev pub BreaksAnswer : S → S → List ℕ → Type 0
-    BreaksAnswer = BreaksReply IsAnswer sink
 
 -- The fact is claimed where the reader failed.
 abbrev pub OnRunRead : {A : Type 0} → Result A RunError → Type 0 → Type 0

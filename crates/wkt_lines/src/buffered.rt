@@ -1,23 +1,22 @@
 //! The answers to the lines of a block.
 ghost use Rattle.std.specs.Prelude.{◌≡◌, ◌<◌, [], OnOk};
-ghost use Rattle.wkt_lines.specs.Output.{OnRunMemory};
+ghost use Rattle.wkt_lines.specs.Output.{IsAnswer, OnRunMemory};
 ghost use Rattle.wkt_lines.specs.Buffers.{output_text, HasRoomFor, PutsOut, AnswersAll};
 
-use crate::into_output::Answers;
 use crate::lines::RunError;
 use crate::output_buffer::OutputBuffer;
 use std::alloc::AllocError;
 use wkt_bytes::{ByteSink, put_all};
+use wkt_num::WktNum;
 
 /// Puts out the answers to all lines of the block, by an output buffer that is empty before and after.
-pub(crate) fn answer_block<A: Answers, W: ByteSink>(
-    answers: &A,
+pub(crate) fn answer_block<T: WktNum, W: ByteSink>(
     input: &[u8],
     output: &mut OutputBuffer,
     writer: &mut W,
 ) -> Result<(), RunError>
     requires { output_text output.old ≡ [] }
-    ensures answers { AnswersAll W.sink (A.answers answers.now) writer.old input.now result writer.new }
+    ensures answers { AnswersAll W.sink (IsAnswer T.read T.num) writer.old input.now result writer.new }
     ensures empty { OnOk result (output_text output.new ≡ []) }
     ensures keeps { W.sink.keeps writer.old writer.new }
 {
@@ -31,7 +30,7 @@ pub(crate) fn answer_block<A: Answers, W: ByteSink>(
                 Err(e) => return Err(e),
             }
         }
-        match answers.add_first(rest, output) {
+        match output.add_answer::<T>(rest) {
             Ok(taken) => at += taken,
             Err(e) => return give_up(e, output, writer),
         }

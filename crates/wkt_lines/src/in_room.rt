@@ -5,7 +5,7 @@ ghost use Rattle.wkt_lines.specs.Lines.{before_feed, after_feed};
 
 use crate::ends::{ends_there, line_end, text_end};
 use wkt_canonical::{NoRoom, write_front};
-use wkt_num::{Numbers, OfType, WktNum};
+use wkt_num::Numbers;
 
 /// How much of a block was answered, with its line feed, and how much is written then.
 #[derive(Clone, Copy)]
@@ -20,25 +20,7 @@ pub struct Answer {
 /// # Errors
 /// [`NoRoom`]; what stands behind the first `len` bytes means nothing then.
 #[inline(always)]
-pub fn answer_line<T: WktNum>(rest: &[u8], out: &mut [u8], len: usize) -> Result<Answer, NoRoom>
-    requires { len + 2 * length rest.now + 65 ≤ length out.old }
-    ensures answers { AnswersIfRoom T.read T.num rest.now len out.old out.new result }
-    ensures kept { take len out.new ≡ take len out.old }
-    ensures whole { length out.new ≡ length out.old }
-    ensures room { IfAnswered result (λ a. a.len ≤ length out.old) }
-    ensures some { IfAnswered result (λ a. 0 < a.taken) }
-    ensures line { IfAnswered result (λ a. a.taken ≡ length (before_feed rest.now) + 1) }
-    ensures within { IfAnswered result (λ a. a.taken ≤ length rest.now + 1) }
-{
-    answer_line_by(OfType::<T>::new(), rest, out, len)
-}
-
-/// The same, with numbers of any kind.
-///
-/// # Errors
-/// [`NoRoom`], as there.
-#[inline(always)]
-pub fn answer_line_by<N: Numbers>(
+pub fn answer_line<N: Numbers>(
     numbers: N,
     rest: &[u8],
     out: &mut [u8],

@@ -1,7 +1,7 @@
 //! Laws of the output: each function does nothing, and its contract is the law.
 ghost use Rattle.wkt_lines.specs.Laws.{OneOutput, OutputOfParts, PartsOfOutput};
 
-use wkt_num::{Numbers, WktNum};
+use wkt_num::WktNum;
 
 /// An input has at most one output.
 #[tactic(auto, using(crate::proofs::Outcomes::same_answers))]
@@ -17,16 +17,4 @@ pub fn one_output<T: WktNum>()
 pub fn output_of_parts<T: WktNum>()
     ensures joined { OutputOfParts T.read T.num }
     ensures cut { PartsOfOutput T.read T.num }
-{}
-
-/// As [`one_output`], with numbers of any kind.
-pub fn one_output_by<N: Numbers>()
-    ensures { (numbers : N) → OneOutput (N.read numbers) (N.num numbers) }
-{}
-
-/// As [`output_of_parts`], with numbers of any kind.
-#[tactic(auto, using(crate::proofs::Outcomes::parts_make, crate::proofs::Outcomes::parts_of))]
-pub fn output_of_parts_by<N: Numbers>()
-    ensures joined { (numbers : N) → OutputOfParts (N.read numbers) (N.num numbers) }
-    ensures cut { (numbers : N) → PartsOfOutput (N.read numbers) (N.num numbers) }
 {}

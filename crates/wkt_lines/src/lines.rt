@@ -6,7 +6,6 @@ ghost use Rattle.wkt_lines.specs.Streaming.{Runs};
 
 use crate::buffered::answer_block;
 use crate::input_buffer::{InputBuffer, whole_lines};
-use crate::into_output::{Answers, ByMachine};
 use crate::output_buffer::OutputBuffer;
 use std::alloc::{AllocError, Global};
 use std::io;
@@ -66,29 +65,28 @@ pub fn run_over<T: WktNum, R: ByteSource, W: ByteSink>(
 {
     let mut buffer = InputBuffer::new(alloc);
     match buffer.fill_all(reader) {
-        Ok(()) => answer_input(alloc, &ByMachine::<T>::new(), buffer.front(), writer),
+        Ok(()) => answer_input::<T, W>(alloc, buffer.front(), writer),
         Err(ReadAllError::Read(e)) => Err(RunError::Read(e)),
         Err(ReadAllError::Memory(e)) => Err(RunError::Memory(e)),
     }
 }
 
 /// Writes the answers to all lines of the input, each by itself.
-fn answer_input<A: Answers, W: ByteSink>(
+fn answer_input<T: WktNum, W: ByteSink>(
     alloc: Global,
-    answers: &A,
     input: &[u8],
     writer: &mut W,
 ) -> Result<(), RunError>
-    ensures { AnswersAll W.sink (A.answers answers.now) writer.old input.now result writer.new }
+    ensures { AnswersAll W.sink (IsAnswer T.read T.num) writer.old input.now result writer.new }
 {
     let mut output = OutputBuffer::of_lines(alloc);
     let mut rest = input;
     'parts: loop {
         let whole = whole_lines(rest);
         if whole == 0 {
-            return answer_block(answers, rest, &mut output, writer);
+            return answer_block::<T, W>(rest, &mut output, writer);
         }
-        match answer_block(answers, &rest[..whole], &mut output, writer) {
+        match answer_block::<T, W>(&rest[..whole], &mut output, writer) {
             Ok(()) => rest = &rest[whole..],
             Err(e) => return Err(e),
         }

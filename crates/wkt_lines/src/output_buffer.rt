@@ -4,10 +4,8 @@ ghost use Rattle.std.specs.Bool.{OnTrue};
 
 use crate::in_room::answer_line;
 use std::alloc::{AllocError, Global};
-use std::fmt;
-use wkt_bytes::copy_piece;
 use wkt_canonical::{NoRoom, SPARE, make_room, widen};
-use wkt_num::{TextSink, WktNum};
+use wkt_num::{OfType, WktNum};
 
 // How much is gathered, before it is put out, where answers are gathered.
 const HELD: usize = 65536;
@@ -19,14 +17,11 @@ pub struct OutputBuffer {
     len: usize,
     // An output buffer that holds so much is put out.
     held: usize,
-    failures: u64,
     ghost fits: { len ≤ vec_len bytes },
 }
 
 impl OutputBuffer {
-    ghost use Rattle.wkt_lines.specs.Buffers.{output_text, output_failures, HasRoomFor, AnswersNext};
-    ghost use Rattle.wkt_lines.specs.First.{AddsFirst};
-    ghost use Rattle.wkt_lines.specs.Lines.{before_feed};
+    ghost use Rattle.wkt_lines.specs.Buffers.{output_text, HasRoomFor, AnswersNext};
 
     /// An output buffer with no room yet, which is put out when it holds 64 KiB.
     pub fn of_blocks(alloc: Global) -> OutputBuffer
@@ -36,7 +31,6 @@ impl OutputBuffer {
             bytes: Vec::new(alloc),
             len: 0,
             held: HELD,
-            failures: 0,
         }
     }
 
@@ -48,7 +42,6 @@ impl OutputBuffer {
             bytes: Vec::new(alloc),
             len: 0,
             held: 1,
-            failures: 0,
         }
     }
 
@@ -120,14 +113,20 @@ impl OutputBuffer {
     #[inline(always)]
     pub fn add_answer<T: WktNum>(&mut self, rest: &[u8]) -> Result<usize, AllocError>
         requires { HasRoomFor self.old (length rest.now) }
-        ensures answers { AnswersNext T.read T.num rest.now (output_text self.old) (output_text self.new) result }
-        ensures first { IfOk result (λ taken. AddsFirst T.read T.num rest.now (output_text self.old) (output_text self.new)) }
-        ensures line { IfOk result (λ taken. taken ≡ length (before_feed rest.now) + 1) }
+        ensures { AnswersNext T.read T.num rest.now (output_text self.old) (output_text self.new) result }
     {
         // One call, since only so the machine is built into the loop over lines.
         'room: loop {
-            match self.answer_line::<T>(rest) {
-                Ok(taken) => return Ok(taken),
+            match answer_line(
+                OfType::<T>::new(),
+                rest,
+                self.bytes.as_mut_slice(),
+                self.len,
+            ) {
+                Ok(answer) => {
+                    self.len = answer.len;
+                    return Ok(answer.taken);
+                }
                 Err(NoRoom) => {}
             }
             match widen(&mut self.bytes) {
@@ -135,69 +134,5 @@ impl OutputBuffer {
                 Err(e) => return Err(e),
             }
         }
-    }
-
-    /// Adds the answer to the first line, if there is room for the text of each number.
-    #[inline(always)]
-    fn answer_line<T: WktNum>(&mut self, rest: &[u8]) -> Result<usize, NoRoom>
-        requires { HasRoomFor self.old (length rest.now) }
-        ensures answers { AnswersNext T.read T.num rest.now (output_text self.old) (output_text self.new) result }
-        ensures first { IfOk result (λ taken. AddsFirst T.read T.num rest.now (output_text self.old) (output_text self.new)) }
-        ensures line { IfOk result (λ taken. taken ≡ length (before_feed rest.now) + 1) }
-        ensures len { OnErr result (self.new.len ≡ self.old.len) }
-        ensures room { OnErr result (vec_len self.new.bytes ≡ vec_len self.old.bytes) }
-    {
-        match answer_line::<T>(rest, self.bytes.as_mut_slice(), self.len) {
-            Ok(answer) => {
-                self.len = answer.len;
-                Ok(answer.taken)
-            }
-            Err(e) => Err(e),
-        }
-    }
-
-    /// Takes the bytes, or returns that there is no memory for them.
-    fn keep(&mut self, bytes: &[u8]) -> bool
-        ensures kept { output_text self.new ≡ (if result then output_text self.old ++ bytes.now else output_text self.old) }
-        ensures count { output_failures self.new ≡ output_failures self.old }
-    {
-        let start = self.len;
-        let Some(end) = start.checked_add(bytes.len()) else {
-            return false;
-        };
-        if end > self.bytes.len() && !self.grow(end) {
-            return false;
-        }
-        copy_piece(bytes, &mut self.bytes[start..end]);
-        self.len = end;
-        true
-    }
-
-    /// Grows to that length or more, or returns that there is no memory for it.
-    #[inline(never)]
-    fn grow(&mut self, end: usize) -> bool
-        ensures kept { output_text self.new ≡ output_text self.old }
-        ensures len { self.new.len ≡ self.old.len }
-        ensures room { OnTrue result (end ≤ length self.new.bytes.items) }
-        ensures count { output_failures self.new ≡ output_failures self.old }
-    {
-        let room = end.max(self.bytes.len().saturating_mul(2));
-        self.bytes.resize(room, 0).is_ok()
-    }
-}
-
-/// Text that is written to an output buffer. It fails where there is no memory for it.
-impl TextSink for OutputBuffer {
-    ghost use Rattle.wkt_lines.specs.Buffers.{output_text, output_failures};
-    ghost use Rattle.wkt_num.specs.Sink.{revealing};
-
-    ghost sink = { revealing output_text output_failures };
-
-    fn write_str(&mut self, piece: &str) -> fmt::Result {
-        if self.keep(piece.as_bytes()) {
-            return Ok(());
-        }
-        self.failures = self.failures.wrapping_add(1);
-        Err(fmt::Error)
     }
 }

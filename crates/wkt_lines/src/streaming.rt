@@ -4,10 +4,8 @@ ghost use Rattle.wkt_lines.specs.Streaming.{Streams};
 
 use crate::buffered::answer_block;
 use crate::input_buffer::InputBuffer;
-use crate::into_output::{Answers, ByMachine, ByReply};
 use crate::lines::RunError;
 use crate::output_buffer::OutputBuffer;
-use crate::reply::Reply;
 use std::alloc::{AllocError, Global};
 use wkt_bytes::{ByteSink, ByteSource};
 use wkt_num::{Decimal, WktNum};
@@ -45,36 +43,6 @@ pub fn stream_over<T: WktNum, R: ByteSource, W: ByteSink>(
     ensures { Streams (IsAnswer T.read T.num) R.left R.failures W.sink
         reader.old writer.old result reader.new writer.new }
 {
-    stream_blocks(alloc, &ByMachine::<T>::new(), reader, writer)
-}
-
-/// Writes answers of any kind to all lines of the source, as [`stream`] does.
-///
-/// # Errors
-/// Those of [`stream`]. `Memory` also comes where the reply returns it, or where there is no memory to gather an
-/// answer.
-pub fn stream_with<A: Reply, R: ByteSource, W: ByteSink>(
-    alloc: Global,
-    reply: &A,
-    reader: &mut R,
-    writer: &mut W,
-) -> Result<(), RunError>
-    ensures { Streams (A.answers reply.now) R.left R.failures W.sink
-        reader.old writer.old result reader.new writer.new }
-{
-    stream_blocks(alloc, &ByReply { alloc, reply }, reader, writer)
-}
-
-/// Writes the answers to all lines of the source, block by block.
-fn stream_blocks<A: Answers, R: ByteSource, W: ByteSink>(
-    alloc: Global,
-    answers: &A,
-    reader: &mut R,
-    writer: &mut W,
-) -> Result<(), RunError>
-    ensures { Streams (A.answers answers.now) R.left R.failures W.sink
-        reader.old writer.old result reader.new writer.new }
-{
     let mut buffer = InputBuffer::new(alloc);
     let mut output = OutputBuffer::of_blocks(alloc);
     'turns: for _ in 0..u64::MAX {
@@ -84,10 +52,10 @@ fn stream_blocks<A: Answers, R: ByteSource, W: ByteSink>(
         let seen = buffer.len();
         match buffer.fill(reader) {
             Err(fault) => return Err(RunError::Read(fault)),
-            Ok(0) => return answer_block(answers, buffer.front(), &mut output, writer),
+            Ok(0) => return answer_block::<T, W>(buffer.front(), &mut output, writer),
             Ok(_) => {
                 let whole = buffer.whole(seen);
-                match answer_block(answers, &buffer.front()[..whole], &mut output, writer) {
+                match answer_block::<T, W>(&buffer.front()[..whole], &mut output, writer) {
                     Ok(()) => buffer.consume(whole),
                     Err(e) => return Err(e),
                 }

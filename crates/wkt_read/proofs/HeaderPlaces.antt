@@ -29,25 +29,8 @@ use Rattle.wkt_read.proofs.OneForm.{geometry_body}
 pub upper_at : (text : List ℕ) (i : ℕ) → i < length text → str_to_ascii_uppercase (drop i text) ≡ to_ascii_uppercase (get_or text i 0) ∷ str_to_ascii_uppercase (drop (i + 1) text)
 upper_at text i h = ap str_to_ascii_uppercase (drop-cons text i 0 h) ∙ ap (λ j. to_ascii_uppercase (get_or text i 0) ∷ str_to_ascii_uppercase (drop j text)) (sym (add-one i))
 
-pub upper_end : (text : List ℕ) (i : ℕ) → i ≡ length text → str_to_ascii_uppercase (drop i text) ≡ []
-upper_end text i e = ap (λ j. str_to_ascii_uppercase (drop j text)) e ∙ ap str_to_ascii_uppercase (drop-length text)
-
-pub begins_at : (word text : List ℕ) (i : ℕ) → i < length word → i < length text → begins (drop i word) (str_to_ascii_uppercase (drop i text)) ≡ (nat_eq (get_or word i 0) (to_ascii_uppercase (get_or text i 0)) && begins (drop (i + 1) word) (str_to_ascii_uppercase (drop (i + 1) text)))
-begins_at word text i h k =
-    ap (λ w. begins w (str_to_ascii_uppercase (drop i text))) (drop-cons word i 0 h ∙ ap (λ j. get_or word i 0 ∷ drop j word) (sym (add-one i)))
-    ∙ ap (begins (get_or word i 0 ∷ drop (i + 1) word)) (upper_at text i k)
-
-pub begins_all : (word text : List ℕ) (i : ℕ) → i ≡ length word → begins (drop i word) text ≡ true
-begins_all word text i e = ap (λ j. begins (drop j word) text) e ∙ ap (λ w. begins w text) (drop-length word)
-
 pub holds_at : (word text : List ℕ) (i : ℕ) → i < length text → holds word (str_to_ascii_uppercase (drop i text)) ≡ (begins word (str_to_ascii_uppercase (drop i text)) || holds word (str_to_ascii_uppercase (drop (i + 1) text)))
 holds_at word text i h = ap (holds word) (upper_at text i h) ∙ ap (λ w. begins word w || holds word (str_to_ascii_uppercase (drop (i + 1) text))) (sym (upper_at text i h))
-
-pub holds_end : (word text : List ℕ) (i : ℕ) → i ≡ length text → holds word (str_to_ascii_uppercase (drop i text)) ≡ begins word (str_to_ascii_uppercase (drop i text))
-holds_end word text i e = ap (holds word) (upper_end text i e) ∙ ap (begins word) (sym (upper_end text i e))
-
-pub space_at : (text : List ℕ) (i : ℕ) → i < length text → has_space (drop i text) ≡ ((get_or text i 0 == 32 || get_or text i 0 == 10 || get_or text i 0 == 13 || get_or text i 0 == 9) || has_space (drop (i + 1) text))
-space_at text i h = ap has_space (drop-cons text i 0 h ∙ ap (λ j. get_or text i 0 ∷ drop j text) (sym (add-one i)))
 
 -- the header of a text, some of whose first bytes are in it
 pub with_bytes_none : (a : List ℕ) → with_bytes a None ≡ None
@@ -104,14 +87,6 @@ not_test a b h = by_test (a == b) refl
 pub is_test : (a b : ℕ) → a ≡ b → (a == b) ≡ true
 is_test a b e = eq-eqb a b e
 
-pub begins_other : (word text : List ℕ) (i : ℕ) → i < length word → i < length text → (to_ascii_uppercase (get_or text i 0) ≡ get_or word i 0 → ⊥) → begins (drop i word) (str_to_ascii_uppercase (drop i text)) ≡ false
-begins_other word text i h k other =
-    begins_at word text i h k ∙ ap (λ b. b && begins (drop (i + 1) word) (str_to_ascii_uppercase (drop (i + 1) text))) (not_test (get_or word i 0) (to_ascii_uppercase (get_or text i 0)) (λ e. other (sym e)))
-
-pub begins_next : (word text : List ℕ) (i : ℕ) → i < length word → i < length text → to_ascii_uppercase (get_or text i 0) ≡ get_or word i 0 → begins (drop i word) (str_to_ascii_uppercase (drop i text)) ≡ begins (drop (i + 1) word) (str_to_ascii_uppercase (drop (i + 1) text))
-begins_next word text i h k same =
-    begins_at word text i h k ∙ ap (λ b. b && begins (drop (i + 1) word) (str_to_ascii_uppercase (drop (i + 1) text))) (is_test (get_or word i 0) (to_ascii_uppercase (get_or text i 0)) (sym same))
-
 pub holds_next : (word text : List ℕ) (i : ℕ) → i < length text → begins word (str_to_ascii_uppercase (take (length text - i) (drop i text))) ≡ false → holds word (str_to_ascii_uppercase (drop i text)) ≡ holds word (str_to_ascii_uppercase (drop (i + 1) text))
 holds_next word text i h other = holds_at word text i h ∙ ap (λ b. b || holds word (str_to_ascii_uppercase (drop (i + 1) text))) (ap (begins word) (sym (rest_text text i)) ∙ other)
 
@@ -140,12 +115,6 @@ upper_rest text i = drop-map to_ascii_uppercase i text ∙ sym (rest_text text i
 
 pub range_take : (text : List ℕ) (n : ℕ) → slice_range text 0 n ≡ take n text
 range_take text n = let e : n - 0 ≡ n = omega arith in ap (λ m. take m text) e
-
--- a capital stays as it is among capitals
-pub capital_at : (word : List ℕ) (i : ℕ) → AllByRecursion IsCapital word → i < length word → to_ascii_uppercase (get_or word i 0) ≡ get_or word i 0
-capital_at [] i all h = absurd (omega arith)
-capital_at (b ∷ word) zero all h = (uppercase_is b).1 (omega (arith, all.0.1))
-capital_at (b ∷ word) (suc i) all h = capital_at word i all.1 (omega (arith, h))
 
 -- A run is a word where it begins with it and is as long.
 

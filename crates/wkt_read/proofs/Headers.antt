@@ -368,14 +368,6 @@ plain_suffix _ = refl
 pub after_white : (mid : List ℕ) (j : Option Dimension) (d : Dimension) → said_of j ≡ d → Stop mid → AfterKind mid j d
 after_white mid j d e s = record { bytes = s.gap; by_empty = s.by_empty; header = s.header; spaced = s.spaced; said = dim_said_is j s.gap s.white ∙ e }
 
-pub space_before : (gap y : List ℕ) → has_space gap ≡ true → has_space (gap ++ y) ≡ true
-space_before [] y h = cc
-space_before (x ∷ gap) y h = go (x == 32 || x == 10 || x == 13 || x == 9) h (space_before gap y)
-  where
-    go : (p : Bool) → (p || has_space gap) ≡ true → (has_space gap ≡ true → has_space (gap ++ y) ≡ true) → (p || has_space (gap ++ y)) ≡ true
-    go true h f = refl
-    go false h f = f h
-
 pub after_word : (mid : List ℕ) (d : Dimension) (run : List ℕ) (ls : List Lexeme) (rest : List ℕ) → dim_word run ≡ Some d → IsBoundary mid → (f : FirstWord mid run ls rest) → Stop f.mid → AfterKind mid None d
 after_word mid d run ls rest h bd f s =
     let letters = dim_letters run d h in

@@ -205,12 +205,6 @@ no-run : (c : code.ByteClass) → c ≢ class.Run → meant c ≢ Run
 no-run class.Run h = absurd (h refl)
 no-run _ h = λ e. cc
 
--- where a cursor starts
-pub found-start : (text : List ℕ) (ahead : code.ByteClass) (at : ℕ) → ahead ≢ class.Run → IsCharBoundary text at → FoundClass (coming_at text (meant ahead) at) text ahead at
-unfolding front spanned_from
-found-start text class.Run at h boundary = absurd (h refl)
-found-start text _ at h boundary = (refl, boundary)
-
 pub found-end : (remaining : List Spanned) (text : List ℕ) (at : ℕ) → remaining ≡ coming_at text White at → at ≡ length text → FoundClass remaining text class.Nul at
 unfolding front spanned_from
 found-end remaining text at e end = (e ∙ ap (λ l. spanned_from at l) (ap (λ n. drop n text) end ∙ drop-length text), subst (IsCharBoundary text) (sym end) (IsCharBoundary-end text))

@@ -26,7 +26,7 @@ point(1 2.0)  |POINT(1 2)";
 fn is_answered(rt: &impl Abort, rest: &[u8], taken: usize, want: &str) {
     assert!(rt; rest.len() <= 301);
     let mut out = [7u8; 800];
-    match answer_line::<Decimal<6>>(rest, &mut out, 3) {
+    match answer_line(OfType::<Decimal<6>>::new(), rest, &mut out, 3) {
         Ok(answer) => {
             assert!(rt; answer.taken == taken);
             assert!(rt; out[..3] == [7; 3]);

@@ -5,11 +5,9 @@ ghost use Rattle.wkt_read.specs.Front.{HasNoFront};
 ghost use Rattle.wkt_read.specs.Explained.{EndsFront};
 
 use crate::bytes::ByteCursor;
-use crate::tokens::TokenSource;
 use wkt_machine::NullBuilder;
 use wkt_machine::drive::drive;
 use wkt_num::{OfType, WktNum};
-use wkt_read::{PeekableTokens, Tokens};
 
 /// Where the geometry at the front of the text ends, in bytes; `None` where the text has none there. What follows it
 /// doesn't change the answer. It takes no memory, and no stack for nesting.
@@ -25,24 +23,6 @@ pub fn front_end<T: WktNum>(text: &str) -> Option<usize>
     };
     match drive::<T, ByteCursor<'_, false>, NullBuilder<OfType<T>>>(source, nothing) {
         Ok(over) => Some(over.source.at),
-        Err(_) => None,
-    }
-}
-
-/// As [`front_end`], by the text's tokens.
-pub fn front_end_by_tokens<T: WktNum>(text: &str) -> Option<usize>
-    ensures front { MatchOption result (HasNoFront T.read text.now) (λ end. EndsFront T.read text.now end) }
-    ensures some { IfSome result (λ end. 0 < end) }
-    ensures within { IfSome result (λ end. end ≤ length text.now) }
-    ensures boundary { IfSome result (λ end. IsCharBoundary text.now end) }
-{
-    let mut tokens = PeekableTokens::<T>::new(Tokens::<T>::from_str(text));
-    let source = TokenSource::<'_, '_, T>::new(&mut tokens);
-    let nothing = NullBuilder {
-        numbers: OfType::<T>::new(),
-    };
-    match drive::<T, TokenSource<'_, '_, T>, NullBuilder<OfType<T>>>(source, nothing) {
-        Ok(over) => Some(over.source.into_tokens().end()),
         Err(_) => None,
     }
 }

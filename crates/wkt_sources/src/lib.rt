@@ -12,7 +12,7 @@ mod points;
 pub mod tokens;
 
 pub use bytes::ByteCursor;
-pub use front::{front_end, front_end_by_tokens};
+pub use front::front_end;
 pub use message::message_at;
 pub use points::{FastPoint, fast_point};
 pub use tokens::TokenSource;

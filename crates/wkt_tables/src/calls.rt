@@ -2,7 +2,7 @@
 use crate::dialects::in_dialects;
 use crate::flat_calls::{becomes, converted, flat_of};
 use crate::json_calls::json_given;
-use crate::made::{built, canonical, lines, pushed, turned};
+use crate::made::{built, canonical, lines, pushed};
 use crate::numbers::{answer_of, number_of};
 use crate::parts::{flat_of_whole, held, lexemes, message, place};
 use crate::table::said;
@@ -12,7 +12,6 @@ use wkt::{
     AnyError, Decimal, FromWktStr, ReadError, ToWkt, Wkt, canonical_into, canonical_text, explain,
     front_end, infer_type, read_whole, same_geometry,
 };
-use wkt_sources::front_end_by_tokens;
 use wkt_values::read_text;
 
 /// The number type of the rows that name none.
@@ -51,7 +50,6 @@ fn of_text(alloc: Global, call: &str, text: &str) -> Result<String, AnyError> {
         "convert_from" => converted(alloc, text),
         "kinds" => becomes(alloc, text),
         "into_canonical" => canonical(alloc, text),
-        "map_coords" => turned(alloc, text),
         "literals" => built(alloc, text),
         "lines" => lines(alloc, text),
         "explain" => place(alloc, text),
@@ -87,7 +85,7 @@ fn canonical_by_each(alloc: Global, text: &str) -> Result<String, AnyError> {
     }
 }
 
-/// Where the front of a text ends, or none, if it does by its bytes, by its tokens and by its value.
+/// Where the front of a text ends, or none, if it does by its bytes and by its value.
 fn end_by_each(alloc: Global, text: &str) -> Result<String, AnyError> {
     let by_value = match read_text::<Number>(alloc, text) {
         Ok((_, end)) => Some(end),
@@ -95,7 +93,7 @@ fn end_by_each(alloc: Global, text: &str) -> Result<String, AnyError> {
         Err(ReadError::Memory(error)) => return Err(AnyError::Memory(error)),
     };
     let end = front_end::<Number>(text);
-    if front_end_by_tokens::<Number>(text) == end && by_value == end {
+    if by_value == end {
         shown_if_any(alloc, end)
     } else {
         differ(alloc)

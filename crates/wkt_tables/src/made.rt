@@ -1,26 +1,18 @@
 //! Calls that make a geometry or a text of another, by their names, and the builders of geometries, called with the
 //! numbers that a text holds.
-use crate::calls::{Number, flat_shown};
+use crate::calls::Number;
 use std::alloc::{AllocError, Global};
 use wkt::error::Error as WriteError;
 use wkt::geo_types::{Geometry, Line, LineString, Rect, Triangle};
 use wkt::literals::{line_string, point, polygon};
 use wkt::to_wkt::{
-    Counted, ReadAllError, push_geometry_collection, push_line, push_linestring,
-    push_multi_linestring, push_multi_point, push_multi_polygon, push_point, push_polygon,
-    push_rect, push_triangle,
+    Counted, ReadAllError, StringText, TextSink, write_geometry_collection, write_line,
+    write_linestring, write_multi_linestring, write_multi_point, write_multi_polygon, write_point,
+    write_polygon, write_rect, write_triangle,
 };
 use wkt::types::{self, Coord, Point, Polygon};
-use wkt::walks::map_coords;
 use wkt::{AnyError, FromWktStr, ReadError, TryFromWkt, Wkt};
-use wkt_all_calls::Swapped;
 use wkt_lines::Lines;
-
-/// The two-dimensional geometry of a text, with x for y.
-pub(crate) fn turned(alloc: Global, text: &str) -> Result<String, AnyError> {
-    let geometry = Geometry::<Number>::try_from_wkt_str(alloc, text)?;
-    flat_shown(alloc, map_coords(alloc, &geometry, &Swapped))
-}
 
 /// The geometry of a text made canonical, if its text is read as the same.
 pub(crate) fn canonical(alloc: Global, text: &str) -> Result<String, AnyError> {
@@ -58,30 +50,42 @@ fn behind_word(alloc: Global, of: &str, geometry: &Geometry<Number>) -> Result<S
     }
 }
 
+/// Adds the text of a geometry to a string, by the writer of its kind.
 fn push_by_kind(out: &mut String, of: &str, geometry: &Geometry<Number>) -> Result<(), WriteError> {
+    let mut sink = StringText::new(out);
+    let result = write_by_kind(&mut sink, of, geometry);
+    sink.into_string();
+    result
+}
+
+fn write_by_kind<W: TextSink>(
+    sink: &mut W,
+    of: &str,
+    geometry: &Geometry<Number>,
+) -> Result<(), WriteError> {
     match geometry {
-        Geometry::Point(x) => push_point(out, x),
-        Geometry::LineString(x) => push_line_string(out, of, x),
-        Geometry::Polygon(x) => push_polygon(out, x),
-        Geometry::MultiPoint(x) => push_multi_point(out, x),
-        Geometry::MultiLineString(x) => push_multi_linestring(out, x),
-        Geometry::MultiPolygon(x) => push_multi_polygon(out, x),
-        Geometry::GeometryCollection(x) => push_geometry_collection(out, x),
+        Geometry::Point(x) => write_point(sink, x),
+        Geometry::LineString(x) => write_line_string(sink, of, x),
+        Geometry::Polygon(x) => write_polygon(sink, x),
+        Geometry::MultiPoint(x) => write_multi_point(sink, x),
+        Geometry::MultiLineString(x) => write_multi_linestring(sink, x),
+        Geometry::MultiPolygon(x) => write_multi_polygon(sink, x),
+        Geometry::GeometryCollection(x) => write_geometry_collection(sink, x),
         // No text is read as one of these.
         Geometry::Line(_) | Geometry::Rect(_) | Geometry::Triangle(_) => Ok(()),
     }
 }
 
-fn push_line_string(
-    out: &mut String,
+fn write_line_string<W: TextSink>(
+    sink: &mut W,
     of: &str,
     line_string: &LineString<Number>,
 ) -> Result<(), WriteError> {
     match (of, line_string.0.as_slice()) {
-        ("Line", [a, b]) => push_line(out, &Line::new(*a, *b)),
-        ("Rect", [a, b]) => push_rect(out, &Rect::new(*a, *b)),
-        ("Triangle", [a, b, c]) => push_triangle(out, &Triangle::new(*a, *b, *c)),
-        _ => push_linestring(out, line_string),
+        ("Line", [a, b]) => write_line(sink, &Line::new(*a, *b)),
+        ("Rect", [a, b]) => write_rect(sink, &Rect::new(*a, *b)),
+        ("Triangle", [a, b, c]) => write_triangle(sink, &Triangle::new(*a, *b, *c)),
+        _ => write_linestring(sink, line_string),
     }
 }
 

@@ -9,7 +9,7 @@
 //! program written from the rules alone, in another language.
 //!
 //! Each argument names a file of rows, one a call with what it gives: those of `data/`, each with a head that says
-//! what its columns are.
+//! what its columns are. `wkt_tables count decimal|i64 OPERATION.. < LINES` does operations to lines instead.
 #![tactic(auto)]
 
 mod calls;
@@ -18,6 +18,7 @@ mod flat_calls;
 mod json_calls;
 mod made;
 mod numbers;
+mod operations;
 mod parts;
 mod table;
 

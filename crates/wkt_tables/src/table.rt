@@ -4,6 +4,7 @@ ghost use Rattle.std.specs.Prelude.{◌≡◌, ◌↔◌, IfOk, IsTrue};
 ghost use Rattle.std.specs.String.{string_bytes};
 
 use crate::calls::given;
+use crate::operations::count_all;
 use serde_json::Value;
 use serde_json::error::Category;
 use std::alloc::{AllocError, Global};
@@ -21,19 +22,44 @@ pub enum TableError {
     Read(io::Error),
     #[error("the table isn't UTF-8")]
     NotText,
+    #[error("after `count`, name decimal or i64, and operations")]
+    Usage,
     #[error("standard output fails")]
     Print(io::Error),
     #[error("out of memory")]
     Memory(AllocError),
 }
 
-/// Checks the table on standard input, and each file that an argument names, and returns how many rows are wrong.
+/// Checks the table on standard input, and each file that an argument names, and returns how many rows are wrong. If the
+/// first argument is `count`, it does operations to the lines instead, which the others name.
 pub fn check_all(rt: &HostRuntime) -> Result<u64, TableError> {
     let alloc = rt.alloc();
     let bytes = bytes_of(alloc, rt.stdin())?;
-    let mut wrong = check_table(rt, alloc, text_of(&bytes)?)?;
-    for name in env::args(rt).map_err(unread)?.skip(1) {
-        wrong = wrong.wrapping_add(check_file(rt, alloc, &name)?);
+    let names = names_of(rt, alloc).map_err(unread)?;
+    match names.as_slice() {
+        [word, words @ ..] if word.as_str() == "count" => {
+            count_all(rt, alloc, words, text_of(&bytes)?)?;
+            Ok(0)
+        }
+        names => check_each(rt, alloc, text_of(&bytes)?, names),
+    }
+}
+
+/// The arguments.
+fn names_of(rt: &HostRuntime, alloc: Global) -> io::Result<Vec<String>> {
+    Ok(env::args(rt)?.skip(1).collect::<Vec<String>>(alloc)?)
+}
+
+/// Checks the table and the files.
+fn check_each(
+    rt: &HostRuntime,
+    alloc: Global,
+    table: &str,
+    names: &[String],
+) -> Result<u64, TableError> {
+    let mut wrong = check_table(rt, alloc, table)?;
+    for name in names {
+        wrong = wrong.wrapping_add(check_file(rt, alloc, name)?);
     }
     Ok(wrong)
 }

@@ -1,11 +1,25 @@
-//! What the crates of tests share: number types of one value and of two, sinks and sources that are slow or fail.
+//! What the crates of tests share: number types of one value and of two, sinks and sources that are slow or fail. And the
+//! tests of what stands below all reading: numbers, sinks of bytes, and the types with their texts.
 //!
-//! Below stand `wkt_num` and `wkt_bytes`; above, `wkt_type_tests`, `wkt_tests`, `wkt_tables` and the fuzz.
+//! Below stand the crates of numbers, bytes, traits and types; above, the other tests, `wkt_tables` and the fuzz. It waits
+//! for no crate that reads, so it is proved beside them.
 #![tactic(auto)]
 
 ghost use Rattle.std.specs.Prelude.{◌≡◌, ◌≤◌, ◌<◌};
 
+#[cfg(test)]
+mod asserts;
+#[cfg(test)]
+mod bytes;
+#[cfg(test)]
+mod flat_texts;
+#[cfg(test)]
+mod flat_values;
+#[cfg(test)]
+mod num;
 mod numbers;
+#[cfg(test)]
+mod types;
 
 pub use numbers::{Dash, Letter, Long};
 use std::io;

@@ -5,9 +5,8 @@ use std::process::Abort;
 use std::test::Fail;
 use wkt::geo_types::Geometry;
 use wkt::tokenizer::Tokens;
-use wkt::walks::{map_coords, num_coords};
 use wkt::{Decimal, FromWktStr, ToWkt, TryFromWkt, Wkt, infer_type, same_geometry};
-use wkt_all_calls::{Swapped, answer, text_or_message};
+use wkt_all_calls::{answer, text_or_message};
 
 const NO_KIND_TEXT: &str = "Invalid type encountered";
 
@@ -84,17 +83,6 @@ fn back_text(alloc: Global, geometry: &Geometry<Decimal<6>>) -> Result<String, A
     geometry.to_wkt(alloc)?.to_string(alloc)
 }
 
-// How many coordinates the two-dimensional geometry of the text has, and its text with x for y.
-fn walked(alloc: Global, text: &str) -> Result<(usize, String), Fail> {
-    let geometry = Geometry::<i32>::try_from_wkt_str(alloc, text)?;
-    Ok((num_coords(&geometry), turned(alloc, &geometry)?))
-}
-
-fn turned(alloc: Global, geometry: &Geometry<i32>) -> Result<String, Fail> {
-    let turned = map_coords(alloc, geometry, &Swapped)?;
-    Ok(turned.wkt_string(alloc)?)
-}
-
 // As many levels as README says that a stack of 8 MB carries.
 #[test]
 fn great_depth(rt: HostRuntime) -> Result<(), Fail> {
@@ -102,10 +90,6 @@ fn great_depth(rt: HostRuntime) -> Result<(), Fail> {
     let text = nested(alloc, 10000, 10000)?;
     holds(&rt, copied(alloc, &text)?.as_str() == text.as_str());
     holds(&rt, converted(alloc, &text)?.as_str() == text.as_str());
-    let (coordinates, turned) = walked(alloc, &text)?;
-    equal(&rt, coordinates, 1);
-    equal(&rt, turned.len(), text.len());
-    holds(&rt, turned.contains("POINT(2 1)"));
     let open = nested(alloc, 10000, 9999)?;
     holds(&rt, Wkt::<Decimal<6>>::from_str(alloc, &open).is_err());
     Ok(())

@@ -2,8 +2,7 @@
 //! row of `wkt_tables`.
 //!
 //! Below stand `wkt`, the crates that it is made of, `wkt_lines`, and what tests share. Tests of one crate that reads are
-//! those of `wkt_read_tests`, tests that need no reading those of `wkt_type_tests`, and tests of proved callers those of
-//! `wkt_example_tests`.
+//! those of `wkt_read_tests`, and tests that need no reading those of `wkt_test_support`.
 #![tactic(auto)]
 
 #[cfg(test)]
@@ -16,6 +15,8 @@ mod deep;
 mod doc_examples;
 #[cfg(test)]
 mod flat;
+#[cfg(test)]
+mod io_errors;
 #[cfg(test)]
 mod lines;
 #[cfg(test)]

@@ -11,9 +11,7 @@ mod put_parts;
 mod write;
 
 pub use write::{
-    push_geometry, push_geometry_collection, push_line, push_linestring, push_multi_linestring,
-    push_multi_point, push_multi_polygon, push_point, push_polygon, push_rect, push_triangle,
-    write_geometry, write_geometry_collection, write_line, write_linestring,
+    push_geometry, write_geometry, write_geometry_collection, write_line, write_linestring,
     write_multi_linestring, write_multi_point, write_multi_polygon, write_point, write_polygon,
     write_rect, write_triangle,
 };

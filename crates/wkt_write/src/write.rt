@@ -1,4 +1,4 @@
-//! The eleven writers, each into a sink of text and into a string.
+//! The eleven writers into a sink of text, and one into a string.
 //!
 //! Each checks the whole shape first, so nothing is written of one that is refused.
 #![tactic(auto)]
@@ -55,25 +55,6 @@ pub fn write_point<W: TextSink, P: PointTrait>(f: &mut W, g: &P) -> Result<(), E
     write_kind(f, &Point(g))
 }
 
-/// Adds the text of a point, as `POINT Z(1 2 3)` or `POINT EMPTY`, to a string.
-///
-/// ```text
-/// let mut out = String::new(alloc);
-/// push_point(&mut out, &point)?;
-/// ```
-///
-/// # Errors
-/// As of [`write_point`]: the first error in the order of the text, and then the string is as it was;
-/// [`Error::FmtError`] where the string has no memory to grow into; then the shape has no error, and
-/// the string holds what it held and a beginning of the text.
-pub fn push_point<P: PointTrait>(out: &mut String, g: &P) -> Result<(), Error>
-    ensures { Pushes P.T.is_value P.T.num (string_bytes out.old)
-        (Shape.point (P.dimension g.now) (P.coordinate g.now))
-        (string_bytes out.new) result }
-{
-    push_kind(out, &Point(g))
-}
-
 /// Writes a line string, as `LINESTRING(1 2,3 4)` or `LINESTRING M EMPTY`.
 ///
 /// # Errors
@@ -83,18 +64,6 @@ pub fn write_linestring<W: TextSink, L: LineStringTrait>(f: &mut W, g: &L) -> Re
         f.new result }
 {
     write_kind(f, &LineString(g))
-}
-
-/// Adds the text of a line string, as `LINESTRING(1 2,3 4)`, to a string.
-///
-/// # Errors
-/// As of [`write_linestring`], and what the string holds then as of [`push_point`].
-pub fn push_linestring<L: LineStringTrait>(out: &mut String, g: &L) -> Result<(), Error>
-    ensures { Pushes L.T.is_value L.T.num (string_bytes out.old)
-        (Shape.line_string (L.dimension g.now) (L.coordinates g.now))
-        (string_bytes out.new) result }
-{
-    push_kind(out, &LineString(g))
 }
 
 /// Writes a polygon, as `POLYGON((0 0,1 0,0 1,0 0))` with its exterior first.
@@ -111,18 +80,6 @@ pub fn write_polygon<W: TextSink, Y: PolygonTrait>(f: &mut W, g: &Y) -> Result<(
     write_kind(f, &Polygon(g))
 }
 
-/// Adds the text of a polygon, as `POLYGON((0 0,1 0,0 1,0 0))`, to a string.
-///
-/// # Errors
-/// As of [`write_polygon`], and what the string holds then as of [`push_point`].
-pub fn push_polygon<Y: PolygonTrait>(out: &mut String, g: &Y) -> Result<(), Error>
-    ensures { Pushes Y.T.is_value Y.T.num (string_bytes out.old)
-        (Shape.polygon (Y.dimension g.now) (Y.polygon g.now))
-        (string_bytes out.new) result }
-{
-    push_kind(out, &Polygon(g))
-}
-
 /// Writes a list of points, as `MULTIPOINT((1 2),EMPTY)`: each in parentheses, an empty one `EMPTY`.
 ///
 /// The dimensions of its members aren't looked at.
@@ -134,18 +91,6 @@ pub fn write_multi_point<W: TextSink, M: MultiPointTrait>(f: &mut W, g: &M) -> R
         f.new result }
 {
     write_kind(f, &MultiPoint(g))
-}
-
-/// Adds the text of a list of points, as `MULTIPOINT((1 2),EMPTY)`, to a string.
-///
-/// # Errors
-/// As of [`write_multi_point`], and what the string holds then as of [`push_point`].
-pub fn push_multi_point<M: MultiPointTrait>(out: &mut String, g: &M) -> Result<(), Error>
-    ensures { Pushes M.T.is_value M.T.num (string_bytes out.old)
-        (Shape.multi_point (M.dimension g.now) (M.points g.now))
-        (string_bytes out.new) result }
-{
-    push_kind(out, &MultiPoint(g))
 }
 
 /// Writes a list of line strings, as `MULTILINESTRING((1 2,3 4),EMPTY)`.
@@ -164,18 +109,6 @@ pub fn write_multi_linestring<W: TextSink, M: MultiLineStringTrait>(
     write_kind(f, &MultiLineString(g))
 }
 
-/// Adds the text of a list of line strings, as `MULTILINESTRING((1 2,3 4),EMPTY)`, to a string.
-///
-/// # Errors
-/// As of [`write_multi_linestring`], and what the string holds then as of [`push_point`].
-pub fn push_multi_linestring<M: MultiLineStringTrait>(out: &mut String, g: &M) -> Result<(), Error>
-    ensures { Pushes M.T.is_value M.T.num (string_bytes out.old)
-        (Shape.multi_line_string (M.dimension g.now) (M.line_strings g.now))
-        (string_bytes out.new) result }
-{
-    push_kind(out, &MultiLineString(g))
-}
-
 /// Writes a list of polygons, as `MULTIPOLYGON(((0 0,1 0,0 1,0 0)),EMPTY)`.
 ///
 /// The dimensions of its members aren't looked at.
@@ -187,18 +120,6 @@ pub fn write_multi_polygon<W: TextSink, M: MultiPolygonTrait>(f: &mut W, g: &M) 
         f.new result }
 {
     write_kind(f, &MultiPolygon(g))
-}
-
-/// Adds the text of a list of polygons, as `MULTIPOLYGON(((0 0,1 0,0 1,0 0)),EMPTY)`, to a string.
-///
-/// # Errors
-/// As of [`write_multi_polygon`], and what the string holds then as of [`push_point`].
-pub fn push_multi_polygon<M: MultiPolygonTrait>(out: &mut String, g: &M) -> Result<(), Error>
-    ensures { Pushes M.T.is_value M.T.num (string_bytes out.old)
-        (Shape.multi_polygon (M.dimension g.now) (M.polygons g.now))
-        (string_bytes out.new) result }
-{
-    push_kind(out, &MultiPolygon(g))
 }
 
 /// Writes a geometry of any kind.
@@ -251,21 +172,6 @@ pub fn write_geometry_collection<W: TextSink, C: GeometryCollectionTrait>(
     write_kind(f, &Collection(g))
 }
 
-/// Adds the text of a collection, as `GEOMETRYCOLLECTION(POINT(1 2))`, to a string.
-///
-/// # Errors
-/// As of [`write_geometry_collection`], and what the string holds then as of [`push_point`].
-pub fn push_geometry_collection<C: GeometryCollectionTrait>(
-    out: &mut String,
-    g: &C,
-) -> Result<(), Error>
-    ensures { Pushes C.T.is_value C.T.num (string_bytes out.old)
-        (collection_of (C.dimension g.now) (C.geometries g.now))
-        (string_bytes out.new) result }
-{
-    push_kind(out, &Collection(g))
-}
-
 /// Writes a rectangle as a polygon of five coordinates.
 ///
 /// `POLYGON((max.x min.y,max.x max.y,min.x max.y,min.x min.y,max.x min.y))` is their order.
@@ -280,18 +186,6 @@ pub fn write_rect<W: TextSink, R: RectTrait>(f: &mut W, g: &R) -> Result<(), Err
     write_kind(f, &Rect(g))
 }
 
-/// Adds the text of a rectangle, as a polygon of five coordinates, to a string.
-///
-/// # Errors
-/// As of [`write_rect`], and what the string holds then as of [`push_point`].
-pub fn push_rect<R: RectTrait>(out: &mut String, g: &R) -> Result<(), Error>
-    ensures { Pushes R.T.is_value R.T.num (string_bytes out.old)
-        (Shape.rect (R.dimension g.now) (R.min_corner g.now) (R.max_corner g.now))
-        (string_bytes out.new) result }
-{
-    push_kind(out, &Rect(g))
-}
-
 /// Writes a triangle as a polygon of its three corners and the first again.
 ///
 /// # Errors
@@ -304,18 +198,6 @@ pub fn write_triangle<W: TextSink, Y: TriangleTrait>(f: &mut W, g: &Y) -> Result
     write_kind(f, &Triangle(g))
 }
 
-/// Adds the text of a triangle, as a polygon of its three corners and the first again, to a string.
-///
-/// # Errors
-/// As of [`write_triangle`], and what the string holds then as of [`push_point`].
-pub fn push_triangle<Y: TriangleTrait>(out: &mut String, g: &Y) -> Result<(), Error>
-    ensures { Pushes Y.T.is_value Y.T.num (string_bytes out.old)
-        (Shape.triangle (Y.dimension g.now) (Y.first_corner g.now) (Y.second_corner g.now) (Y.third_corner g.now))
-        (string_bytes out.new) result }
-{
-    push_kind(out, &Triangle(g))
-}
-
 /// Writes a line as a line string of its two ends.
 ///
 /// # Errors
@@ -325,16 +207,4 @@ pub fn write_line<W: TextSink, L: LineTrait>(f: &mut W, g: &L) -> Result<(), Err
         f.new result }
 {
     write_kind(f, &Line(g))
-}
-
-/// Adds the text of a line, as a line string of its two ends, to a string.
-///
-/// # Errors
-/// As of [`write_line`], and what the string holds then as of [`push_point`].
-pub fn push_line<L: LineTrait>(out: &mut String, g: &L) -> Result<(), Error>
-    ensures { Pushes L.T.is_value L.T.num (string_bytes out.old)
-        (Shape.line (L.dimension g.now) (L.from g.now) (L.to g.now))
-        (string_bytes out.new) result }
-{
-    push_kind(out, &Line(g))
 }

@@ -1,4 +1,4 @@
-//! The program of `crates/wkt_operations` over the Rust crate `wkt`, with the same arguments and the same output:
+//! What `wkt_tables count` does, over the Rust crate `wkt`, with the same arguments and the same output:
 //! `operations decimal|i64 OPERATION.. < LINES`, where `decimal` stands for `f64`.
 use std::fmt::Display;
 use std::hint::black_box;
@@ -10,7 +10,7 @@ use wkt::to_wkt::write_geometry;
 use wkt::types::Dimension;
 use wkt::{infer_type, ToWkt, TryFromWkt, Wkt};
 
-/// What is done to a line, as in `wkt_operations`.
+/// What is done to a line, as in `crates/wkt_tables/src/operations.rt`.
 #[derive(Clone, Copy)]
 enum Operation {
     Lines,
@@ -51,7 +51,7 @@ trait Number: CoordNum + FromStr + Default + Display {}
 
 impl<T: CoordNum + FromStr + Default + Display> Number for T {}
 
-/// Does the operation to a line, and returns the size of its answer, as `wkt_operations` has it. What the crate doesn't
+/// Does the operation to a line, and returns the size of its answer, as `wkt_tables` has it. What the crate doesn't
 /// have is done by what it has: a canonical text by reading and writing.
 fn answer<T: Number>(operation: Operation, line: &str, buffer: &mut Vec<u8>) -> Option<usize> {
     match operation {

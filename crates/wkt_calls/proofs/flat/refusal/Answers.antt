@@ -5,4 +5,4 @@ use Rattle.wkt_calls.proofs.flat.refusal.Goals as goal
 
 pub returns : goal.returns
 returns c =
-    refused-with (read_at c.args.places) c.args.text.now c.message_by.result c.number.result c.utf8.text c.requires c.message_by.ensures c.number.ensures.number c.number.ensures.least c.number.ensures.most
+    refused-with (read_at c.args.places) c.args.text.now c.message.result c.number.result c.utf8.text c.requires c.message.ensures c.number.ensures.number c.number.ensures.least c.number.ensures.most

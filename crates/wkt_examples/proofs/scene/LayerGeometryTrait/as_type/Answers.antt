@@ -1,9 +1,0 @@
--- A group has as many members as its list.
-use Rattle.std.proofs.Common.{◌∙◌}
-use Rattle.wkt.proofs.Collections.{is_collection}
-use Rattle.wkt_examples.specs.Scene.{layer_shape}
-use Rattle.wkt_examples.proofs.Groups.{layer_group_shape as group_shape}
-use Rattle.wkt_examples.proofs.scene.LayerGeometryTrait.as_type.Goals as goal
-
-pub returns-in-Group-clause-collection : goal.returns-in-Group-clause-collection
-returns-in-Group-clause-collection c = is_collection layer_shape _ _ _ (group_shape _ _ _ c.in-Group.is) _ (c.len.ensures ∙ c.in-Group.layers.ok.0)
