@@ -96,10 +96,9 @@ printf '%s;\n' "$(cell PostgreSQL 2 | sed -n 2p)" "SELECT wkt_canonical('point (
 row PostgreSQL "$(packages PostgreSQL)" "$(first PostgreSQL)
 service postgresql start; trap 'service postgresql stop' EXIT; su postgres -c 'psql -qAt -v ON_ERROR_STOP=1 -f /row.sql' | grep -xF '$answer'"
 row SQLite "$(packages SQLite)" "$(first SQLite) | grep -qx 'POINT(1 2)'"
-row "make check" "" "make -s check"
 if [ "${FACES:-}" != no ]; then
     timed "what ./check names" sh -c "$(block 1 | sed -n 's/.* skipped  \(apt .*\)/\1/p' | paste -sd ';' | sed 's/;/ \&\& /g')"
-    row "every face, by root" "" "./check; ./check --all c python sqlite rust postgres"
+    row "every face, by root" "" "make -s check"
     cat "$dir/said"
     as_other ./check > "$dir/said" 2>&1 || wrong "every face, by another user: FAILED"
     cat "$dir/said"
