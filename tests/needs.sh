@@ -111,11 +111,11 @@ if [ "$asked" = line ]; then
 fi
 
 if [ -n "$sudo" ] || ! command -v apt-get > /dev/null; then
-    echo "missing here: ${lacking[*]}. This installs it, and nothing was installed:" >&2
+    echo "Some packages are missing, and nothing was installed. This installs them:" >&2
     echo "    $line" >&2
     exit 3
 fi
-echo "missing here: ${lacking[*]}. It is installed now: $line" >&2
+echo "Some packages are missing, and are installed now: $line" >&2
 log=$(mktemp)
 trap 'rm -f "$log"' EXIT
 install() { DEBIAN_FRONTEND=noninteractive apt-get install -qy --no-install-recommends "$@" >> "$log" 2>&1; }
