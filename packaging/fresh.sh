@@ -14,7 +14,7 @@ root=$(dirname "$here")
 suite=$1
 dir=$(mktemp -d)
 debian=${2:-$dir/debian}
-trap 'umount "$debian/proc" 2> /dev/null; rm -rf --one-file-system "$dir"' EXIT
+trap 'umount "$debian/dev/pts" "$debian/proc" 2> /dev/null; rm -rf --one-file-system "$dir"' EXIT
 failed=0
 wrong() { echo "$*"; failed=1; }
 in_root() { chroot "$debian" env -i PATH=/usr/local/bin:/usr/sbin:/usr/bin:/sbin:/bin HOME=/root DEBIAN_FRONTEND=noninteractive LC_ALL=C.UTF-8 "$@" < /dev/null; }
@@ -23,8 +23,8 @@ if [ ! -d "$debian/etc" ]; then
     debootstrap --variant=minbase --include=ca-certificates "$suite" "$debian" \
         "${DEBIAN_MIRROR:-http://deb.debian.org/debian}" > "$dir/log" 2>&1 || { tail -n 20 "$dir/log"; exit 1; }
 fi
-# rustc and PostgreSQL look into /proc.
-mount -t proc proc "$debian/proc" || exit 1
+# rustc and PostgreSQL look into /proc, and tests want a terminal.
+mount -t proc proc "$debian/proc" && mount -t devpts devpts "$debian/dev/pts" || exit 1
 in_root sh -c 'command -v rt' && { echo "rt is there"; exit 1; }
 # Nobody answers apt's question there.
 echo 'APT::Get::Assume-Yes "true"; APT::Install-Recommends "false";' > "$debian/etc/apt/apt.conf.d/90yes"
