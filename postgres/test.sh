@@ -11,7 +11,7 @@ test_server "$@"
 
 is "version: that of the header" "$(sed -n 's/^#define WKT_VERSION "\(.*\)"/\1/p' "$wkt/wkt.h")" "$(ask postgres "create extension wkt" "select wkt_version()" "drop extension wkt")"
 # No other user can reach the server, in which whoever connects is superuser.
-owner=$(ps -o user= -p "$(head -n 1 "$dir/base/data/postmaster.pid")" | tr -d ' ')
+owner=$(stat -c %U "/proc/$(head -n 1 "$dir/base/data/postmaster.pid")")
 is "private: mode and owner of the folder" "700 $owner" "$(stat -c '%a %U' "$dir")"
 if [ "$(id -u)" = 0 ]; then
     said=$(setpriv --reuid nobody --regid nogroup --clear-groups "$from/psql" -X -At -c "select 1" 2>&1) && wrong "private: nobody is let in: $said"

@@ -8,6 +8,7 @@
 # many for a build with checks.
 set -u
 cd "$(dirname "$0")/.." || exit 1
+command -v rt > /dev/null || { echo "quick.sh: the prover, rt, isn't here; ./check runs the tests that need none"; exit 3; }
 jobs=${JOBS:-2}
 dir=$(mktemp -d)
 trap 'rm -rf "$dir"' EXIT

@@ -304,8 +304,10 @@ class Processes(Folder):
         with open("/dev/full", "w", encoding="utf-8") as full:
             for words in ("nothing.csv --column geom", "good.csv", "good.csv --column geom"):
                 run = [*COMMAND, *words.split(" "), "--out", "out.csv"]
-                self.assertEqual(subprocess.run(run, stderr=full, check=False).returncode, 2, words)
-                self.assertEqual(self.has("out.csv"), b"old")
+                for unbuffered in ("", "1"):
+                    env = {**os.environ, "PYTHONUNBUFFERED": unbuffered}
+                    self.assertEqual(subprocess.run(run, stderr=full, check=False, env=env).returncode, 2, words)
+                    self.assertEqual(self.has("out.csv"), b"old")
 
     def test_killed(self):
         """A run that is ended leaves what was there; one that can clear up leaves nothing else."""
@@ -326,7 +328,10 @@ class Processes(Folder):
 
     def test_terminal(self):
         """Progress comes on a terminal, and is gone at the end."""
-        parent, child = os.openpty()
+        try:
+            parent, child = os.openpty()
+        except OSError:
+            self.skipTest("no terminals")
         self.put("long.csv", "geom\n" + "POINT(1 2)\n" * 1000)
         for more in ([], ["-q"]):
             run = [*COMMAND, "long.csv", "--column", "geom", "--out", "out.csv", *more]

@@ -1,7 +1,7 @@
 #!/usr/bin/env bash
 # wheel.sh WKT: builds the wheel of the library in the folder WKT (wkt.h, libwkt.so), with the fast module, and the one
-# without it, over ctypes alone, and runs the same tests over both, and over the first where NumPy isn't. (Of the sources, over ctypes
-# where NumPy isn't, tests/gate/c_callers.sh runs them.) Then the fast module under sanitizers and with assertions, libraries that
+# without it, over ctypes alone, and runs the same tests over the first, and over both where NumPy isn't. (Of the sources, over
+# ctypes with NumPy, ./check python runs them.) Then the fast module under sanitizers and with assertions, libraries that
 # don't suit, the stored cases of the command by `python -m wkt`, the example, the pages, mypy over the stubs, and how it is built
 # (build.sh). WKT is capi/out where none is named. It needs Python 3.11 or later with its headers, one with assertions, pip, NumPy,
 # pandas, Shapely, tqdm, matplotlib and mypy (tests/needs.sh): what is lacking fails.
@@ -38,7 +38,7 @@ for fast in 1 0; do
     "$python" -m pip install -q --root-user-action=ignore --no-index --no-deps --target "$work/installed$fast" "$wheel"
     [ $fast = 0 ] || "$python" -c "import sys; sys.path.insert(0, '$work/installed1'); import wkt._fast"
     [ $fast = 1 ] || ! ls "$work/installed0/wkt/"*_fast*.so 2> /dev/null || { echo "a wheel without the fast module has it"; exit 1; }
-    [ $fast = 1 ] || rm "$work/peer/arrow_peer.so"
+    [ $fast = 1 ] || { rm "$work/peer/arrow_peer.so" && echo 'raise ImportError("no NumPy")' > "$work/installed0/numpy.py"; }
     each "$(basename "$wheel")" "$work/installed$fast"
 done
 # The fast module where NumPy, and so pandas, isn't.

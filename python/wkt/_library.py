@@ -45,8 +45,8 @@ def _load() -> ctypes.CDLL:
             return _opened(os.path.join(named, more) if more else named, variable + " names")
     here = os.path.dirname(os.path.abspath(__file__))
     beside = os.path.join(here, "libwkt.so")
-    built = os.path.join(here, os.pardir, os.pardir, "capi", "out", "libwkt.so")
-    for path in (beside, built):
+    clone = os.path.join(here, os.pardir, os.pardir)
+    for path in (beside, *(os.path.join(clone, made, "out", "libwkt.so") for made in ("capi", "dist"))):
         if os.path.exists(path):
             return _opened(path, "the package has")
     for name in ("libwkt.so.0", "libwkt.so"):

@@ -283,4 +283,11 @@ def main(words: Sequence[str]) -> int:
 
 
 if __name__ == "__main__":
-    sys.exit(main(sys.argv[1:]))
+    try:
+        sys.exit(main(sys.argv[1:]))
+    finally:
+        # Python flushes it at its end, and has the status 120 where that fails.
+        try:
+            print(end="", file=sys.stderr, flush=True)
+        except OSError:
+            sys.stderr = None  # type: ignore[assignment]

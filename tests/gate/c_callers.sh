@@ -1,9 +1,9 @@
 #!/usr/bin/env bash
-# Builds the library for C by tests/gate/c_library.sh, which says what that needs, and runs its callers in C, C++ and
-# Python, and compares the keys of tests/data/keys.tsv. With WKT_C_BUILT=1 the library in capi/out is taken as it is.
+# Builds the library for C by tests/gate/c_library.sh, which says what that needs, and runs its callers in C and C++. With
+# WKT_C_BUILT=1 the library in capi/out is taken as it is. (./check c compares the keys of tests/data/keys.tsv.)
 #
-# What a machine lacks fails (tests/needs.sh installs it), unless SKIP names it: SKIP=python,valgrind tests/gate/c_callers.sh.
-# Names: valgrind, c++, python. The last line says what was skipped.
+# What a machine lacks fails (tests/needs.sh installs it), unless SKIP names it: SKIP=c++,valgrind tests/gate/c_callers.sh.
+# The last line says what was skipped.
 set -u
 cd "$(dirname "$0")/../.." || exit 1
 fail() { echo "$*"; exit 1; }
@@ -13,13 +13,12 @@ needs() { skips "$1" || command -v "$2" > /dev/null || fail "no $2: tests/needs.
 
 skip=${SKIP:-}
 for name in ${skip//,/ }; do
-    case $name in valgrind | c++ | python) ;; *) echo "SKIP: $name is skipped by other scripts, or no name" ;; esac
+    case $name in valgrind | c++) ;; *) echo "SKIP: $name is skipped by other scripts, or no name" ;; esac
 done
 cc=${CC:-$(command -v gcc || command -v clang || command -v cc)}
 [ -n "$cc" ] || fail "no C compiler: tests/needs.sh installs one"
 needs valgrind valgrind
 needs c++ g++
-needs python python3
 
 dir=$(mktemp -d)
 trap 'rm -rf "$dir"' EXIT
@@ -73,11 +72,6 @@ for flags in "-O2" "-O1 -g -fsanitize=thread"; do
     echo "nesting and threads ($flags): $(cat "$dir/said")"
 done
 
-# The keys that stores keep.
-"$cc" -O2 -Wall -Wextra -Werror -I"$out" -o "$dir/keys" tests/gate/keys.c "$out/libwkt.a" || fail "keys: not compiled"
-"$dir/keys" < tests/data/keys.tsv > "$dir/said" || { cat "$dir/said"; fail "keys: a release must not change one"; }
-cat "$dir/said"
-
 # The examples, and the output of wktline.
 for example in show lines stream; do
     "$cc" -O2 -I"$out" -o "$dir/$example" capi/examples/$example.c "$out/libwkt.a" || fail "$example: not compiled"
@@ -106,11 +100,4 @@ END
 cmp "$dir/said" "$dir/long" || fail "stream: another answer to a long line"
 echo "a line of 32 MB in pieces: answered in time"
 
-# The package of the sources, over ctypes and where NumPy isn't; with it, and as wheels, python/tests/wheel.sh runs these tests.
-if ! skips python; then
-    mkdir "$dir/lean" && echo 'raise ImportError("no NumPy")' > "$dir/lean/numpy.py"
-    WKT_LIB=$out/libwkt.so PYTHONDONTWRITEBYTECODE=1 PYTHONPATH=python:$dir/lean python3 -W error -m unittest discover -q -s python/tests > "$dir/said" 2>&1 ||
-        { cat "$dir/said"; fail "Python: the tests fail"; }
-    echo "$(python3 --version) without NumPy: $(grep '^Ran' "$dir/said"), $(tail -n 1 "$dir/said")"
-fi
 echo "callers of the library for C: all passed; skipped: ${SKIP:-nothing}"

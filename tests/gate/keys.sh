@@ -1,6 +1,6 @@
 #!/usr/bin/env bash
 # The keys that stores keep, by both programs: each text of tests/data/keys.tsv is answered with its key at 18 places. (By
-# the library for C tests/gate/c_callers.sh compares them, at each number of places.)
+# the library for C ./check c compares them, at each number of places.)
 #
 # Build the programs first (rt run in crates/wktline and in crates/wktstream).
 set -u
