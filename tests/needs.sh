@@ -8,6 +8,7 @@ there() {
     case $1 in
         c) command -v gcc && command -v ar && command -v make && command -v pkg-config ;;
         c++) command -v g++ ;;
+        cmake) command -v cmake ;;
         valgrind) command -v valgrind ;;
         rust) command -v cargo && [ -x /usr/bin/cargo ] && ls -d /usr/share/cargo/registry/{geo-types,cc}-* ;;
         python) command -v python3 ;;
@@ -35,6 +36,7 @@ headers() { /usr/bin/python3 -c 'import sysconfig; print(sysconfig.get_paths()["
 packages=(
     "c gcc libc6-dev binutils make pkg-config"
     "c++ g++"
+    "cmake cmake"
     "valgrind valgrind"
     "rust cargo librust-geo-types-dev librust-cc-dev"
     "python python3"
