@@ -21,7 +21,7 @@ has make || stop "there is no make: install it"
 export CC
 proved=$here/../crates/wkt_c/out/libwkt_c.a
 if [ -z "${WKT_C_LIB:-}" ]; then
-    case $($CC -dumpmachine) in x86_64*) ;; *) proved=none ;; esac
+    case $(WKT_C_LIB=dist "$here/../dist/objects.sh" 2> /dev/null) in x86_64-*) ;; *) proved=none ;; esac
     if [ -e "$proved" ]; then WKT_C_LIB=$proved; else WKT_C_LIB=dist; fi
 else
     case $WKT_C_LIB in dist | portable) ;; *) WKT_C_LIB=$(realpath "$WKT_C_LIB") ;; esac

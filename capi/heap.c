@@ -31,7 +31,11 @@ void rattle_dealloc(void *at, size_t size, size_t align) {
     free(at);
 }
 
-PUBLIC const char *wkt_version(void) { return WKT_VERSION; }
+/* Between releases dist/Makefile says the commit too. */
+#ifndef WKT_BUILD
+#define WKT_BUILD WKT_VERSION
+#endif
+PUBLIC const char *wkt_version(void) { return WKT_BUILD; }
 
 PUBLIC const char *wkt_message(wkt_status status) {
     static const char *const messages[] = WKT_MESSAGES;

@@ -30,7 +30,15 @@ if [ "$*" = "${1:-} wkt_module.c" ]; then
 fi
 machine=${WKT_PROCESSOR:+$WKT_PROCESSOR-linux}
 if [ -z "$machine" ]; then
-    machine=$(${CC:-cc} -dumpmachine 2> /dev/null) || stop "there is no C compiler ${CC:-cc}: install gcc, or name one by CC"
+    compiler=${CC:-cc}
+    # CC may have words behind its name.
+    command -v "${compiler%% *}" > /dev/null || stop "there is no C compiler $compiler: install gcc, or name one by CC"
+    macros=$(echo | $compiler -dM -E -x c - 2> /dev/null && echo && $compiler -dumpmachine 2> /dev/null) || macros=
+    case $macros in *"__GNUC__ "*) ;; *) stop "the C compiler $compiler isn't supported: name gcc or clang by CC" ;; esac
+    machine=${macros##*
+}
+    # One such as `gcc -m32` names the processor of its 64 bits.
+    case $macros in *"__SIZEOF_POINTER__ 4"*) machine=${machine%%-*}_32-${machine#*-} ;; esac
 fi
 processor=${machine%%-*}
 fits() { [ -e "$here/$processor/PROVENANCE" ] && [ "$machine" != "${machine#*linux}" ]; }

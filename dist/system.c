@@ -17,19 +17,32 @@ static char **words;
 typedef int program(int argc, char **argv, char **environment);
 typedef void step(void);
 int start(program *main, int argc, char **argv, step *init, step *fini, step *end, void *stack);
-#if defined __GLIBC__ && defined __x86_64__
+#if defined __GLIBC__ && defined __x86_64__ && !defined WKT_STATIC
 __asm__(".symver start, __libc_start_main@GLIBC_2.2.5");
-#elif defined __GLIBC__ && defined __aarch64__
+#elif defined __GLIBC__ && defined __aarch64__ && !defined WKT_STATIC
 __asm__(".symver start, __libc_start_main@GLIBC_2.17");
 #else
 #define start __real___libc_start_main
 int start(program *main, int argc, char **argv, step *init, step *fini, step *end, void *stack);
 #endif
+#ifdef WKT_BUILD
+/* A build between releases says which it is: the proved program knows its number alone. What can't be written it says itself. */
+static program *proved;
+static int begun(int argc, char **argv, char **environment) {
+    static const char said[] = "wkt " WKT_BUILD "\n";
+    int asked = argc > 1 && (!strcmp(argv[1], "--version") || !strcmp(argv[1], "-V"));
+    if (asked && write(1, said, sizeof said - 1) == (ssize_t)sizeof said - 1) return 0;
+    return proved(argc, argv, environment);
+}
+#define BEGUN(main) (proved = (main), begun)
+#else
+#define BEGUN(main) (main)
+#endif
 int __wrap___libc_start_main(program *main, int argc, char **argv, step *init, step *fini, step *end, void *stack);
 int __wrap___libc_start_main(program *main, int argc, char **argv, step *init, step *fini, step *end, void *stack) {
     count = (size_t)argc;
     words = argv;
-    return start(main, argc, argv, init, fini, end, stack);
+    return start(BEGUN(main), argc, argv, init, fini, end, stack);
 }
 
 /* Argument i, put at the start of buf: its length; -1 where there is none, and -2 where it doesn't fit. */

@@ -53,7 +53,7 @@
 extern "C" {
 #endif
 
-#define WKT_VERSION "1.0.0"
+#define WKT_VERSION "1.0.0-dev"
 /* The version of the linked library; that of this header is WKT_VERSION. */
 const char *wkt_version(void);
 

@@ -1,5 +1,6 @@
 #!/usr/bin/env python3
-"""Makes what the package has beside its sources: build.py MODULE PACKAGE. pack.sh calls it.
+"""Makes what the package has beside its sources: build.py MODULE PACKAGE. pack.sh calls it, and in a clone
+npm install of this folder.
 
 PACKAGE is a folder with src/. It gets wkt.wasm; src/packed.js, the module for `wkt-proved/inline`; and, in cjs/, both
 of them and their types for `require`. The same files and the same zlib give the same bytes.

@@ -6,7 +6,8 @@
 # architecture where none is named (amd64, arm64). It needs debhelper, dh-python, libpython3-dev, libsqlite3-dev and
 # postgresql-server-dev-15, and for another architecture crossbuild-essential-ARCHITECTURE and libpython3-dev:ARCHITECTURE:
 # those packages are made without their tests (dist/cross.sh) and without PostgreSQL's, whose headers are of one processor,
-# and nothing looks whether what they need is installed. Where lintian is there, it has to be content.
+# and nothing looks whether what they need is installed. Where lintian is there, it has to be content. An architecture whose
+# packages can't be made leaves those that are there, and the status is 1 at the end.
 set -eu
 unset WKT_C_LIB WKT_LIB_DIR
 unset CDPATH
@@ -17,19 +18,27 @@ own=$(dpkg --print-architecture)
 [ $# != 0 ] || set -- "$own"
 work=$(mktemp -d)
 trap 'rm -rf "$work"' EXIT
-rm -f "$out"/*.deb
+failed=()
 for architecture; do
     mkdir "$work/$architecture"
     tar -C "$work/$architecture" -xzf "$out"/wkt-proved-*.tar.gz
     words=(-b -us -uc)
     [ "$architecture" = "$own" ] || words+=(-d "-a$architecture" -Pcross)
-    (
+    if (
         cd "$work/$architecture"/wkt-proved-*/
         [ "$architecture" = "$own" ] || export DEB_BUILD_OPTIONS=nocheck
         dpkg-buildpackage "${words[@]}" > "$work/log" 2>&1
-    ) || { tail -n 40 "$work/log"; exit 1; }
-    cp "$work/$architecture"/*.deb "$out"
+    ); then
+        rm -f "$out"/*_"$architecture".deb
+        cp "$work/$architecture"/*.deb "$out"
+    else
+        tail -n 40 "$work/log"
+        failed+=("$architecture: dpkg-buildpackage")
+    fi
 done
-! command -v lintian > /dev/null || lintian --allow-root --fail-on error,warning "$out"/*.deb
-"$here/sbom.py" "$out"
-(cd "$out" && ls -l ./*.deb)
+if compgen -G "$out/*.deb" > /dev/null; then
+    ! command -v lintian > /dev/null || lintian --allow-root --fail-on error,warning "$out"/*.deb || failed+=(lintian)
+    "$here/sbom.py" "$out"
+    (cd "$out" && ls -l ./*.deb)
+fi
+[ "${#failed[@]}" = 0 ] || { printf 'debs.sh: FAILED: %s\n' "${failed[@]}"; exit 1; }

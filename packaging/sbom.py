@@ -17,7 +17,7 @@ import uuid
 
 TOP = os.path.dirname(os.path.dirname(os.path.abspath(__file__)))
 OWN = "MIT OR Apache-2.0"
-KINDS = (".tar.gz", ".whl", ".tgz", ".deb")
+KINDS = (".tar.gz", ".whl", ".tgz", ".crate", ".deb")
 
 
 def package(name, version, licence, where="NOASSERTION", **more):
@@ -40,9 +40,9 @@ def sum_of(path):
         return hashlib.sha256(file.read()).hexdigest()
 
 
-def given_out(folder, version):
-    """The archives, wheels and packages of this version in a folder, with their sums."""
-    names = [it for it in sorted(os.listdir(folder)) if it.endswith(KINDS) and version in it]
+def given_out(folder):
+    """The archives, wheels and packages in a folder, with their sums."""
+    names = [it for it in sorted(os.listdir(folder)) if it.endswith(KINDS)]
     return [(name, sum_of(os.path.join(folder, name))) for name in names]
 
 
@@ -90,7 +90,7 @@ def main(folder):
     version = whole[len("wkt-proved-") :]
     with tarfile.open(archives[0]) as archive:
         seconds = archive.next().mtime
-    files = given_out(folder, version)
+    files = given_out(folder)
     listed = whole + ".spdx.json"
     with open(os.path.join(folder, listed), "w", encoding="utf-8") as made:
         json.dump(document(files, version, seconds), made, indent=1)

@@ -2,9 +2,9 @@
 # Installs what release.sh and debs.sh have made, each where nothing of it is, and calls each once.
 #
 # test.sh [OUT]: what is in OUT (packaging/out). Parts, all without SKIP=NAME,NAME: source (make install below an empty
-# folder), bytes (the release again, under another umask), wheel (a fresh venv), javascript (an empty folder), faces (the
-# extensions and the crate, of the unpacked release), debs (an empty Debian by debootstrap, as root, with the network), vendor
-# (an empty repository, by rt try). The last line says what was skipped.
+# folder), bytes (the release again, under another umask), dated (a clone with a date in CHANGELOG.md), wheel (a fresh venv),
+# javascript (an empty folder), faces (the extensions and the crate, of the unpacked release), debs (an empty Debian by
+# debootstrap, as root, with the network), vendor (an empty repository, by rt try). The last line says what was skipped.
 set -u
 unset WKT_C_LIB WKT_LIB_DIR # which would put another library in the place of the release's
 unset CDPATH
@@ -17,12 +17,16 @@ fail() { echo "FAILED $*"; exit 1; }
 skips() { case ",${SKIP:-}," in *",$1,"*) true ;; *) false ;; esac; }
 python=${PYTHON:-/usr/bin/python3}
 text='point ( 1 2.50 )' answer='POINT(1 2.5)'
+version=$(cd "$out" && echo wkt-proved-*.tar.gz) && version=${version#wkt-proved-} && version=${version%.tar.gz}
 
 # calls PREFIX-COMMAND..: the three programs answer there
 calls() {
     [ "$(echo "$text" | "$@" wkt canon)" = "$answer" ] || fail "$*: wkt"
     [ "$(echo "$text" | "$@" wktline)" = "$answer" ] || fail "$*: wktline"
     [ "$(echo "$text" | "$@" wktstream)" = "$answer" ] || fail "$*: wktstream"
+    [ "$(echo "$text" | "$@" sh -c 'cat > /tmp/wkt.$$ && wkt-parallel canon -- /tmp/wkt.$$; rm /tmp/wkt.$$')" = "$answer" ] || fail "$*: wkt-parallel"
+    # Each says which release it is.
+    [ "$("$@" wkt --version)" = "wkt $version" ] || fail "$*: wkt --version"
 }
 
 source_release() {
@@ -37,7 +41,7 @@ source_release() {
     cc "$root/capi/examples/show.c" "${flags[@]}" -o "$dir/show" || fail "show.c"
     LD_LIBRARY_PATH=$dir/root/usr/lib "$dir/show" | grep -q . || fail "show"
     unset PKG_CONFIG_PATH PKG_CONFIG_SYSROOT_DIR
-    for page in "$dir"/root/usr/share/man/man1/wkt.1 "$dir"/root/usr/share/man/man1/wktline.1 "$dir"/root/usr/share/man/man3/wkt.3; do
+    for page in "$dir"/root/usr/share/man/man1/{wkt,wktline,wkt-parallel}.1 "$dir"/root/usr/share/man/man3/wkt.3; do
         [ -z "$(groff -man -Tutf8 -ww "$page" 2>&1 > "$dir/page")" ] || fail "groff: $page"
     done
     echo "source release: installed, each called"
@@ -46,11 +50,12 @@ source_release() {
 bytes() {
     local file
     (umask 077 && "$here/release.sh" "$dir/again" > "$dir/log" 2>&1) || { tail -n 20 "$dir/log"; fail "release.sh under umask 077"; }
+    [ "$(cd "$dir/again" && echo ./*.{tar.gz,whl,tgz})" = "$(cd "$out" && echo ./*.{tar.gz,whl,tgz})" ] || fail "other files the second time"
     for file in "$dir"/again/*.{tar.gz,whl,tgz}; do
         cmp "$file" "$out/$(basename "$file")" || fail "another umask gives other bytes"
     done
-    # Where debs.sh has run, the lists here have its packages too.
-    for file in "$out"/*.deb; do
+    # Where debs.sh and rust/package.sh have run, the lists here have their packages too.
+    for file in "$out"/*.{deb,crate}; do
         [ ! -e "$file" ] || cp "$file" "$dir/again"
     done
     "$here/sbom.py" "$dir/again"
@@ -58,12 +63,33 @@ bytes() {
         cmp "$file" "$out/$(basename "$file")" || fail "other lists"
     done
     # Its files are readable, and of one day: that of its newest change.
-    [ -z "$(tar -tvzf "$dir"/again/*.tar.gz | awk '{ print $4 }' | sort -u | sed 1d)" ] || fail "files of two days"
-    [ -z "$(tar -tvzf "$dir"/again/*.tar.gz | grep -v '^[-ld]r[w-][x-]r-[x-]r-[x-]')" ] || fail "a file that others can't read"
+    [ -z "$(tar -tvzf "$dir"/again/wkt-proved-*.tar.gz | awk '{ print $4 }' | sort -u | sed 1d)" ] || fail "files of two days"
+    [ -z "$(tar -tvzf "$dir"/again/wkt-proved-*.tar.gz | grep -v '^[-ld]r[w-][x-]r-[x-]r-[x-]')" ] || fail "a file that others can't read"
     local said
-    said=$(tar -xOzf "$dir"/again/*.tar.gz --wildcards '*/debian/changelog' | sed -n 's/^ -- .*>  //p')
-    [ "$(date -u -d "$said" +%F)" = "$(TZ=UTC0 tar -tvzf "$dir"/again/*.tar.gz | awk 'NR == 1 { print $4 }')" ] || fail "files of another day than the changelog's"
+    said=$(tar -xOzf "$dir"/again/wkt-proved-*.tar.gz --wildcards '*/debian/changelog' | sed -n 's/^ -- .*>  //p')
+    [ "$(date -u -d "$said" +%F)" = "$(TZ=UTC0 tar -tvzf "$dir"/again/wkt-proved-*.tar.gz | awk 'NR == 1 { print $4 }')" ] || fail "files of another day than the changelog's"
     echo "release: the same bytes under umask 077, of the changelog's date"
+}
+
+# dated: a release needs addresses, and then each file says them, and the version without a commit
+dated() {
+    git clone -q --depth 1 "file://$root" "$dir/dated"
+    local number name file said=$dir/dated/packaging/addresses
+    number=$("$dir/dated/dist/version.sh" | sed 's/-.*//')
+    sed -i "s/^\(## \[$number\] - \).*/\12031-02-03/" "$dir/dated/CHANGELOG.md"
+    sed -i 's/^clone: .*/clone: ADDRESS/' "$said"
+    "$dir/dated/tests/gate/version.py" --write "$number" > "$dir/log" || { cat "$dir/log"; fail "version.py --write $number"; }
+    ! "$dir/dated/packaging/release.sh" "$dir/none" > "$dir/log" 2>&1 && grep -qx 'packaging/addresses: clone: ADDRESS' "$dir/log" || { cat "$dir/log"; fail "a release with a placeholder"; }
+    for name in clone home maintainer security; do sed -i "s,^$name: .*,$name: https://here.test/$name," "$said"; done
+    "$dir/dated/tests/gate/version.py" --write "$number" > "$dir/log" || { cat "$dir/log"; fail "version.py --write with addresses"; }
+    for name in README.md:clone rust/Cargo.toml:home packaging/release/debian/control:maintainer postgres/META.json:maintainer SECURITY.md:security; do
+        file=${name%:*}
+        grep -qF "https://here.test/${name#*:}" "$dir/dated/$file" || fail "$file doesn't say packaging/addresses"
+    done
+    [ "$("$dir/dated/dist/version.sh") $("$dir/dated/dist/version.sh" python) $("$dir/dated/dist/version.sh" debian)" = "$number $number $number" ] || fail "a release says a commit"
+    sed -i "s/\(WKT_VERSION \"$number\)/\1-dev/" "$dir/dated/include/wkt.h"
+    ! "$dir/dated/tests/gate/version.py" > /dev/null || fail "-dev beside a date isn't seen"
+    echo "a release: refused with placeholders, which are filled in from one file"
 }
 
 # faces: what else the release has is built where nothing else of the repository is, in a folder with a space
@@ -86,9 +112,10 @@ faces() {
 wheel() {
     "$python" -m venv "$dir/venv"
     local start=$SECONDS
-    "$dir/venv/bin/pip" install -q --no-index "$out"/wkt_proved-*.whl || fail "pip install"
+    "$dir/venv/bin/pip" install -q --no-index --pre --only-binary :all: --find-links "$out" wkt-proved || fail "pip install"
     local took=$((SECONDS - start))
-    (cd / && "$dir/venv/bin/python" -c "import wkt; assert wkt.canonical('$text') == '$answer', wkt.canonical('$text')") || fail "import wkt"
+    (cd / && "$dir/venv/bin/python" -c "import wkt, wkt._fast; assert wkt.canonical('$text') == '$answer', wkt.canonical('$text')
+assert wkt.__version__.replace('.dev0+g', '-dev+') == '$version', wkt.__version__") || fail "import wkt"
     [ "$(echo "$text" | "$dir/venv/bin/wkt" canon)" = "$answer" ] || fail "the wheel's program wkt"
     echo "wheel: installed in $took s, called"
 }
@@ -99,6 +126,7 @@ javascript() {
     tar -C "$dir/app/node_modules/wkt-proved" --strip-components=1 -xzf "$out"/wkt-proved-*.tgz
     echo "import { load } from 'wkt-proved'; console.log((await load()).canonical('$text'));" > "$dir/app/app.mjs"
     [ "$(cd "$dir/app" && node app.mjs)" = "$answer" ] || fail "the package for JavaScript"
+    [ "$(cd "$dir/app" && node -p "require('wkt-proved/package.json').version")" = "$version" ] || fail "the version of the package for JavaScript"
     (cd "$dir/app/node_modules/wkt-proved" && grep ' wkt.wasm$' PROVENANCE | sha256sum --quiet -c) || fail "PROVENANCE of the package for JavaScript"
     echo "package for JavaScript: called by its name; its module has the sum of PROVENANCE"
 }
@@ -157,7 +185,7 @@ vendor() {
     echo "vendor: brought, called by rt try, brought again"
 }
 
-for part in source bytes wheel javascript faces debs vendor; do
+for part in source bytes dated wheel javascript faces debs vendor; do
     if ! skips "$part"; then
         case $part in source) source_release ;; *) "$part" ;; esac
     fi

@@ -40,13 +40,23 @@ if not os.path.exists(top):
     top = os.path.join(here, os.pardir)
 NAME = "wkt_proved"
 SUMMARY = "Well-known text by a proved library: canonical texts, comparison, columns, arrays"
-with open(os.path.join(here, "wkt", "_version.py"), encoding="utf-8") as file:
-    VERSION = re.search('"(.*)"', file.read()).group(1)
+
+
+def _bytes(path):
+    """A file; where it says the version, between releases, with the commit that this is, if that is known."""
+    script = os.path.join(top, "dist", "version.sh")
+    if os.path.basename(path) in ("_version.py", "wkt.h") and os.path.exists(script):
+        return subprocess.run([script, "in", path], check=True, stdout=subprocess.PIPE).stdout
+    with open(path, "rb") as file:
+        return file.read()
+
+
+VERSION = re.search('"(.*)"', _bytes(os.path.join(here, "wkt", "_version.py")).decode()).group(1)
 INFO = "%s-%s.dist-info/" % (NAME, VERSION)
 # What a source package has of the rest of a clone.
-NATIVE = ("include/wkt.h", "capi/build.sh", "capi/*.c", "capi/*.h", "dist/Makefile", "dist/NOTICE", "dist/objects.sh",
-          "dist/system.c", "dist/*/*.xz", "dist/*/PROVENANCE", "dist/c/*.[ch]", "dist/c/make.sh", "dist/wasm/*.wasm",
-          "LICENSE-*")  # fmt: skip
+NATIVE = ("include/wkt.h", "capi/build.sh", "capi/*.c", "capi/*.h", "dist/Makefile", "dist/NOTICE", "dist/*.cmake",
+          "dist/objects.sh", "dist/version.sh", "dist/system.c", "dist/*/*.xz", "dist/*/PROVENANCE", "dist/c/*.[ch]",
+          "dist/c/make.sh", "dist/wasm/*.wasm", "LICENSE-*")  # fmt: skip
 OWN = ("pyproject.toml", "backend.py", "README.md", "DASK.md", "wkt/*.py", "wkt/*.pyi", "wkt/py.typed",
        "src/*.[ch]", "examples/*.py", "tests/*.py", "tests/*.[ch]", "tests/*.sh")  # fmt: skip
 
@@ -150,17 +160,16 @@ def _built(folder):
     return built, library
 
 
-def _bytes(path):
-    with open(path, "rb") as file:
-        return file.read()
-
-
-def _platform(built):
-    """The wheel's platform: manylinux of the newest glibc whose names these files ask for, from 2.17 on.
+def _platform(built, library):
+    """The wheel's platform: manylinux of the newest glibc whose names these files ask for, from 2.17 on, and the
+    library's processor, for which CC may compile here.
 
     So a wheel that was built here runs wherever such a glibc is. WKT_PLATFORM names another.
     """
     platform = sysconfig.get_platform().replace("-", "_").replace(".", "_")
+    processor = _made_of(library).split("-")[0]
+    if platform.startswith("linux_") and processor in ("x86_64", "aarch64"):
+        platform = "linux_" + processor
     asked = set()
     for path in built.values():
         asked.update(int(it) for it in re.findall(rb"\0GLIBC_2\.(\d+)(?:\.\d+)?(?=\0)", _bytes(path)))
@@ -221,7 +230,7 @@ def _wheel(folder, held, built, library):
         python = "py3-none-"
     elif "abi3" in modules[0]:
         python = "cp311-abi3-"
-    tag = python + _platform(built)
+    tag = python + _platform(built, library)
     # The command is no script of Python: pip would write a first line that no folder with a space in its name can have.
     command = [_bytes(path) for name, path in built.items() if name == "_command"]
     held = held + [

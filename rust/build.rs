@@ -16,11 +16,16 @@ fn main() {
     let native = Path::new(env!("CARGO_MANIFEST_DIR")).join("native");
     match env::var("WKT_LIB_DIR") {
         Ok(folder) if Path::new(&folder).join("libwkt.a").exists() => link_static(&folder),
-        Ok(folder) => panic!("WKT_LIB_DIR: there is no libwkt.a in {folder}: capi/build.sh in a clone of wkt makes it"),
+        Ok(folder) => stop(&format!("WKT_LIB_DIR: there is no libwkt.a in {folder}: capi/build.sh in a clone of wkt makes it")),
         Err(_) if native.exists() => compile(&native),
         Err(_) if Path::new(&clone).join("capi/build.sh").exists() => link_static(&built(&clone)),
         Err(_) => link_as_pkg_config_says(),
     }
+}
+
+fn stop(why: &str) -> ! {
+    eprintln!("{why}");
+    std::process::exit(1)
 }
 
 /// Compiles portable C and links it.
@@ -58,7 +63,14 @@ fn built(clone: &str) -> String {
     if of("HOST") != of("TARGET") && of("CC").is_empty() {
         command.env("CC", cc::Build::new().get_compiler().path());
     }
-    for part in ["capi", "dist", "include", "crates/wkt_c/out/libwkt_c.a"] {
+    // Between releases the library says the commit.
+    for part in [
+        "capi",
+        "dist",
+        "include",
+        "crates/wkt_c/out/libwkt_c.a",
+        ".git/logs/HEAD",
+    ] {
         let path = format!("{clone}/{part}");
         if Path::new(&path).exists() {
             println!("cargo:rerun-if-changed={path}");
@@ -68,7 +80,7 @@ fn built(clone: &str) -> String {
     println!("cargo:rerun-if-env-changed=WKT_C_LIB");
     match command.status() {
         Ok(status) if status.success() => out,
-        _ => panic!("capi/build.sh fails, which makes the library of this crate"),
+        _ => stop("capi/build.sh fails, which makes the library of this crate"),
     }
 }
 
@@ -83,8 +95,9 @@ fn link_as_pkg_config_says() {
     let program = env::var("PKG_CONFIG").unwrap_or_else(|_| "pkg-config".to_string());
     let said = match Command::new(program).args(["--libs", "wkt"]).output() {
         Ok(said) if said.status.success() => String::from_utf8_lossy(&said.stdout).into_owned(),
-        _ => panic!(
-            "there is no libwkt: capi/build.sh in a clone of wkt makes it, and WKT_LIB_DIR names its folder"
+        _ => stop(
+            "there is no libwkt: capi/build.sh in a clone of wkt makes it, and WKT_LIB_DIR names its folder; \
+             rust/package.sh FOLDER makes a package that carries it, which `cargo package` doesn't",
         ),
     };
     for word in words(&said) {

@@ -14,6 +14,7 @@ there() {
         compile) compiler && command -v make && { command -v xz || command -v python3; } ;;
         c) command -v gcc && command -v ar && command -v make && command -v pkg-config ;;
         c++) command -v g++ ;;
+        cmake) command -v cmake ;;
         valgrind) command -v valgrind ;;
         rust) command -v cargo && [ -x /usr/bin/cargo ] && ls -d /usr/share/cargo/registry/{geo-types,cc}-* ;;
         python) command -v python3 ;;
@@ -52,6 +53,7 @@ packages=(
     "compile gcc libc6-dev make xz-utils"
     "c gcc libc6-dev binutils make pkg-config"
     "c++ g++"
+    "cmake cmake"
     "valgrind valgrind"
     "rust cargo librust-geo-types-dev librust-cc-dev"
     "python python3"

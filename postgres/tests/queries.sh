@@ -46,7 +46,7 @@ for asked in "at = 'point(3.0 4)'|WHERE ((at OPERATOR(public.=) 'POINT(3 4)'" "w
 done
 is "queries: answered from there" "POINT(3 4)" "$(ask page "select at from elsewhere where at = 'point(3.0 4)'")"
 # META.json names what is there, in the version of the library.
-meta="'$(sed "s/'/''/g" "$here/META.json")'::jsonb"
+meta="'$("$here/../dist/version.sh" in "$here/META.json" | sed "s/'/''/g")'::jsonb"
 is "META.json: versions" "$(sed -n 's/^#define WKT_VERSION "\(.*\)"/\1/p' "$wkt/wkt.h")" \
     "$(ask page "select distinct v from (select $meta ->> 'version' union all select value ->> 'version' from jsonb_each($meta -> 'provides')) m(v)")"
 is "META.json: files" "$(cd "$here" && printf '%s\n' wkt*--*.sql | sort)" "$(ask page "select value ->> 'file' from jsonb_each($meta -> 'provides')" | sort)"

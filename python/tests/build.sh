@@ -15,7 +15,7 @@ export WKT_C_LIB=${WKT_C_LIB:-dist} CFLAGS=-O0
 
 # A clone that has nothing built, with what isn't committed yet.
 mkdir "$work/clone"
-(cd "$top" && git ls-files -co --exclude-standard -- .gitignore python capi dist include 'LICENSE-*' tests/data/command tests/gate/command.sh |
+(cd "$top" && git ls-files -co --exclude-standard -- .gitignore pyproject.toml python capi dist include 'LICENSE-*' tests/data/command tests/gate/command.sh |
     while read -r file; do [ ! -e "$file" ] || echo "$file"; done | tar -c -T - | tar -x -C "$work/clone")
 git -C "$work/clone" init -q
 git -C "$work/clone" add -A
@@ -30,9 +30,10 @@ works() {
     [ "$(cd / && echo 'point(1 2.0)' | "$work/$1/bin/wkt" canon)" = 'POINT(1 2)' ] || fail "$1: wkt"
     [ "$(cd / && echo 'point(1 2.0)' | "$work/$1/bin/python" -m wkt canon)" = 'POINT(1 2)' ] || fail "$1: python -m wkt"
 }
-for name in folder 'folder of two words' repository editable source; do
+for name in top folder 'folder of two words' repository editable source; do
     venv "$name"
     case $name in
+        top) pip top install --no-index "$work/clone" ;;
         folder*) pip "$name" install --no-index "$work/clone/python" ;;
         repository) pip $name install --no-index "git+file://$work/clone#subdirectory=python" ;;
         editable) pip $name install --no-index -e "$work/clone/python" ;;
@@ -47,7 +48,7 @@ done
 echo '# an edit' >> "$work/clone/python/wkt/_version.py"
 [ "$(cd / && "$work/editable/bin/python" -c 'import wkt; print(wkt.__file__)')" = "$work/clone/python/wkt/__init__.py" ] || fail "editable: another folder"
 git -C "$work/clone" checkout -q .
-REST=yes "$top/tests/gate/command.sh" "$work/folder/bin/wkt" > "$work/said" || { cat "$work/said"; fail "the command wkt: other answers"; }
+WKT_BUILD=$("$work/clone/dist/version.sh") REST=yes "$top/tests/gate/command.sh" "$work/folder/bin/wkt" > "$work/said" || { cat "$work/said"; fail "the command wkt: other answers"; }
 echo "the command wkt: $(tail -n 1 "$work/said")"
 # A name that isn't UTF-8 is said, whichever way the command is called.
 for command in "$work/folder/bin/wkt" "$work/folder/bin/python -m wkt"; do

@@ -1,8 +1,8 @@
 #!/usr/bin/env bash
 # `make -C dist` and `make install` as a user calls them, and what is said where the library isn't there.
 #
-# It needs gcc, binutils, make and pkg-config; PostgreSQL's headers, and cargo, where SKIP=postgres,rust doesn't name them.
-# CC=aarch64-linux-gnu-gcc looks at what is made for another processor.
+# It needs gcc, binutils, make and pkg-config; CMake, PostgreSQL's headers, and cargo, where SKIP=cmake,postgres,rust doesn't name them.
+# CC=aarch64-linux-gnu-gcc looks at what is made for another processor, and runs none of it.
 set -u
 cd "$(dirname "$0")/../.." || exit 1
 dir=$(mktemp -d /tmp/wkt.XXXXXX) # make takes no folder with a space, as TMPDIR may be
@@ -19,6 +19,12 @@ make_dist
 before=$(made)
 make_dist
 [ "$(made)" = "$before" ] || wrong "make makes anew what is right"
+# A release says its number, and what is built between releases its commit too; a commit makes anew what says it.
+for version in 1.0.0 1.0.0-dev+another "$(dist/version.sh)"; do
+    make_dist VERSION="$version"
+    [ -n "${CC:-}" ] || [ "$("$dir/out/wkt" --version) $("$dir/out/wkt" -V)" = "wkt $version wkt $version" ] || wrong "wkt --version isn't $version"
+done
+before=$(made)
 echo "of other objects" > "$dir/out/FROM"
 make_dist
 [ "$(made | sort - <(echo "$before") | uniq -d)" = "" ] || wrong "make leaves what was made of other objects"
@@ -41,6 +47,16 @@ make_dist install PREFIX=/usr DESTDIR="$dir/root" LIBDIR=/usr/lib/here
 [ -e "$dir/root/usr/lib/here/libwkt.so.0" ] && [ -x "$dir/root/usr/bin/wkt" ] || wrong "DESTDIR, LIBDIR or PREFIX"
 grep -qx 'prefix=/usr' "$dir/root/usr/lib/here/pkgconfig/wkt.pc" || wrong "wkt.pc names another prefix"
 ! grep -q 'ldconfig' "$dir/said" || wrong "ldconfig is said below DESTDIR"
+# Each folder may be another.
+apart=(prefix="$dir/apart" libdir="$dir/apart/l" bindir="$dir/apart/b" mandir="$dir/apart/m" includedir="$dir/apart/i")
+make_dist install "${apart[@]}"
+for file in l/libwkt.so.0 l/cmake/wkt/wkt-config.cmake b/wkt b/wkt-parallel m/man1/wkt.1 m/man3/wkt.3 i/wkt.h; do
+    [ -e "$dir/apart/$file" ] || wrong "make install with folders apart: no $file"
+done
+[ "$(PKG_CONFIG_PATH=$dir/apart/l/pkgconfig pkg-config --cflags --libs wkt)" = "-I$dir/apart/i -L$dir/apart/l -lwkt " ] || wrong "wkt.pc with folders apart"
+make_dist uninstall "${apart[@]}"
+left=$(find "$dir/apart" ! -type d)
+[ -z "$left" ] || wrong "make uninstall with folders apart leaves $left"
 
 # In folders whose names have a space: a clone, the library, what is installed. An unquoted `rm -rf` would take `my`.
 mkdir "$dir/my clone"
@@ -66,6 +82,23 @@ if ! skips rust; then
     [ -n "${CC:-}" ] || runs env -u WKT_LIB_DIR PKG_CONFIG_PATH="$dir/my tools/lib/pkgconfig" CARGO_HOME="$dir/cargo" CARGO_TARGET_DIR="$dir/my target" \
         cargo build -q --offline --example show --manifest-path "$dir/my crate/Cargo.toml"
 fi
+# find_package of CMake, where all was moved, and in the folder of capi/build.sh
+found() {
+    runs cmake -S "$dir/my project" -B "$dir/my project/$1" "${@:2}" && runs cmake --build "$dir/my project/$1" && [ "$failed" = 0 ] || return
+    for name in shared static; do "$dir/my project/$1/$name" | grep -q . || wrong "find_package: $*: $name"; done
+}
+if ! skips cmake && [ -z "${CC:-}" ]; then
+    mkdir "$dir/my project"
+    printf '%s\n' 'cmake_minimum_required(VERSION 3.10)' 'project(mine C)' 'find_package(wkt ${ASKED} CONFIG REQUIRED)' "set(source \"$PWD/capi/examples/show.c\")" \
+        'add_executable(shared ${source})' 'target_link_libraries(shared wkt::wkt)' 'add_executable(static ${source})' 'target_link_libraries(static wkt::static)' \
+        > "$dir/my project/CMakeLists.txt"
+    mv "$dir/my tools" "$dir/my moved tools"
+    found moved -DASKED=1.0 -DCMAKE_PREFIX_PATH="$dir/my moved tools"
+    readelf -d "$dir/my project/moved/shared" | grep -q 'NEEDED.*libwkt.so.0' || wrong "find_package: wkt::wkt isn't the shared library"
+    found built -Dwkt_DIR="$dir/my \$library"
+    ! cmake -S "$dir/my project" -B "$dir/my project/later" -DASKED=2 -DCMAKE_PREFIX_PATH="$dir/my moved tools" > "$dir/said" 2>&1 && grep -q 'version: 1.0.0' "$dir/said" || wrong "find_package: version 2 is found"
+    mv "$dir/my moved tools" "$dir/my tools"
+fi
 runs make -s -C "$dir/my clone/dist" uninstall prefix="$dir/my tools"
 left=$(find "$dir/my tools" ! -type d)
 [ -z "$left" ] || wrong "make uninstall leaves $left"
@@ -84,6 +117,14 @@ for file in libwkt.so.0 wkt wktline wktstream; do
     readelf -W -l "$dir/out/$file" | grep -q 'GNU_RELRO' || wrong "$file isn't linked with -z relro"
 done
 
+# Programs without a shared library, which a linker makes of the static ones.
+make_dist O="$dir/static" LDFLAGS=-static
+! readelf -W -l "$dir/static/wkt" | grep -q INTERP || wrong "LDFLAGS=-static: wkt needs shared libraries"
+if [ -z "${CC:-}" ]; then
+    [ "$(echo 'point ( 1 2.50 )' | "$dir/static/wkt" canon)" = 'POINT(1 2.5)' ] || wrong "LDFLAGS=-static: wkt"
+    tests/gate/parallel.sh "$dir/out" || failed=1
+fi
+
 # Where the library isn't there, or can't be made, the error names what makes it.
 says() {
     local words=$1
@@ -98,7 +139,9 @@ for folder in sqlite postgres; do
     says 'capi/build.sh in a clone of wkt makes it' env PKG_CONFIG_LIBDIR=/nowhere make -C "$dir/$folder"
 done
 says 'install gcc.*then run capi/build.sh again' env CC=nowhere-gcc capi/build.sh "$dir/none"
-printf '#!/bin/sh\necho riscv64-linux-gnu\n' > "$dir/cc" && chmod 755 "$dir/cc"
+printf '#!/bin/sh\ncase "$*" in *-dM*) exec gcc "$@" ;; esac\necho riscv64-linux-gnu\n' > "$dir/cc" && chmod 755 "$dir/cc"
+says "C compiler true isn't supported: name gcc or clang" env CC=true capi/build.sh "$dir/none"
+[[ $(CC='gcc -m32' dist/objects.sh) == x86_64_32-linux-gnu:\ portable\ C,* ]] || wrong "gcc -m32 takes the objects of 64 bits"
 says 'riscv64-linux-gnu: portable C' env CC="$dir/cc" WKT_C_LIB=dist capi/build.sh "$dir/none"
 says 'capi/build.sh in a clone of wkt makes it' env WKT_LIB_DIR=/nowhere python3 -c 'import sys; sys.path.insert(0, "python"); import backend; backend.build_wheel(sys.argv[1])' "$dir"
 if ! skips rust; then

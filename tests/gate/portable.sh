@@ -65,19 +65,19 @@ generated() {
 
 # system NAME
 system() {
-    local run='' exe='' ld=() packages flags=-O2 out=$dir/$1
+    local run='' exe='' packages flags=-O2 out=$dir/$1
     link=()
     case $1 in
         windows) cc=(x86_64-w64-mingw32-gcc-posix) run=wine exe=.exe link=(-static) packages="gcc-mingw-w64-x86-64-posix wine64 wine" ;;
         s390x | aarch64 | riscv64) cc=("$1-linux-gnu-gcc") run="qemu-$1-static -L /usr/$1-linux-gnu" packages="gcc-$1-linux-gnu libc6-dev-$1-cross qemu-user-static" ;;
         armhf) cc=(arm-linux-gnueabihf-gcc) run="qemu-arm-static -L /usr/arm-linux-gnueabihf" packages="gcc-arm-linux-gnueabihf qemu-user-static" ;;
-        m32) cc=(gcc -m32) ld=(LD="ld -m elf_i386") packages="gcc-12-multilib libc6-dev-i386" ;;
+        m32) cc=(gcc -m32) packages="gcc-12-multilib libc6-dev-i386" ;;
         musl) cc=(musl-gcc) link=(-static) packages=musl-tools ;;
         *) fail "$1 is no system that is known here" ;;
     esac
     command -v "${cc[0]}" > /dev/null && { [ -z "$run" ] || command -v "${run%% *}" > /dev/null; } || fail "$1: install ${packages/dev-aarch64/dev-arm64}"
     export WINEDEBUG=-all WINEPREFIX=$dir/wine
-    quiet "$1: the tests fail" env WKT_C_LIB=portable make -s -C dist tests O="$out" CC="${cc[*]}" RUN="$run" CFLAGS="$flags" LDFLAGS="${link[*]-}" ${ld[@]+"${ld[@]}"}
+    quiet "$1: the tests fail" env WKT_C_LIB=portable make -s -C dist tests O="$out" CC="${cc[*]}" RUN="$run" CFLAGS="$flags" LDFLAGS="${link[*]-}"
     answered "$out" "$run" "$exe"
     as_objects "$out" "$1"
     [ "$1" != windows ] || lines_of_windows "$out"

@@ -56,6 +56,14 @@ cp javascript/test/by_name.* "$app"
 for file in "$app"/by_name.*; do
     [ "$(cd "$app" && node "$file")" = "POINT(1 2.5) POINT(1 2.5)" ] || fail "the package by its name: $file"
 done
+# As npm installs the folder of a clone: by a link, once its script `prepare` has run there.
+linked="$dir/a clone"
+mkdir -p "$linked/dist/wasm" "$linked/app/node_modules" && git ls-files -z -- javascript web | tar --null -T - -cf - | tar -C "$linked" -xf - &&
+    cp "$module" "$linked/dist/wasm/wkt.wasm" && ln -s "$linked/javascript" "$linked/app/node_modules/wkt-proved" && cp "$app"/by_name.* "$app/package.json" "$linked/app"
+(cd "$linked/javascript" && sh -c "$(node -p 'require("./package.json").scripts.prepare')") || fail "npm install of the folder"
+for file in "$linked"/app/by_name.*; do
+    [ "$(cd "$linked/app" && node "$file")" = "POINT(1 2.5) POINT(1 2.5)" ] || fail "the folder of a clone by its name: $file"
+done
 cp javascript/test/{{types,bare,shared}.ts,required.cts} "$app"
 echo "web: $(basename "$package"): $(stat -c %s "$package") bytes, imported and required by its name"
 # types WORD..: the compiler of TypeScript finds the package so, and reports nothing
