@@ -2,6 +2,7 @@
 import { DIMENSIONS, KINDS, STATUS } from './names.js';
 import { WktError } from './errors.js';
 import { doubles } from './decimals.js';
+import { isTyped } from './engine.js';
 
 /** A geometry that is no collection as flat arrays. Its numbers are in units of ten to the minus `places`. */
 export class Arrays {
@@ -24,7 +25,7 @@ export class Arrays {
 const isBigInt = (units) => typeof units === 'bigint';
 const isLong = (units) => BigInt.asIntN(64, units) === units;
 const isOffset = (at) => Number.isSafeInteger(at) && at >= 0;
-const isList = (list) => Array.isArray(list) || ArrayBuffer.isView(list);
+const isList = (list) => Array.isArray(list) || isTyped(list);
 const checked = (good) => {
   if (!good) throw new WktError(STATUS.NOT_ARRAYS);
 };

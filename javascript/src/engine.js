@@ -20,12 +20,14 @@ const MOST_PLAIN = 511;
 // The text that a text in dialects is read as has at most twelve bytes for one of its. A longer one gets less room at first.
 const READ_AS = 12;
 const LONG = 4096;
+// A text without an answer leaves no more memory than these bytes.
+const KEPT = 1 << 24;
 // Lengths of short texts as BigInt, made once.
 const SMALL = Array.from({ length: 1024 }, (_, n) => BigInt(n));
 
 const encoder = new TextEncoder();
 const ascii = new TextDecoder();
-const utf8 = new TextDecoder('utf-8', { fatal: true, ignoreBOM: true });
+const utf8 = new TextDecoder('utf-8', { ignoreBOM: true });
 
 /** The next multiple of 16. An address may have 32 bits, so it is no case for `&`. */
 const aligned = (n) => n + 15 - ((n + 15) % 16);
@@ -51,18 +53,31 @@ export class LoneSurrogate extends Error {
   }
 }
 
-/** Whether a value is a Uint8Array: also that of another realm, as of a frame or of the sandbox of a test. */
-const isBytes = (value) => value instanceof Uint8Array || (ArrayBuffer.isView(value) && value[Symbol.toStringTag] === 'Uint8Array');
+// What all typed arrays have. A subclass may say something else of itself.
+const TYPED = Object.getPrototypeOf(Uint8Array.prototype);
+const [typeOf, bufferOf, beginOf, lengthOf] = [Symbol.toStringTag, 'buffer', 'byteOffset', 'length']
+  .map((name) => Function.prototype.call.bind(Object.getOwnPropertyDescriptor(TYPED, name).get));
+const indexOf = Function.prototype.call.bind(TYPED.indexOf);
 
-/** Bytes, if that is what they are. Those of a detached buffer have the length 0, and would be taken for no text. */
-export function present(bytes, what) {
-  if (!isBytes(bytes)) throw new TypeError(what);
+/** Whether a value is a typed array: also that of another realm, as of a frame or of the sandbox of a test. */
+export const isTyped = (value) => typeOf(value) !== undefined;
+
+/** How many bytes there are, if they are a Uint8Array. Of a detached buffer it would be 0, and they would be taken for no text. */
+function countOf(bytes, what) {
+  if (typeOf(bytes) !== 'Uint8Array') throw new TypeError(what);
+  const length = lengthOf(bytes);
   try {
-    if (bytes.length === 0) bytes.indexOf(0);
+    if (length === 0) indexOf(bytes, 0);
   } catch {
     throw new TypeError('the buffer of the bytes is detached');
   }
-  return bytes;
+  return length;
+}
+
+/** The same bytes, as a plain Uint8Array. */
+export function present(bytes, what) {
+  const length = countOf(bytes, what);
+  return new Uint8Array(bufferOf(bytes), beginOf(bytes), length);
 }
 
 export class Engine {
@@ -115,8 +130,16 @@ export class Engine {
     if (lacking <= 0) return;
     // By half at once, so that calls that need more and more grow it seldom; or, where that isn't there, by what is needed.
     const half = Math.floor(this.bytes.length / PAGE / 2);
-    if (!this.grows(Math.max(lacking, half)) && !this.grows(lacking)) throw new WktError(STATUS.NO_MEMORY);
+    if (!this.grows(Math.max(lacking, half)) && !this.grows(lacking)) {
+      this.forget();
+      throw new WktError(STATUS.NO_MEMORY);
+    }
     this.view();
+  }
+
+  /** Gives back the memory that a text without an answer took, where it is much. What stands in it is gone. */
+  forget() {
+    if (this.bytes.length > KEPT && !this.stopped) this.start();
   }
 
   grows(pages) {
@@ -150,10 +173,10 @@ export class Engine {
   /** Lays out a text as UTF-8, and returns where it stands; its length is in `this.length`. */
   put(text) {
     if (typeof text === 'string') return this.putString(text);
-    present(text, 'a text is a string or a Uint8Array');
-    const at = this.lay(text.length);
+    const length = countOf(text, 'a text is a string or a Uint8Array');
+    const at = this.lay(length);
     this.bytes.set(text, at);
-    this.length = text.length;
+    this.length = length;
     return at;
   }
 
@@ -200,7 +223,7 @@ export class Engine {
     return text;
   }
 
-  /** The UTF-8 text from `at` on. */
+  /** The text from `at` on, which is UTF-8, but that a character may be cut at its end. */
   utf8(at, length) {
     return utf8.decode(this.bytes.subarray(at, at + length));
   }

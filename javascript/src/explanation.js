@@ -6,6 +6,8 @@ import { printable } from './printable.js';
 // How many characters of a line are shown, and in how many bytes they surely are: a word has 200 at most, of 4 bytes.
 const WIDTH = 72;
 const AROUND = 1000;
+/** How many bytes of a word are looked at: a longer one has too many places to count. */
+export const LONGEST = 1 << 20;
 // White space of the grammar. Other spaces are refused, so they are shown.
 const SPACES = [' ', '\n', '\r', '\t'];
 
@@ -81,7 +83,7 @@ function placesIn(number) {
 function placesInWords(number) {
   const e = Math.max(number.indexOf('e'), number.indexOf('E'));
   const [digits, exponent] = e < 0 ? [number, '0'] : [number.slice(0, e), number.slice(e + 1)];
-  return exponent.length > 9 ? 'too many' : Math.max(0, placesIn(digits) - Number(exponent));
+  return exponent.length > 9 || number.length === LONGEST ? 'too many' : Math.max(0, placesIn(digits) - Number(exponent));
 }
 
 /** The words of a hint about a word of the text. The one with a number says which number has too many places. */

@@ -204,10 +204,10 @@ class Objects {
         open.pop();
         if (open.length === 0) return all;
       }
-      const { geometries } = open.at(-1);
+      const { geometries } = open[open.length - 1];
       const member = this.begun();
       if (member === COLLECTION) open.push({ type: 'GeometryCollection', geometries: [] });
-      geometries.push(member === COLLECTION ? open.at(-1) : { type: KINDS[member], coordinates: this.coordinates(member) });
+      geometries.push(member === COLLECTION ? open[open.length - 1] : { type: KINDS[member], coordinates: this.coordinates(member) });
     }
   }
 }

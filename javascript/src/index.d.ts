@@ -189,7 +189,10 @@ export type GeoJSONGeometry =
   | { type: 'MultiPolygon'; coordinates: GeoJSONPosition[][][] }
   | { type: 'GeometryCollection'; geometries: GeoJSONGeometry[] };
 
-/** The proved module with its memory. Calls are synchronous; `places` is 18 if left out, and 6 for arrays. */
+/**
+ * The proved module with its memory. Calls are synchronous; `places` is 18 if left out, and 6 for arrays. Options that a call
+ * doesn't have are a TypeError.
+ */
 export interface Wkt {
   /** The one text of the geometry that a text names. @throws {WktError} the text is refused */
   canonical(text: Text, asked?: Asked): string;
@@ -235,7 +238,7 @@ export interface Wkt {
    * JavaScript prints it. @throws {GeoJSONError} it is none. @throws {SyntaxError} it is no JSON
    */
   fromGeoJSON(geometry: string | GeoJSONGeometry, asked?: Places): string;
-  /** How many bytes of memory the module has. It never shrinks but by `release`. */
+  /** How many bytes of memory the module has. It shrinks by `release` and behind a long text that is refused, and else never. */
   readonly memory: number;
   /** Begins with a new memory, as small as it can be. */
   release(): void;

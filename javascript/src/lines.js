@@ -8,14 +8,23 @@ const BLOCK = 1 << 20;
 const LINE = 1 << 16;
 const FEED = 10;
 
-/** A copy, whose owner nobody else is. The `slice` of a Buffer of Node makes none. */
-const copyOf = (bytes) => new Uint8Array(bytes);
+const NONE = new Uint8Array(0);
+
+/** So many bytes, if there is memory for them. */
+function bytesOf(size) {
+  try {
+    return new Uint8Array(size);
+  } catch (error) {
+    if (error instanceof RangeError) throw new WktError(STATUS.NO_MEMORY);
+    throw error;
+  }
+}
 
 /** The answers to lines that come in chunks. What is left of a line is kept here, so other calls may come between. */
 export class LineAnswers {
   #engine;
   #places;
-  #line = []; // the beginning of a line, in pieces
+  #line = NONE; // begins with so many bytes of a line
   #length = 0;
 
   constructor(engine, places) {
@@ -29,7 +38,7 @@ export class LineAnswers {
     let from = 0;
     if (this.#length > 0) {
       const feed = chunk.indexOf(FEED);
-      this.#keep(feed < 0 ? copyOf(chunk) : chunk.subarray(0, feed + 1));
+      this.#keep(feed < 0 ? chunk : chunk.subarray(0, feed + 1));
       if (feed < 0) return answers;
       this.#finish(false, answers);
       from = feed + 1;
@@ -39,10 +48,10 @@ export class LineAnswers {
       let feed = chunk.lastIndexOf(FEED, Math.min(chunk.length, from + BLOCK) - 1);
       if (feed < from) feed = chunk.indexOf(FEED, from);
       if (feed < 0) break;
-      this.#answer([chunk.subarray(from, feed + 1)], feed + 1 - from, false, answers);
+      this.#answer(chunk.subarray(from, feed + 1), false, answers);
       from = feed + 1;
     }
-    if (from < chunk.length) this.#keep(copyOf(chunk.subarray(from)));
+    if (from < chunk.length) this.#keep(chunk.subarray(from));
     return answers;
   }
 
@@ -53,26 +62,31 @@ export class LineAnswers {
     return answers;
   }
 
+  /** Copies a piece behind what is kept. */
   #keep(piece) {
-    this.#line.push(piece);
-    this.#length += piece.length;
+    const length = this.#length + piece.length;
+    if (length > this.#line.length) {
+      const longer = bytesOf(this.#length > 0 ? Math.max(length, 2 * this.#line.length) : length);
+      longer.set(this.#line.subarray(0, this.#length));
+      this.#line = longer;
+    }
+    this.#line.set(piece, this.#length);
+    this.#length = length;
   }
 
   #finish(last, answers) {
-    this.#answer(this.#line, this.#length, last, answers);
-    this.#line = [];
+    const line = this.#line.subarray(0, this.#length);
+    this.#line = NONE;
     this.#length = 0;
+    this.#answer(line, last, answers);
   }
 
-  #answer(pieces, length, last, answers) {
+  #answer(lines, last, answers) {
     const engine = this.#engine;
+    const { length } = lines;
     engine.reset();
     const at = engine.lay(length);
-    let to = at;
-    for (const piece of pieces) {
-      engine.bytes.set(piece, to);
-      to += piece.length;
-    }
+    engine.bytes.set(lines, at);
     // The answers to n bytes mostly have no more than these. A line whose answer may not fit is answered in a room of its own:
     // one of n bytes surely fits into 2n + 65.
     let most = length + (length >> 3) + 4096;

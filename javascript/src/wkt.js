@@ -1,7 +1,7 @@
 // What the module answers.
-import { Engine, LoneSurrogate, present } from './engine.js';
+import { Engine, LoneSurrogate, isTyped, present } from './engine.js';
 import { WktError } from './errors.js';
-import { codeOf, explanation, explanationOfBytes, hintWords } from './explanation.js';
+import { LONGEST, codeOf, explanation, explanationOfBytes, hintWords, short } from './explanation.js';
 import { DIMENSIONS, EXPECTED, HEADER_MESSAGES, KINDS, STATUS } from './names.js';
 import { Arrays, given } from './arrays.js';
 import { dialectsOf } from './dialects.js';
@@ -18,6 +18,26 @@ const MOST_PLACES = 36;
 const FEW = [6, 15];
 const MORE = 19;
 
+// The options that calls take.
+const NONE = Object.freeze({});
+const hasOwn = Function.prototype.call.bind(Object.prototype.hasOwnProperty);
+const ASKED = ['places', 'whole', 'dialect'];
+const FRONT = ['places', 'dialect'];
+const BYTES = [...ASKED, 'feed'];
+const GEOJSON = [...ASKED, 'm'];
+const ARRAYS = ['kind', 'dimension', 'numbers', 'rings', 'polygons', 'places', 'end', 'coordinates'];
+
+/** The options of a call, if it knows them all. */
+function known(asked, names) {
+  if (asked === undefined) return NONE;
+  if (asked === null || typeof asked !== 'object') throw new TypeError('options are an object such as { places: 6 }');
+  for (const name in asked) {
+    if (name === 'places') continue; // which each has: that is all that most calls are passed
+    if (!names.includes(name) && hasOwn(asked, name)) throw new TypeError(`no option ${short(name)}: there are ${names.join(', ')}`);
+  }
+  return asked;
+}
+
 /** The number by which a call asks for so many places, for whole texts, and for dialects. */
 function asking(places, whole = false, dialect = '') {
   if (!Number.isInteger(places)) throw new TypeError('places is a whole number');
@@ -27,7 +47,8 @@ function asking(places, whole = false, dialect = '') {
 }
 
 /** The number for lines, which are read in no dialect. */
-function askingLines({ places = 18, dialect = '' }) {
+function askingLines(asked) {
+  const { places = 18, dialect = '' } = known(asked, FRONT);
   if (dialect !== '') throw new TypeError('lines are read in no dialect');
   return asking(places);
 }
@@ -48,13 +69,15 @@ export class Wkt {
     this.#engine = new Engine(module);
   }
 
-  canonical(text, { places = 18, whole = true, dialect = '' } = {}) {
+  canonical(text, asked) {
+    const { places = 18, whole = true, dialect = '' } = known(asked, ASKED);
     const engine = this.#engine;
     const length = this.#canonical(text, asking(places, whole, dialect));
     return engine.answerTo(text, engine.texts, length);
   }
 
-  canonicalBytes(text, { places = 18, whole = true, dialect = '', feed = false } = {}) {
+  canonicalBytes(text, asked) {
+    const { places = 18, whole = true, dialect = '', feed = false } = known(asked, BYTES);
     const engine = this.#engine;
     const length = this.#canonical(text, asking(places, whole, dialect));
     const end = engine.answer + length;
@@ -63,39 +86,47 @@ export class Wkt {
     return engine.bytes.slice(engine.answer, end + 1);
   }
 
-  front(text, { places = 18, dialect = '' } = {}) {
+  front(text, asked) {
+    const { places = 18, dialect = '' } = known(asked, FRONT);
     const engine = this.#engine;
     const length = this.#canonical(text, asking(places, false, dialect));
     // A text is of ASCII as far as its geometry ends: that is one place in bytes and in units.
     return { canonical: engine.ascii(engine.answer, length), end: engine.size(1) };
   }
 
-  reads(text, { places = 18, whole = true, dialect = '' } = {}) {
+  reads(text, asked) {
+    const { places = 18, whole = true, dialect = '' } = known(asked, ASKED);
     const status = this.#status(text, asking(places, whole, dialect));
     if (status === STATUS.NO_MEMORY) throw new WktError(status);
     return status === STATUS.OK;
   }
 
-  same(one, other, { places = 18, whole = true, dialect = '' } = {}) {
+  same(one, other, asked) {
     const engine = this.#engine;
-    const asked = asking(places, whole, dialect);
+    const { places = 18, whole = true, dialect = '' } = known(asked, ASKED);
+    const how = asking(places, whole, dialect);
     engine.reset();
     const at = this.#put(one);
     const { length } = engine;
     const otherAt = this.#put(other);
     const otherLength = engine.length;
-    const status = engine.same(at, length, otherAt, otherLength, asked);
+    const status = engine.same(at, length, otherAt, otherLength, how);
     if (status === STATUS.OK) return engine.number(0) === 1;
-    if (!isRefusal(status)) throw new WktError(status);
-    // Which of them is refused.
-    throw new WktError(status, this.#explained(one, at, length, asked) ?? this.#explained(other, otherAt, otherLength, asked));
+    // Which of them is refused: the status may be that of the other.
+    const place = isRefusal(status) ? this.#explained(one, at, length, how) ?? this.#explained(other, otherAt, otherLength, how) : null;
+    engine.forget();
+    throw new WktError(place?.status ?? status, place);
   }
 
-  explain(text, { places = 18, whole = true, dialect = '' } = {}) {
-    const asked = asking(places, whole, dialect);
-    this.#engine.reset();
+  explain(text, asked) {
+    const { places = 18, whole = true, dialect = '' } = known(asked, ASKED);
+    const engine = this.#engine;
+    const how = asking(places, whole, dialect);
+    engine.reset();
     const at = this.#put(text);
-    return this.#explained(text, at, this.#engine.length, asked);
+    const place = this.#explained(text, at, engine.length, how);
+    if (place) engine.forget();
+    return place;
   }
 
   infer(text) {
@@ -103,18 +134,22 @@ export class Wkt {
     engine.reset();
     const at = this.#put(text);
     const status = engine.infer(at, engine.length);
-    if (status !== STATUS.OK) throw new WktError(status, null, HEADER_MESSAGES[status]);
+    if (status !== STATUS.OK) {
+      engine.forget();
+      throw new WktError(status, null, HEADER_MESSAGES[status]);
+    }
     return { kind: KINDS[engine.number(0)], dimension: DIMENSIONS[engine.number(2)] };
   }
 
-  arrays(text, { places = 6, whole = true, dialect = '' } = {}) {
+  arrays(text, asked) {
     const engine = this.#engine;
-    const asked = asking(places, whole, dialect);
+    const { places = 6, whole = true, dialect = '' } = known(asked, ASKED);
+    const how = asking(places, whole, dialect);
     engine.reset();
     const at = this.#put(text);
     const { length } = engine;
-    const status = engine.arrays(at, length, asked);
-    if (status !== STATUS.OK) throw this.#refusal(status, text, at, length, asked);
+    const status = engine.arrays(at, length, how);
+    if (status !== STATUS.OK) throw this.#refusal(status, text, at, length, how);
     const [numbers, rings, polygons] = engine.arraysAt;
     return new Arrays(
       KINDS[engine.number(4)], DIMENSIONS[engine.number(5)], places,
@@ -123,15 +158,17 @@ export class Wkt {
     );
   }
 
-  fromArrays({ kind, dimension = 'XY', numbers, rings, polygons, places = 6 }) {
+  fromArrays(arrays) {
     const engine = this.#engine;
+    const { kind, dimension = 'XY', numbers, rings, polygons, places = 6 } = known(arrays ?? null, ARRAYS);
     asking(places);
     const status = engine.fromArrays(given({ kind, dimension, numbers, rings, polygons }), places);
     if (status !== STATUS.OK) throw new WktError(status);
     return engine.ascii(engine.answer, engine.size(0));
   }
 
-  readEvents(text, { places = 18, whole = true, dialect = '' } = {}) {
+  readEvents(text, asked) {
+    const { places = 18, whole = true, dialect = '' } = known(asked, ASKED);
     const engine = this.#engine;
     this.#events(text, this.#read(text, asking(places, whole, dialect)));
     const [events, numbers] = engine.eventsAt;
@@ -147,13 +184,15 @@ export class Wkt {
     return engine.size(1) > 0 ? engine.number(0) : null;
   }
 
-  columns(texts, { places = 18, whole = true, dialect = '' } = {}) {
+  columns(texts, asked) {
     const engine = this.#engine;
-    const asked = asking(places, whole, dialect);
+    const { places = 18, whole = true, dialect = '' } = known(asked, ASKED);
+    const how = asking(places, whole, dialect);
+    if (typeof texts === 'string' || isTyped(texts)) throw new TypeError('a column is a list of texts, and not one');
     const answers = [];
     const statuses = [];
     for (const text of texts) {
-      const status = text === null || text === undefined ? STATUS.NULL : this.#status(text, asked);
+      const status = text === null || text === undefined ? STATUS.NULL : this.#status(text, how);
       if (status === STATUS.NO_MEMORY) throw new WktError(status);
       answers.push(status === STATUS.OK ? engine.answerTo(text, engine.texts, engine.size(0)) : null);
       statuses.push(status);
@@ -161,7 +200,7 @@ export class Wkt {
     return { texts: answers, statuses: Uint8Array.from(statuses) };
   }
 
-  lines(input, asked = {}) {
+  lines(input, asked) {
     const engine = this.#engine;
     const answers = new LineAnswers(engine, askingLines(asked));
     const isString = typeof input === 'string';
@@ -175,7 +214,7 @@ export class Wkt {
     return isString ? new TextDecoder().decode(all) : all;
   }
 
-  lineStream(asked = {}) {
+  lineStream(asked) {
     const answers = new LineAnswers(this.#engine, askingLines(asked));
     return new TransformStream({
       transform(chunk, out) {
@@ -187,12 +226,14 @@ export class Wkt {
     });
   }
 
-  toGeoJSON(text, { places = 18, whole = true, m = 'refuse', dialect = '' } = {}) {
+  toGeoJSON(text, asked) {
+    const { places = 18, whole = true, m = 'refuse', dialect = '' } = known(asked, GEOJSON);
     checkM(m);
     return geoJSONOf(this.canonical(text, { places, whole, dialect }), m);
   }
 
-  toGeoJSONObject(text, { places = 18, whole = true, m = 'refuse', dialect = '' } = {}) {
+  toGeoJSONObject(text, asked) {
+    const { places = 18, whole = true, m = 'refuse', dialect = '' } = known(asked, GEOJSON);
     checkM(m);
     const engine = this.#engine;
     const read = this.#read(text, asking(places, whole, dialect));
@@ -212,7 +253,8 @@ export class Wkt {
     return geoJSONObjectOf(engine.words, engine.eventsAt, places, m, true);
   }
 
-  fromGeoJSON(geometry, { places = 18 } = {}) {
+  fromGeoJSON(geometry, asked) {
+    const { places = 18 } = known(asked, ['places']);
     const text = textOfGeoJSON(typeof geometry === 'string' ? parseExact(geometry) : geometry);
     try {
       return this.canonical(text, { places });
@@ -237,6 +279,7 @@ export class Wkt {
       return this.#engine.put(text);
     } catch (error) {
       if (!(error instanceof LoneSurrogate)) throw error;
+      this.#engine.forget();
       const said = { expected: 'a character', hint: 'a lone surrogate is half of a character', code: 'not_utf8' };
       const place = explanation(text, STATUS.NOT_UTF8, error.at, error.at + 1, said);
       throw new WktError(STATUS.NOT_UTF8, place);
@@ -251,10 +294,13 @@ export class Wkt {
     try {
       at = engine.put(text);
     } catch (error) {
-      if (error instanceof LoneSurrogate) return STATUS.NOT_UTF8;
-      throw error;
+      if (!(error instanceof LoneSurrogate)) throw error;
+      engine.forget();
+      return STATUS.NOT_UTF8;
     }
-    return engine.canonical(at, engine.length, asked);
+    const status = engine.canonical(at, engine.length, asked);
+    if (status !== STATUS.OK) engine.forget();
+    return status;
   }
 
   /** The length of a text's canonical text, which stands in memory. */
@@ -287,7 +333,9 @@ export class Wkt {
 
   /** The error of a text that stands at `at`. */
   #refusal(status, text, at, length, asked) {
-    return new WktError(status, isRefusal(status) ? this.#explained(text, at, length, asked) : null);
+    const place = isRefusal(status) ? this.#explained(text, at, length, asked) : null;
+    this.#engine.forget();
+    return new WktError(status, place);
   }
 
   /** Why the text that stands at `at` is refused; null where it is read. */
@@ -295,7 +343,10 @@ export class Wkt {
     const engine = this.#engine;
     const status = engine.explain(at, length, asked);
     if (status === STATUS.ACCEPTED) return null;
-    if (status !== STATUS.OK && status !== STATUS.NOT_WHOLE) throw new WktError(status);
+    if (status !== STATUS.OK && status !== STATUS.NOT_WHOLE) {
+      engine.forget();
+      throw new WktError(status);
+    }
     const [start, stop] = [engine.size(1), engine.size(2)];
     const there = { text, at, length, start, stop };
     if (status === STATUS.NOT_WHOLE) return this.#explanation(there, status, { expected: 'the end of the text', hint: '', code: 'not_whole' });
@@ -303,7 +354,7 @@ export class Wkt {
     const hint = engine.hint(at, length, asked);
     return this.#explanation(there, message, {
       expected: EXPECTED[what] ?? `something newer (expectation ${what})`,
-      hint: hint === 0 ? '' : hintWords(hint, engine.utf8(at + start, stop - start), asked % WHOLE),
+      hint: hint === 0 ? '' : hintWords(hint, engine.utf8(at + start, Math.min(stop - start, LONGEST)), asked % WHOLE),
       code: codeOf(hint, what),
     });
   }

@@ -117,6 +117,9 @@ test('arrays of no geometry', () => {
   assert.equal(wkt.fromArrays({ ...point, numbers: longer.of(1n, 2n) }), 'POINT(0.000001 0.000002)');
   assert.equal(thrown(() => wkt.fromArrays({ ...point, dimension: 'XYT' })).status, STATUS.NOT_ARRAYS);
   assert.equal(thrown(() => wkt.fromArrays({ ...point, places: 37 })).status, STATUS.NO_PLACES);
-  for (const numbers of [[1, 2], ['1', '2'], 'ab', undefined]) assert.throws(() => wkt.fromArrays({ ...point, numbers }), TypeError);
-  assert.throws(() => wkt.fromArrays({ ...point, rings: undefined }), TypeError);
+  const view = new DataView(new ArrayBuffer(16));
+  for (const numbers of [[1, 2], ['1', '2'], 'ab', undefined, view]) assert.throws(() => wkt.fromArrays({ ...point, numbers }), TypeError);
+  for (const rings of [undefined, view]) assert.throws(() => wkt.fromArrays({ ...point, rings }), TypeError);
+  assert.throws(() => wkt.fromArrays({ ...point, numbers: view, rings: [0, 0] }), TypeError);
+  for (const wrong of [undefined, 7, { ...point, place: 3 }]) assert.throws(() => wkt.fromArrays(wrong), TypeError);
 });

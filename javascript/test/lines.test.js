@@ -2,7 +2,9 @@
 import test from 'node:test';
 import assert from 'node:assert/strict';
 import { readFileSync } from 'node:fs';
-import { bytes, texts, wkt } from './support.js';
+import { Engine } from '../src/engine.js';
+import { LineAnswers, joined } from '../src/lines.js';
+import { bytes, moduleBytes, texts, wkt } from './support.js';
 
 const INPUT = 'POINT(1 2)\npoint( 3 4.0 )\r\nFOO\n\nPOLYGON((0 0,1 0,0 1,0 0))\nPOINT(5 6) é𝄞\nlast';
 const WANTED = 'POINT(1 2)\nPOINT(3 4)\nrefused\nrefused\nPOLYGON((0 0,1 0,0 1,0 0))\nPOINT(5 6)\nrefused\n';
@@ -69,6 +71,18 @@ test('chunks that their owner uses again, and other calls between', async () => 
     await writer.close();
     assert.equal(await out, 'POINT(1 2)\nPOINT(3 4)\n');
   }
+});
+
+test('a line in many small chunks takes its own memory, and little more', async () => {
+  const answers = new LineAnswers(new Engine(await WebAssembly.compile(moduleBytes())), 18);
+  const taken = () => process.memoryUsage().heapUsed + process.memoryUsage().external;
+  const before = taken();
+  for (const byte of bytes('LINESTRING(')) answers.push(Uint8Array.of(byte));
+  const chunks = [...'1 2,'].map((mark) => bytes(mark));
+  for (let i = 0; i < 100000; i++) for (const chunk of chunks) assert.equal(answers.push(chunk).length, 0);
+  assert.ok(taken() - before < 4e7, `${taken() - before} bytes`);
+  const answer = joined(answers.push(bytes('1 2)\nPOINT(3 4)\n')));
+  assert.equal(texts(answer), `LINESTRING(${'1 2,'.repeat(100000)}1 2)\nPOINT(3 4)\n`);
 });
 
 test('many lines, long ones, and answers that are longer than their lines', async () => {

@@ -29,12 +29,33 @@ test('texts of 100 MB, and memory is given back', () => {
   const before = wkt.memory;
   assert.ok(wkt.canonical(text) === text);
   assert.equal(wkt.arrays(text).numbers.length, 2 * points + 2);
+  assert.ok(wkt.memory > 3e8);
   const why = wkt.explain(`${text.slice(0, -1)} 3)`);
   assert.deepEqual([why.start, why.column, why.hint.slice(0, 14)], [text.length, text.length + 1, 'a third number']);
-  assert.ok(wkt.memory > 3e8);
   wkt.release();
   assert.ok(wkt.memory <= before);
   assert.equal(wkt.canonical('POINT(1 2)'), 'POINT(1 2)');
+});
+
+test('a refused text leaves no memory', async () => {
+  const one = await load(moduleBytes());
+  const before = one.memory;
+  const [long, blank, broken] = [`POINT(1 2)${' '.repeat(2e7)}x`, `${' '.repeat(2e7)}x`, `${' '.repeat(2e7)}\ud800`];
+  const wrong = bytes(long).fill(255, -1);
+  const calls = [() => one.canonical(long), () => one.same('POINT(1 2)', long), () => one.arrays(long), () => one.readEvents(long), () => one.toGeoJSONObject(long),
+    () => one.infer(blank), () => one.front(blank), () => one.canonical(broken), () => one.explain(wrong)];
+  for (const call of calls) {
+    assert.ok(thrown(call) instanceof WktError);
+    assert.ok(one.memory <= before, String(call));
+    assert.equal(one.canonical('point(1 2.0)'), 'POINT(1 2)');
+  }
+  for (const text of [long, blank, broken]) {
+    assert.equal(one.reads(text), false);
+    assert.deepEqual(one.columns([text, 'point(1 2.0)']).texts, [null, 'POINT(1 2)']);
+    assert.ok(one.memory <= before);
+  }
+  assert.equal(one.explain(blank).start, 2e7);
+  assert.ok(one.memory <= before);
 });
 
 test('memory is as many times the text as README.md says', async () => {

@@ -165,6 +165,73 @@ test('arguments', () => {
   assert.equal(wkt.canonical(Buffer.from('xPOINT(1 2)').subarray(1)), 'POINT(1 2)');
 });
 
+test('options that a call has not', () => {
+  const calls = [['canonical'], ['canonicalBytes'], ['front'], ['reads'], ['explain'], ['arrays'], ['readEvents'], ['lines'], ['toGeoJSON'], ['toGeoJSONObject'], ['same', 'POINT(1 2)']];
+  for (const [call, ...more] of calls) {
+    for (const asked of [6, '6', true, null, { place: 6 }, { places: 6, Whole: true }, [6]]) assert.throws(() => wkt[call]('POINT(1 2)', ...more, asked), TypeError, call);
+  }
+  for (const asked of [6, { whole: true }]) assert.throws(() => wkt.fromGeoJSON('{"type":"Point","coordinates":[1,2]}', asked), TypeError);
+  for (const asked of [6, { m: 'drop' }]) assert.throws(() => wkt.columns(['POINT(1 2)'], asked), TypeError);
+  for (const asked of [6, { whole: true }]) assert.throws(() => wkt.lineStream(asked), TypeError);
+  assert.throws(() => wkt.canonical('POINT(1 2)', { '\x1b[2J': 1 }), { message: 'no option \\x1b[2J: there are places, whole, dialect' });
+  assert.equal(wkt.canonical('POINT(1 2.0)', Object.create({ places: 1, other: 2 })), 'POINT(1 2)');
+});
+
+test('of two texts the first that is refused, and nothing of the other', () => {
+  const texts = ['POINT(x 2)', 'POINT(1 2) more', 'POINT(1', 'LINESTRING(1 2,3 x)', 'FOO', 'POINT(1e5 2)', ''];
+  for (const one of texts) {
+    const { status, words, message, place } = thrown(() => wkt.canonical(one));
+    for (const other of [...texts, 'POINT(1 2)']) {
+      const error = thrown(() => wkt.same(one, other));
+      assert.deepEqual([error.status, error.words, error.message, error.place], [status, words, message, place], `${one} ${other}`);
+    }
+    assert.deepEqual(thrown(() => wkt.same('POINT(1 2)', one)).cause, { status, words, place });
+  }
+});
+
+test('what a class of bytes says of itself means nothing', () => {
+  const lying = (length) => class extends Uint8Array {
+    get length() { return length; }
+    get byteLength() { return length; }
+    get byteOffset() { return 0; }
+    get buffer() { return new ArrayBuffer(100); }
+    get [Symbol.toStringTag]() { return 'Float64Array'; }
+    subarray() { return this; }
+    slice() { return this; }
+    indexOf() { return 3; }
+    lastIndexOf() { return 3; }
+  };
+  for (const length of [0, 3, 90, 2 ** 40, NaN]) {
+    const Bytes = lying(length);
+    const of = (text) => Bytes.from(Buffer.from(text));
+    wkt.canonical(`POINT(1 2) ${'what another wrote '.repeat(50)}`, { whole: false });
+    assert.deepEqual(wkt.explain(of('POINT(x 2)')), wkt.explain(bytes('POINT(x 2)')));
+    assert.equal(wkt.canonical(of('point ( 1 2.0 )')), 'POINT(1 2)');
+    assert.ok(wkt.same(of('point ( 1 2.0 )'), 'POINT(1 2)'));
+    assert.deepEqual(wkt.lines(of('POINT(1 2)\nno\nPOINT(3 4)')), bytes('POINT(1 2)\nrefused\nPOINT(3 4)\n'));
+  }
+  const text = bytes('point ( 1 2.0 )');
+  for (const call of ['canonical', 'explain', 'lines']) assert.throws(() => wkt[call](new Proxy(text, {})), TypeError);
+});
+
+test('bytes in memory that is shared, or that changes its size', () => {
+  const shared = new Uint8Array(new SharedArrayBuffer(15));
+  shared.set(bytes('point ( 1 2.0 )'));
+  assert.equal(wkt.canonical(shared), 'POINT(1 2)');
+  assert.equal(wkt.explain(shared.subarray(1)).start, 0);
+  assert.deepEqual(wkt.lines(shared), bytes('POINT(1 2)\n'));
+  if (!('resizable' in ArrayBuffer.prototype)) return; // before Node 20
+  const buffer = new ArrayBuffer(15, { maxByteLength: 30 });
+  const [all, end] = [new Uint8Array(buffer), new Uint8Array(buffer, 10, 5)];
+  all.set(bytes('point ( 1 2.0 )'));
+  assert.equal(wkt.canonical(all), 'POINT(1 2)');
+  buffer.resize(30);
+  assert.equal(wkt.canonical(all, { whole: false }), 'POINT(1 2)');
+  buffer.resize(9);
+  assert.equal(wkt.explain(all).stop, 9);
+  for (const call of ['canonical', 'explain', 'lines', 'reads']) assert.throws(() => wkt[call](end), TypeError, call);
+});
+
 test('a detached buffer is no empty text', () => {
   const data = bytes('POINT(1 2)\n');
   structuredClone(data.buffer, { transfer: [data.buffer] });
@@ -181,7 +248,7 @@ test('columns', () => {
   const { texts, statuses } = wkt.columns(new Set(['point(1 2)', null, 'POINT(3', undefined, bytes('POINT(4 5)'), 'POINT(1 2) x']));
   assert.deepEqual(texts, ['POINT(1 2)', null, null, null, 'POINT(4 5)', null]);
   assert.deepEqual([...statuses], [STATUS.OK, STATUS.NULL, 7, STATUS.NULL, STATUS.OK, STATUS.NOT_WHOLE]);
-  assert.throws(() => wkt.columns([7]), TypeError);
+  for (const texts of [[7], 'POINT(1 2)', 'POINT(1 2)\nPOINT(3 4)', '', bytes('POINT(1 2)'), new Uint8Array(0)]) assert.throws(() => wkt.columns(texts), TypeError);
   assert.deepEqual(wkt.columns([]), { texts: [], statuses: new Uint8Array(0) });
 });
 

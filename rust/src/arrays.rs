@@ -1,6 +1,7 @@
 //! A geometry as flat arrays.
 use crate::error::Error;
 use crate::kinds::{Dimension, GeometryType};
+use crate::memory::room;
 use crate::text::{error_of, known, whole, written, LATER, WHOLE};
 use crate::{ffi, names};
 
@@ -55,10 +56,10 @@ pub(crate) fn arrays_of(text: &str, flags: u32) -> Result<Arrays, Error> {
         ..Default::default()
     };
     loop {
-        let mut numbers = vec![0; sizes.numbers];
-        let mut rings = vec![0; sizes.rings];
-        let mut polygons = vec![0; sizes.polygons];
-        // SAFETY: each pointer goes with the length of its slice, and nothing that is written is borrowed elsewhere.
+        let mut numbers: Vec<i64> = room(sizes.numbers)?;
+        let mut rings: Vec<usize> = room(sizes.rings)?;
+        let mut polygons: Vec<usize> = room(sizes.polygons)?;
+        // SAFETY: each pointer goes with the room of its list, and nothing that is written is borrowed elsewhere.
         let status = unsafe {
             ffi::wkt_arrays(
                 text.as_ptr(),
@@ -66,11 +67,11 @@ pub(crate) fn arrays_of(text: &str, flags: u32) -> Result<Arrays, Error> {
                 flags,
                 &mut sizes,
                 numbers.as_mut_ptr(),
-                numbers.len(),
+                numbers.capacity(),
                 rings.as_mut_ptr(),
-                rings.len(),
+                rings.capacity(),
                 polygons.as_mut_ptr(),
-                polygons.len(),
+                polygons.capacity(),
             )
         };
         match status {
@@ -78,9 +79,12 @@ pub(crate) fn arrays_of(text: &str, flags: u32) -> Result<Arrays, Error> {
             names::TOO_SMALL => continue,
             status => return Err(error_of(status, text, flags)),
         }
-        numbers.truncate(sizes.numbers);
-        rings.truncate(sizes.rings);
-        polygons.truncate(sizes.polygons);
+        // SAFETY: so many of each are written.
+        unsafe {
+            numbers.set_len(sizes.numbers);
+            rings.set_len(sizes.rings);
+            polygons.set_len(sizes.polygons);
+        }
         return Ok(Arrays {
             kind: GeometryType::from_number(sizes.kind).ok_or(LATER)?,
             dimension: Dimension::from_number(sizes.dimension).ok_or(LATER)?,
@@ -111,7 +115,7 @@ impl Arrays {
                 self.polygons.as_ptr(),
                 self.polygons.len(),
                 places,
-                out.as_mut_ptr(),
+                out.as_mut_ptr().cast(),
                 out.len(),
                 needed,
             )

@@ -1,7 +1,9 @@
 //! Columns of texts and of arrays.
 use crate::error::Error;
+use crate::memory::{lengthen, zeros};
 use crate::text::{known, whole, written};
 use crate::{ffi, names};
+use std::mem::MaybeUninit;
 
 /// The canonical texts of a column; by default of no rows.
 #[derive(Debug, Clone, PartialEq, Eq)]
@@ -113,7 +115,7 @@ pub fn canonical_column(
             valid.as_ptr(),
             valid.len(),
             places,
-            out.as_mut_ptr(),
+            out.as_mut_ptr().cast(),
             out.len(),
             column.offsets.as_mut_ptr(),
             column.offsets.len(),
@@ -129,12 +131,12 @@ fn column_of(
     rows: usize,
     offsets: usize,
     likely: usize,
-    mut call: impl FnMut(&mut Column, &mut [u8], &mut usize) -> u32,
+    mut call: impl FnMut(&mut Column, &mut [MaybeUninit<u8>], &mut usize) -> u32,
 ) -> Result<Column, Error> {
     let mut column = Column {
         texts: String::new(),
-        offsets: vec![0; offsets],
-        statuses: vec![0; rows],
+        offsets: zeros(offsets)?,
+        statuses: zeros(rows)?,
     };
     let texts = written(likely, |out, needed| call(&mut column, out, needed));
     column.texts = texts.map_err(Error::of_status)?;
@@ -161,18 +163,20 @@ pub fn arrays_of_column(
     };
     let mut held = ColumnArrays {
         places,
-        kinds: vec![0; rows],
-        dimensions: vec![0; rows],
-        statuses: vec![0; rows],
-        number_offsets: vec![0; offsets.len()],
-        ring_offsets: vec![0; offsets.len()],
-        polygon_offsets: vec![0; offsets.len()],
-        ..Default::default()
+        kinds: zeros(rows)?,
+        dimensions: zeros(rows)?,
+        statuses: zeros(rows)?,
+        number_offsets: zeros(offsets.len())?,
+        ring_offsets: zeros(offsets.len())?,
+        polygon_offsets: zeros(offsets.len())?,
+        numbers: Vec::new(),
+        rings: Vec::new(),
+        polygons: Vec::new(),
     };
     loop {
-        held.numbers.resize(sizes.numbers, 0);
-        held.rings.resize(sizes.rings, 0);
-        held.polygons.resize(sizes.polygons, 0);
+        lengthen(&mut held.numbers, sizes.numbers)?;
+        lengthen(&mut held.rings, sizes.rings)?;
+        lengthen(&mut held.polygons, sizes.polygons)?;
         match fill(texts, offsets, valid, flags, &mut sizes, &mut held) {
             names::OK => {}
             names::TOO_SMALL => continue,
@@ -238,7 +242,7 @@ pub fn texts_of_arrays(arrays: &ColumnArrays) -> Result<Column, Error> {
     if arrays.statuses.len() != rows {
         return Err(Error::NotColumn);
     }
-    let mut valid = vec![0; (rows + 7) / 8];
+    let mut valid: Vec<u8> = zeros((rows + 7) / 8)?;
     for (i, status) in arrays.statuses.iter().enumerate() {
         valid[i / 8] |= u8::from(*status == names::OK) << (i % 8);
     }
@@ -265,7 +269,7 @@ pub fn texts_of_arrays(arrays: &ColumnArrays) -> Result<Column, Error> {
             valid.as_ptr(),
             valid.len(),
             places,
-            out.as_mut_ptr(),
+            out.as_mut_ptr().cast(),
             out.len(),
             column.offsets.as_mut_ptr(),
             column.offsets.len(),

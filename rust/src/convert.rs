@@ -1,5 +1,6 @@
 //! Conversions from and to texts, for any type of geometries.
 use crate::error::Error;
+use crate::memory::{lengthen, zeros};
 use crate::number::WktNum;
 use crate::wkt::Wkt;
 use std::io;
@@ -22,11 +23,24 @@ pub trait TryFromWkt<T>: Sized {
     fn try_from_wkt_reader(wkt_reader: impl io::Read) -> Result<Self, Self::Error>;
 }
 
+// How much of a reader is read at once at first.
+const BLOCK: usize = 4096;
+
 /// All that a reader gives.
 pub(crate) fn text_of(mut reader: impl io::Read) -> Result<String, Error> {
-    let mut bytes = Vec::new();
-    let came = reader.read_to_end(&mut bytes);
-    came.map_err(|error| Error::Reader(error.kind()))?;
+    let (mut bytes, mut held) = (zeros(BLOCK)?, 0);
+    loop {
+        match reader.read(&mut bytes[held..]) {
+            Ok(0) => break,
+            Ok(came) => held += came,
+            Err(error) if error.kind() == io::ErrorKind::Interrupted => {}
+            Err(error) => return Err(error.into()),
+        }
+        if held == bytes.len() {
+            lengthen(&mut bytes, 2 * held)?;
+        }
+    }
+    bytes.truncate(held);
     String::from_utf8(bytes).map_err(|_| Error::NotUtf8)
 }
 
@@ -64,6 +78,10 @@ pub trait ToWkt<T: WktNum> {
 impl<T: WktNum> ToWkt<T> for Wkt<T> {
     fn to_wkt(&self) -> Wkt<T> {
         self.clone()
+    }
+
+    fn write_wkt(&self, mut writer: impl io::Write) -> io::Result<()> {
+        writer.write_all(self.text()?.as_bytes())
     }
 }
 

@@ -1,5 +1,6 @@
 //! Exact decimals.
 use crate::error::{Error, Hint};
+use crate::memory::room;
 use crate::wkt::Wkt;
 use std::fmt;
 use std::str::FromStr;
@@ -230,6 +231,8 @@ pub enum DecimalError {
     Places,
     /// It is too large.
     Large,
+    /// Out of memory.
+    NoMemory,
 }
 
 impl fmt::Display for DecimalError {
@@ -238,6 +241,7 @@ impl fmt::Display for DecimalError {
             DecimalError::NoNumber => "No number in decimal digits",
             DecimalError::Places => "The number has more digits after the point",
             DecimalError::Large => "The number is too large",
+            DecimalError::NoMemory => return Error::NoMemory.fmt(f),
         })
     }
 }
@@ -253,11 +257,16 @@ impl<const PLACES: u8> FromStr for Decimal<PLACES> {
         if !text.bytes().all(is_of_number) {
             return Err(DecimalError::NoNumber);
         }
-        match format!("POINT(0 {text})").parse() {
+        let mut point = room(text.len() + 9).map_err(|_| DecimalError::NoMemory)?;
+        for part in ["POINT(0 ", text, ")"] {
+            point.extend_from_slice(part.as_bytes());
+        }
+        match String::from_utf8_lossy(&point).parse() {
             Ok(Wkt::Point(point)) => point
                 .coord()
                 .map(|coord| coord.y)
                 .ok_or(DecimalError::NoNumber),
+            Err(Error::NoMemory) => Err(DecimalError::NoMemory),
             Err(Error::Refused(why)) => Err(match why.hint {
                 Some(Hint::Places(_)) => DecimalError::Places,
                 Some(Hint::Large | Hint::Fewer) => DecimalError::Large,

@@ -1,4 +1,5 @@
 //! Why a call has no answer.
+use crate::decimal::DecimalError;
 use crate::excerpt::Excerpt;
 use crate::ffi;
 use crate::kinds::GeometryType;
@@ -40,7 +41,11 @@ pub enum Error {
         /// The kind that it is of.
         found: GeometryType,
     },
-    /// A reader failed.
+    /// The header of a text names no kind, by [`infer_type`](crate::infer_type); the words say why.
+    Header(&'static str),
+    /// A text or an `f64` is no decimal.
+    Decimal(DecimalError),
+    /// A reader or a writer failed.
     Reader(std::io::ErrorKind),
     /// Another status of `include/wkt.h`, as a later library may have. It is shown by that library's words.
     Other(u32),
@@ -84,12 +89,19 @@ impl Error {
 impl fmt::Display for Error {
     fn fmt(&self, f: &mut fmt::Formatter<'_>) -> fmt::Result {
         let status = match self {
-            Error::Refused(refusal) => return refusal.fmt(f),
-            Error::NoForm(words) => return f.write_str(words),
+            Error::Refused(refusal) => {
+                refusal.fmt(f)?;
+                return match refusal.places {
+                    Some(places) => write!(f, "; places = {places} reads it"),
+                    None => Ok(()),
+                };
+            }
+            Error::NoForm(words) | Error::Header(words) => return f.write_str(words),
+            Error::Decimal(error) => return error.fmt(f),
             Error::MismatchedGeometry { expected, found } => {
                 return write!(f, "A {expected} was expected, and not a {found}")
             }
-            Error::Reader(kind) => return write!(f, "The reader failed: {kind}"),
+            Error::Reader(kind) => return write!(f, "Reading or writing failed: {kind}"),
             Error::NotUtf8 => names::NOT_UTF8,
             Error::NoMemory => names::NO_MEMORY,
             Error::NoPlaces => names::NO_PLACES,
@@ -116,10 +128,43 @@ impl From<Infallible> for Error {
     }
 }
 
+impl From<InferError> for Error {
+    fn from(error: InferError) -> Error {
+        match error {
+            InferError::Call(error) => error,
+            InferError::NoKind => Error::Header(HEADER_MESSAGES[1]),
+            InferError::NoSpace => Error::Header(HEADER_MESSAGES[2]),
+            InferError::NoParen => Error::Header(HEADER_MESSAGES[3]),
+        }
+    }
+}
+
+impl From<DecimalError> for Error {
+    fn from(error: DecimalError) -> Error {
+        match error {
+            DecimalError::NoMemory => Error::NoMemory,
+            error => Error::Decimal(error),
+        }
+    }
+}
+
+/// The error of this crate that it holds, as that of [`stream`](crate::stream); else `Reader`.
+impl From<std::io::Error> for Error {
+    fn from(error: std::io::Error) -> Error {
+        let held = error.get_ref().and_then(|held| held.downcast_ref());
+        match held {
+            Some(held) => *held,
+            None if error.kind() == std::io::ErrorKind::OutOfMemory => Error::NoMemory,
+            None => Error::Reader(error.kind()),
+        }
+    }
+}
+
 impl From<Error> for std::io::Error {
     fn from(error: Error) -> std::io::Error {
         let kind = match error {
-            Error::NoMemory => std::io::ErrorKind::OutOfMemory,
+            // To hold an error takes memory.
+            Error::NoMemory => return std::io::ErrorKind::OutOfMemory.into(),
             Error::NoPlaces => std::io::ErrorKind::InvalidInput,
             Error::NotSupported => std::io::ErrorKind::Unsupported,
             Error::Other(_) => std::io::ErrorKind::Other,
@@ -147,6 +192,9 @@ pub struct Refusal {
     pub expected: Expected,
     /// What the text may come from, where that is known.
     pub hint: Option<Hint>,
+    /// Where a number has too many places or units: with how many places the text is read, if it is with any. An [`Error`] is
+    /// shown with it.
+    pub places: Option<u32>,
     /// The message of the Rust crate `wkt`.
     pub message: &'static str,
     /// Its status in `include/wkt.h`.
@@ -389,12 +437,7 @@ pub enum InferError {
 
 impl fmt::Display for InferError {
     fn fmt(&self, f: &mut fmt::Formatter<'_>) -> fmt::Result {
-        f.write_str(match self {
-            InferError::NoKind => HEADER_MESSAGES[1],
-            InferError::NoSpace => HEADER_MESSAGES[2],
-            InferError::NoParen => HEADER_MESSAGES[3],
-            InferError::Call(error) => return error.fmt(f),
-        })
+        Error::from(*self).fmt(f)
     }
 }
 

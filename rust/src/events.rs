@@ -1,6 +1,7 @@
 //! A text as the library's events.
 use crate::error::Error;
 use crate::ffi::{self, WktUnits};
+use crate::memory::room;
 use crate::names;
 use crate::text::{error_of, whole};
 use std::mem::MaybeUninit;
@@ -36,7 +37,7 @@ pub(crate) fn with_events<R>(
         let mut numbers = [MaybeUninit::uninit(); FEW];
         make(read_events(text, places, &mut events, &mut numbers)?)
     } else {
-        let (mut events, mut numbers) = (Vec::with_capacity(most), Vec::with_capacity(most));
+        let (mut events, mut numbers) = (room(most)?, room(most)?);
         make(read_events(
             text,
             places,

@@ -3,7 +3,7 @@ use crate::names::{DIMENSION_WORDS, KINDS};
 use std::fmt;
 
 /// A kind of geometry. Its number is that of `include/wkt.h`.
-#[derive(Debug, Clone, Copy, PartialEq, Eq, Hash)]
+#[derive(Debug, Clone, Copy, PartialEq, Eq, PartialOrd, Ord, Hash)]
 #[non_exhaustive]
 pub enum GeometryType {
     /// `POINT`.
@@ -48,7 +48,7 @@ impl fmt::Display for GeometryType {
 }
 
 /// The numbers of a coordinate; by default x and y. Its number is that of `include/wkt.h`.
-#[derive(Debug, Clone, Copy, Default, PartialEq, Eq, Hash)]
+#[derive(Debug, Clone, Copy, Default, PartialEq, Eq, PartialOrd, Ord, Hash)]
 #[non_exhaustive]
 pub enum Dimension {
     /// x and y.

@@ -1,5 +1,6 @@
 //! Inputs line by line.
 use crate::error::Error;
+use crate::memory::{lengthen, reserve, zeros};
 use crate::text::{canonical, known, written};
 use crate::{ffi, names};
 use std::io::{self, BufRead, Read, Write};
@@ -18,7 +19,7 @@ pub fn lines(input: &[u8], places: u32) -> Result<String, Error> {
             input.as_ptr(),
             input.len(),
             places,
-            out.as_mut_ptr(),
+            out.as_mut_ptr().cast(),
             out.len(),
             needed,
         )
@@ -35,7 +36,7 @@ const BLOCK: usize = 128 * 1024;
 /// Those of the input and the output. What the library refuses, as `NoPlaces`, is the source of an error.
 pub fn stream(mut input: impl Read, mut output: impl Write, places: u32) -> io::Result<()> {
     let places = known(places)?;
-    let (mut block, mut answers) = (vec![0; BLOCK], vec![0; BLOCK]);
+    let (mut block, mut answers) = (zeros(BLOCK)?, zeros(BLOCK)?);
     let mut held = 0;
     loop {
         let came = match input.read(&mut block[held..]) {
@@ -56,7 +57,7 @@ pub fn stream(mut input: impl Read, mut output: impl Write, places: u32) -> io::
             return output.flush();
         }
         if held == block.len() {
-            block.resize(2 * held, 0);
+            lengthen(&mut block, 2 * held)?;
         }
     }
 }
@@ -82,7 +83,8 @@ fn write_answers(
                 // As long as the answer to a line can be, so that each line is tried twice at most.
                 let end = rest.iter().position(|byte| *byte == b'\n');
                 let most = 2 * end.unwrap_or(rest.len()) + 8;
-                answers.resize(most.max(2 * answers.len()), 0);
+                let len = most.max(2 * answers.len());
+                lengthen(answers, len)?;
             }
             Err(status) => return Err(Error::of_status(status).into()),
         }
@@ -138,7 +140,7 @@ pub struct Lines<R> {
 /// # Ok::<(), std::io::Error>(())
 /// ```
 ///
-/// Its items are `Err` where the reader fails. If it is asked on, the line that it was in goes on where the reader does.
+/// Its items are `Err` where the reader fails, or memory lacks for a line. If it is asked on, the line that it was in goes on where the reader does.
 pub fn read_lines<R: BufRead>(reader: R, places: u32) -> Lines<R> {
     Lines {
         reader,
@@ -148,14 +150,34 @@ pub fn read_lines<R: BufRead>(reader: R, places: u32) -> Lines<R> {
     }
 }
 
+// How much of a line is taken from its reader at once.
+const PIECE: usize = 8 * 1024;
+
+/// Adds what a reader gives, up to the end of a line or its own.
+fn read_line(reader: &mut impl BufRead, line: &mut Vec<u8>) -> io::Result<()> {
+    loop {
+        let most = match reader.fill_buf() {
+            Ok(held) => held.len().min(PIECE),
+            Err(error) if error.kind() == io::ErrorKind::Interrupted => continue,
+            Err(error) => return Err(error),
+        };
+        // So what is read here takes no more memory.
+        reserve(line, most)?;
+        let came = reader.take(most as u64).read_until(b'\n', line)?;
+        if came == 0 || line.ends_with(b"\n") {
+            return Ok(());
+        }
+    }
+}
+
 impl<R: BufRead> Iterator for Lines<R> {
     type Item = io::Result<Result<String, Error>>;
 
     fn next(&mut self) -> Option<Self::Item> {
         // What was read of a line before the reader failed is still there.
-        match self.reader.read_until(b'\n', &mut self.line) {
-            Ok(0) if self.line.is_empty() => return None,
-            Ok(_) => self.number += 1,
+        match read_line(&mut self.reader, &mut self.line) {
+            Ok(()) if self.line.is_empty() => return None,
+            Ok(()) => self.number += 1,
             Err(error) => return Some(Err(error)),
         }
         if self.line.last() == Some(&b'\n') {

@@ -3,6 +3,7 @@ use crate::error::Error;
 use crate::events::{with_events, Events, BEGIN, END};
 use crate::ffi::WktUnits;
 use crate::kinds::{Dimension, GeometryType};
+use crate::memory::{push, room};
 use crate::number::WktNum;
 use crate::text::LATER;
 use crate::types::{
@@ -54,9 +55,9 @@ impl<'a> Events<'a> {
         likely: usize,
         mut part: impl FnMut(&mut Self) -> Result<P, Error>,
     ) -> Result<Vec<P>, Error> {
-        let mut parts = Vec::with_capacity(likely);
+        let mut parts = room(likely)?;
         while self.list.first() != Some(&END) {
-            parts.push(part(self)?);
+            push(&mut parts, part(self)?)?;
         }
         self.ended(parts)
     }
@@ -88,7 +89,7 @@ impl<'a> Events<'a> {
 
     fn line<T: WktNum>(&mut self, dim: Dimension) -> Result<LineString<T>, Error> {
         let numbers = self.list(dim)?;
-        let mut coords = Vec::with_capacity(numbers.len() / dim.size());
+        let mut coords = room(numbers.len() / dim.size())?;
         for numbers in numbers.chunks_exact(dim.size()) {
             coords.push(coord(numbers, dim, self.places).ok_or(Error::TooLarge)?);
         }

@@ -1,14 +1,17 @@
 //! Calls for one text.
 use crate::error::{message, Error, Expected, Hint, InferError, Refusal};
 use crate::kinds::{Dimension, GeometryType};
+use crate::memory::room;
+use crate::number::places_in;
 use crate::{ffi, names};
 use std::ffi::CStr;
+use std::mem::MaybeUninit;
 use std::os::raw::c_char;
 
 /// Added to `places`, which are less, for the C library: a text is to be one geometry as a whole.
 pub(crate) const WHOLE: u32 = 256;
 /// The most places that numbers have.
-const MOST_PLACES: u32 = 36;
+pub(crate) const MOST_PLACES: u32 = 36;
 
 /// The error where a later library names a kind or a dimension that isn't known here.
 pub(crate) const LATER: Error = Error::NoForm("The kind or the dimension is of a later library");
@@ -30,20 +33,22 @@ pub(crate) fn is_refusal(status: u32) -> bool {
     (1..=names::LAST_REFUSAL).contains(&status) || status == names::NOT_WHOLE
 }
 
-/// What a call writes. Where the room is too little, the call says how much it needs. The error is its status.
+/// What a call writes: where it answers OK, so many bytes as it says. Where the room is too little, it says how much it needs.
+/// The error is its status.
 pub(crate) fn written(
     likely: usize,
-    mut call: impl FnMut(&mut [u8], &mut usize) -> u32,
+    mut call: impl FnMut(&mut [MaybeUninit<u8>], &mut usize) -> u32,
 ) -> Result<String, u32> {
-    let mut out = vec![0; likely];
-    let mut needed = 0;
+    let mut needed = likely;
     loop {
-        match call(&mut out, &mut needed) {
+        let mut out = room(needed).map_err(|_| names::NO_MEMORY)?;
+        match call(out.spare_capacity_mut(), &mut needed) {
             names::OK => {
-                out.truncate(needed);
+                // SAFETY: so many bytes are written.
+                unsafe { out.set_len(needed) };
                 return Ok(String::from_utf8(out).expect("a canonical text is ASCII"));
             }
-            names::TOO_SMALL => out.resize(needed, 0),
+            names::TOO_SMALL => {}
             status => return Err(status),
         }
     }
@@ -53,7 +58,7 @@ pub(crate) fn written(
 pub(crate) fn canonical_into(
     text: &[u8],
     places: u32,
-    out: &mut [u8],
+    out: &mut [MaybeUninit<u8>],
     needed: &mut usize,
     end: &mut usize,
 ) -> u32 {
@@ -63,7 +68,7 @@ pub(crate) fn canonical_into(
             text.as_ptr(),
             text.len(),
             places,
-            out.as_mut_ptr(),
+            out.as_mut_ptr().cast(),
             out.len(),
             needed,
             end,
@@ -118,6 +123,7 @@ pub(crate) fn refusal_of(text: &str, places: u32) -> Result<Option<Refusal>, Err
     };
     // SAFETY: as above.
     unsafe { ffi::wkt_hint(text.as_ptr(), text.len(), places, &mut hint) };
+    let hint = Hint::of_number(hint, places % WHOLE);
     let before = &text[..start];
     let line = before.rfind('\n').map_or(before, |at| &before[at + 1..]);
     Ok(Some(Refusal {
@@ -126,10 +132,24 @@ pub(crate) fn refusal_of(text: &str, places: u32) -> Result<Option<Refusal>, Err
         line: before.bytes().filter(|byte| *byte == b'\n').count() as u64 + 1,
         column: line.chars().count() + 1,
         expected,
-        hint: Hint::of_number(hint, places % WHOLE),
+        hint,
+        places: hint.and_then(|hint| fitting_places(text, places, hint)),
         message: message(status),
         status,
     }))
+}
+
+/// With how many places a text is read that has a number with too many places or units; none where it is with none.
+fn fitting_places(text: &str, places: u32, hint: Hint) -> Option<u32> {
+    let fitting = places_in(text);
+    let is_of_places = matches!(hint, Hint::Places(_) | Hint::Large | Hint::Fewer);
+    if !is_of_places || fitting > MOST_PLACES || fitting == places % WHOLE {
+        return None;
+    }
+    match refusal_of(text, places - places % WHOLE + fitting) {
+        Ok(None) => Some(fitting),
+        _ => None,
+    }
 }
 
 /// The one text of the geometry that a text is.

@@ -10,7 +10,7 @@ use crate::write::Written;
 use std::fmt;
 
 /// A coordinate.
-#[derive(Debug, Clone, Copy, Default, PartialEq, Eq, Hash)]
+#[derive(Debug, Clone, Copy, Default, PartialEq, Eq, PartialOrd, Ord, Hash)]
 pub struct Coord<T = f64> {
     /// The first number.
     pub x: T,
@@ -91,7 +91,7 @@ macro_rules! kind {
 }
 
 /// A point, or none.
-#[derive(Debug, Clone, Default, PartialEq, Eq, Hash)]
+#[derive(Debug, Clone, Default, PartialEq, Eq, PartialOrd, Ord, Hash)]
 pub struct Point<T = f64> {
     coord: Option<Coord<T>>,
     dim: Dimension,
@@ -116,7 +116,7 @@ impl<T> Point<T> {
 macro_rules! list {
     ($(#[$doc:meta])* $name:ident, $parts:ident: $part:ty, $all:ident, $from_parts:ident) => {
         $(#[$doc])*
-        #[derive(Debug, Clone, Default, PartialEq, Eq, Hash)]
+        #[derive(Debug, Clone, Default, PartialEq, Eq, PartialOrd, Ord, Hash)]
         pub struct $name<T = f64> {
             $parts: Vec<$part>,
             dim: Dimension,

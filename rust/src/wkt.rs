@@ -25,8 +25,8 @@ use std::str::FromStr;
 /// ```
 ///
 /// Two are equal if they have the same parts. Two that are written in other ways may have one canonical text, as
-/// `POLYGON(EMPTY,(1 2))` and `POLYGON EMPTY`.
-#[derive(Debug, Clone, PartialEq, Eq, Hash)]
+/// `POLYGON(EMPTY,(1 2))` and `POLYGON EMPTY`. They are ordered by kind, and then by their parts.
+#[derive(Debug, Clone, PartialEq, Eq, PartialOrd, Ord, Hash)]
 pub enum Wkt<T = f64> {
     /// A point, or an empty one.
     Point(Point<T>),
@@ -87,14 +87,13 @@ impl<T: WktNum> Wkt<T> {
     /// [`Refused`](Error::Refused), with the place in what [`Display`](fmt::Display) shows: a number is NaN or infinite, has
     /// too many digits, or is missing. `NoMemory`.
     pub fn text(&self) -> Result<String, Error> {
-        let text = self.written();
-        by_places::<T, _>(|places| canonical(&text, places))
+        text_of(self)
     }
 }
 
 /// The geometry that a text is as a whole. A number that its type doesn't hold is refused, or is [`TooLarge`](Error::TooLarge)
-/// for an `i64`; that of an `f64` is the nearest to the decimal, which may have 18 digits after the point, or 30 where no
-/// number is larger than 170 millions.
+/// for an `i64`; that of an `f64` is the nearest to the decimal. Decimals have up to 18 digits after the point there, or as
+/// many as the text needs, up to 36: numbers are below 1.7e38 then, divided by ten to that.
 ///
 /// Collections may stand in one another 200 deep; more are [`NoForm`](Error::NoForm), since to compare, to copy and to drop
 /// such a value takes stack for each level.
@@ -102,8 +101,14 @@ impl<T: WktNum> FromStr for Wkt<T> {
     type Err = Error;
 
     fn from_str(text: &str) -> Result<Self, Error> {
-        by_places::<T, _>(|places| read(text, places))
+        by_places::<T, _>(text, |places| read(text, places))
     }
+}
+
+/// The canonical text of a geometry of any type.
+pub(crate) fn text_of<T: WktNum>(geometry: &impl Written<T>) -> Result<String, Error> {
+    let text = geometry.written()?;
+    by_places::<T, _>(&text, |places| canonical(&text, places))
 }
 
 /// The canonical text. It never fails: of what has none, as of NaN, it shows what [`text`](Wkt::text) refuses.

@@ -1,5 +1,6 @@
 //! Geometries as canonical texts.
 use crate::decimal::{put_units, Digits, DIGITS_END};
+use crate::error::Error;
 use crate::kinds::{Dimension, GeometryType};
 use crate::names::KIND_WORDS;
 use crate::number::WktNum;
@@ -84,17 +85,27 @@ impl fmt::Write for Out<'_> {
     }
 }
 
+/// A string that fails where memory lacks.
+struct Text(String);
+
+impl fmt::Write for Text {
+    fn write_str(&mut self, text: &str) -> fmt::Result {
+        self.0.try_reserve(text.len()).map_err(|_| fmt::Error)?;
+        self.0.push_str(text);
+        Ok(())
+    }
+}
+
 /// A geometry that is written in some way.
 pub(crate) trait Written<T: WktNum> {
     /// Adds its canonical text.
     fn push(&self, out: &mut Out<'_>);
 
-    /// Its text.
-    fn written(&self) -> String {
-        let mut text = String::new();
-        // It never fails for a string.
-        let _ = self.show(&mut text);
-        text
+    /// Its text; it fails where memory lacks.
+    fn written(&self) -> Result<String, Error> {
+        let mut text = Text(String::new());
+        self.show(&mut text).map_err(|_| Error::NoMemory)?;
+        Ok(text.0)
     }
 
     fn show(&self, to: &mut dyn fmt::Write) -> fmt::Result {

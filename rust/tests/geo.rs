@@ -150,6 +150,38 @@ fn collections_in_one_another() {
     ));
 }
 
+/// What the crate `wkt` converts parts and references by.
+#[test]
+fn parts_and_references() {
+    use wkt_proved::types;
+    let at = types::Coord {
+        x: 1.,
+        y: 2.5,
+        z: Some(3.),
+        m: None,
+    };
+    let here: Point<f64> = Point(at.into());
+    assert_eq!(here, point!(x: 1., y: 2.5));
+    let ring = types::LineString::from_coords([at, at]).unwrap();
+    let line = LineString::from(ring.clone());
+    assert_eq!(Geometry::from(&ring), Geometry::from(line.clone()));
+    let polygon = types::Polygon::from_rings([ring.clone()]).unwrap();
+    let one = Polygon::new(line.clone(), vec![]);
+    assert_eq!(Geometry::from(&polygon), Geometry::from(one.clone()));
+    let lines = types::MultiLineString::from_line_strings([ring]).unwrap();
+    assert_eq!(Geometry::from(&lines), MultiLineString(vec![line]).into());
+    let polygons = types::MultiPolygon::from_polygons([polygon]).unwrap();
+    assert_eq!(Geometry::from(&polygons), MultiPolygon(vec![one]).into());
+    let points = types::MultiPoint::from_points([types::Point::from_coord(at)]).unwrap();
+    assert_eq!(
+        Geometry::try_from(&points),
+        Ok(MultiPoint(vec![here]).into())
+    );
+    let error: Result<Geometry<f64>, wkt_proved::geo_types_from_wkt::Error> =
+        (&types::MultiPoint::new(vec![types::Point::default()], types::Dimension::XY)).try_into();
+    assert!(matches!(error, Err(wkt_proved::error::Error::NoForm(_))));
+}
+
 /// A type of its own for each kind, and numbers of both types.
 #[test]
 fn types() {

@@ -150,18 +150,27 @@ fn numbers() {
     assert_eq!(x("POINT(0.100000000000000005 1)"), Ok(0.1));
     assert_eq!(x("POINT(9007199254740993 1)"), Ok(9_007_199_254_740_992.0));
     assert_eq!(x("POINT(-0.0 1)").map(f64::to_bits), Ok(0));
-    // More than 18 places are read where no number is large.
-    assert_eq!(
-        x("POINT(0.0000000000000000000000000000125 1)"),
-        Err(Some(Hint::Places(18)))
-    );
-    assert_eq!(x("POINT(0.000000000000000000000000000012 1)"), Ok(1.2e-29));
-    assert_eq!(
-        x("POINT(0.000000000000000000000000000012 1000000000)"),
-        Err(Some(Hint::Places(18)))
-    );
-    assert_eq!(x("POINT(170000000000000000000 1)"), Ok(1.7e20));
-    assert_eq!(x("POINT(180000000000000000000 1)"), Err(Some(Hint::Large)));
+    // More than 18 places are read where no number is large, and larger numbers where none has many.
+    for (text, want) in [
+        ("POINT(0.0000000000000000000000000000125 1)", 1.25e-29),
+        ("POINT(0.000000000000000000000000000012 100000000)", 1.2e-29),
+        ("POINT(180000000000000000000 1)", 1.8e20),
+        ("POINT(17000000000000000000000000000000000000 .5)", 1.7e37),
+    ] {
+        assert_eq!(x(text), Ok(want));
+    }
+    for (text, hint) in [
+        (
+            "POINT(0.000000000000000000000000000012 1000000000)",
+            Hint::Fewer,
+        ),
+        (
+            "POINT(18000000000000000000000000000000000000 .5)",
+            Hint::Large,
+        ),
+    ] {
+        assert_eq!(x(text), Err(Some(hint)));
+    }
 
     let whole = |text: &str| text.parse::<Wkt<i64>>().map(|wkt| wkt.to_string());
     let limits = "POINT(9223372036854775807 -9223372036854775808)";
@@ -336,7 +345,23 @@ fn nearest_numbers() {
         check("1", &format!("-{whole}.{}", &fraction[..most]));
         check("1", &format!("0.{:0>18}", &fraction[..most]));
     }
-    // The largest numbers.
+    // Beside a number with more places, and the largest ones of each number of places.
+    for number in [
+        "0.00000000000000006123233995736766",
+        "1000.1234567890123456789012345678901",
+    ] {
+        check("1", number);
+        check(number, "-1");
+    }
+    for places in 0..37 {
+        let units = i128::MAX.to_string();
+        let (whole, fraction) = units.split_at(units.len() - places);
+        let least = format!("0.{:0>1$}", 1, places);
+        check(
+            if places == 0 { "1" } else { &least },
+            &format!("-{whole}.{fraction}"),
+        );
+    }
     for number in [
         "170141183460469231731.687303715884105727",
         "-170141183460469231731.687303715884105728",
@@ -351,6 +376,106 @@ fn nearest_numbers() {
     ] {
         check("0.000000000000000000000000000001", number);
     }
+}
+
+/// What is written of two `f64`s is read again as the same, where some number of places holds both of their shortest decimals.
+#[test]
+fn written_numbers() {
+    let mut seed = 7_u64;
+    let mut next = || {
+        seed ^= seed << 13;
+        seed ^= seed >> 7;
+        seed ^= seed << 17;
+        seed
+    };
+    let units = |number: f64, places: usize| {
+        let shown = number.to_string();
+        let (whole, fraction) = shown.split_once('.').unwrap_or((&shown, ""));
+        format!("{whole}{fraction:0<places$}").parse::<i128>()
+    };
+    let places_of = |number: f64| match number.to_string().split_once('.') {
+        Some((_, fraction)) => fraction.len(),
+        None => 0,
+    };
+    let (mut read, mut refused) = (0, 0);
+    for _ in 0..20_000 {
+        let [x, y] = [0, 1].map(|_| {
+            let digits = u32::try_from(next() >> (next() % 32 + 32)).unwrap();
+            let number =
+                f64::from(digits) / 7. * 10_f64.powi(i32::try_from(next() % 60).unwrap() - 40);
+            if next() % 2 == 0 {
+                number
+            } else {
+                -number
+            }
+        });
+        let places = places_of(x).max(places_of(y));
+        let fits = places <= 36 && units(x, places).is_ok() && units(y, places).is_ok();
+        let wkt = Wkt::from(Point::from_coord(at(x, y)));
+        match wkt.text() {
+            Ok(text) => {
+                assert_eq!(text.parse().as_ref(), Ok(&wkt), "{text}");
+                assert!(fits || text != format!("POINT({x} {y})"), "{text}");
+                read += 1;
+            }
+            Err(error) => {
+                assert!(!fits, "{x} {y}: {error}");
+                refused += 1;
+            }
+        }
+    }
+    assert!(read > 5000 && refused > 2000, "{read} {refused}");
+}
+
+/// A refusal of an `f64` says what it was read by: 36 places.
+#[test]
+fn refused_numbers() {
+    for (text, hint) in [
+        (
+            "POINT(1 0.0000000000000000000000000000000000001)",
+            Hint::Places(36),
+        ),
+        (
+            "POINT(0.000000000000000000000000000000000001 171)",
+            Hint::Fewer,
+        ),
+        (
+            "POINT(400000000000000000000000000000000000000 0)",
+            Hint::Large,
+        ),
+    ] {
+        let error = text.parse::<Wkt>().unwrap_err();
+        let why = error.refusal().unwrap();
+        assert_eq!((why.hint, why.places), (Some(hint), None), "{text}");
+    }
+    let error = "POINT(1.1234567890123456789 x)".parse::<Wkt>().unwrap_err();
+    assert_eq!(error.to_string(), "1:29: a second number was expected");
+}
+
+/// Values are sorted by kind, and then by their parts.
+#[test]
+fn order() {
+    let texts = [
+        "POLYGON EMPTY",
+        "POINT(2 1)",
+        "LINESTRING(1 2)",
+        "POINT(1 3)",
+        "POINT EMPTY",
+        "POINT(1 2.5)",
+    ];
+    let values = texts.map(|text| text.parse::<Wkt<Decimal<6>>>().unwrap());
+    let sorted = std::collections::BTreeSet::from(values);
+    let shown: Vec<_> = sorted.iter().map(ToString::to_string).collect();
+    let want = [
+        "POINT EMPTY",
+        "POINT(1 2.5)",
+        "POINT(1 3)",
+        "POINT(2 1)",
+        "LINESTRING(1 2)",
+        "POLYGON EMPTY",
+    ];
+    assert_eq!(shown, want);
+    assert!(Dimension::XY < Dimension::XYZ && GeometryType::Point < GeometryType::Polygon);
 }
 
 /// Texts of all lengths, so that short lists and long ones are read.

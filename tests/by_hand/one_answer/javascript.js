@@ -52,7 +52,7 @@ function single(sort, n, text, row) {
   say(`explain.${sort}`, n, answer(() => explained(text, wkt.explain(text, asked))));
   say(`same.${sort}`, n, answer(() => (wkt.same(text, row.other, asked) ? 't' : 'f'), () => '!'));
   say(`infer.${sort}`, n, answer(() => Object.values(wkt.infer(text)).join(' ')));
-  say(`front.${sort}`, n, answer(() => { const { canonical, end } = wkt.front(text, asked); return `${end} ${canonical}`; }));
+  say(`front.${sort}`, n, answer(() => { const { canonical, end } = wkt.front(text, { places: asked.places, dialect: asked.dialect }); return `${end} ${canonical}`; }));
   const made = answer(() => wkt.arrays(text, asked));
   if (typeof made === 'string') return say(`arrays.${sort}`, n, made);
   say(`arrays.${sort}`, n, `${made.kind} ${made.dimension} ${made.numbers.join()} ${made.rings.join()} ${made.polygons.join()}`);
@@ -66,19 +66,20 @@ for (const row of rows) {
 const plain = rows.filter((row) => row.dialects === '');
 for (const key of new Set(plain.map((row) => `${row.places} ${row.whole}`))) {
   const group = plain.filter((row) => `${row.places} ${row.whole}` === key);
-  const asked = { places: group[0].places, whole: group[0].whole };
+  const { places, whole } = group[0];
+  const asked = { places, whole };
   const held = wkt.columns(group.map((row) => row.text ?? row.bytes), asked);
   group.forEach((row, i) => say('canonical.columns', row.n, held.statuses[i] ? `!${held.statuses[i]}` : held.texts[i]));
   const input = Buffer.concat(group.map((row) => Buffer.from(`${Buffer.from(row.bytes).toString('latin1').replaceAll('\n', ' ')}\n`, 'latin1')));
   const answers = (bytes) => Buffer.from(bytes).toString('latin1').split('\n');
-  answers(wkt.lines(new Uint8Array(input), asked)).slice(0, -1).forEach((text, i) => say('line.bytes', group[i].n, text));
+  answers(wkt.lines(new Uint8Array(input), { places })).slice(0, -1).forEach((text, i) => say('line.bytes', group[i].n, text));
   const strings = group.filter((row) => row.text !== null);
   const joined = strings.map((row) => `${row.text.replaceAll('\n', ' ')}\n`).join('');
-  wkt.lines(joined, asked).split('\n').slice(0, -1).forEach((text, i) => say('line.string', strings[i].n, text));
+  wkt.lines(joined, { places }).split('\n').slice(0, -1).forEach((text, i) => say('line.string', strings[i].n, text));
   const pieces = [];
   for (let at = 0; at < input.length; at += 1400) pieces.push(new Uint8Array(input.subarray(at, at + 1400)));
   const parts = [];
-  for await (const part of Readable.toWeb(Readable.from(pieces)).pipeThrough(wkt.lineStream(asked))) parts.push(Buffer.from(part));
+  for await (const part of Readable.toWeb(Readable.from(pieces)).pipeThrough(wkt.lineStream({ places }))) parts.push(Buffer.from(part));
   answers(Buffer.concat(parts)).slice(0, -1).forEach((text, i) => say('line.stream', group[i].n, text));
 }
 process.stdout.write(out.join(''));
