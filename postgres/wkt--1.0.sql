@@ -137,6 +137,31 @@ CREATE FUNCTION @extschema@.wkt_bounds(@extschema@.wkt, OUT min_x pg_catalog.num
     OUT min_m pg_catalog.numeric, OUT max_m pg_catalog.numeric) RETURNS pg_catalog.record
     AS 'MODULE_PATHNAME', 'pg_wkt_bounds' LANGUAGE C IMMUTABLE STRICT PARALLEL SAFE COST 20;
 COMMENT ON FUNCTION @extschema@.wkt_bounds(@extschema@.wkt) IS 'the least and the greatest number of each axis; null where there is none';
+-- The same as doubles: the nearest of points, and of bounds the nearest that isn't within them.
+CREATE FUNCTION @extschema@.wkt_x(@extschema@.wkt) RETURNS pg_catalog.float8
+    AS 'MODULE_PATHNAME', 'pg_wkt_x' LANGUAGE C IMMUTABLE STRICT PARALLEL SAFE;
+COMMENT ON FUNCTION @extschema@.wkt_x(@extschema@.wkt) IS 'x of a point, as the nearest double; null where it has none';
+CREATE FUNCTION @extschema@.wkt_y(@extschema@.wkt) RETURNS pg_catalog.float8
+    AS 'MODULE_PATHNAME', 'pg_wkt_y' LANGUAGE C IMMUTABLE STRICT PARALLEL SAFE;
+COMMENT ON FUNCTION @extschema@.wkt_y(@extschema@.wkt) IS 'y of a point, as the nearest double; null where it has none';
+CREATE FUNCTION @extschema@.wkt_z(@extschema@.wkt) RETURNS pg_catalog.float8
+    AS 'MODULE_PATHNAME', 'pg_wkt_z' LANGUAGE C IMMUTABLE STRICT PARALLEL SAFE;
+COMMENT ON FUNCTION @extschema@.wkt_z(@extschema@.wkt) IS 'z of a point, as the nearest double; null where it has none';
+CREATE FUNCTION @extschema@.wkt_m(@extschema@.wkt) RETURNS pg_catalog.float8
+    AS 'MODULE_PATHNAME', 'pg_wkt_m' LANGUAGE C IMMUTABLE STRICT PARALLEL SAFE;
+COMMENT ON FUNCTION @extschema@.wkt_m(@extschema@.wkt) IS 'm of a point, as the nearest double; null where it has none';
+CREATE FUNCTION @extschema@.wkt_points_float8(@extschema@.wkt, OUT path pg_catalog.int4[],
+    OUT x pg_catalog.float8, OUT y pg_catalog.float8, OUT z pg_catalog.float8, OUT m pg_catalog.float8) RETURNS SETOF pg_catalog.record
+    AS 'MODULE_PATHNAME', 'pg_wkt_points_float8' LANGUAGE C IMMUTABLE STRICT PARALLEL SAFE COST 100;
+COMMENT ON FUNCTION @extschema@.wkt_points_float8(@extschema@.wkt) IS 'the points of a value, a row each, as the nearest doubles';
+CREATE FUNCTION @extschema@.wkt_bounds_float8(@extschema@.wkt, OUT min_x pg_catalog.float8, OUT min_y pg_catalog.float8,
+    OUT max_x pg_catalog.float8, OUT max_y pg_catalog.float8, OUT min_z pg_catalog.float8, OUT max_z pg_catalog.float8,
+    OUT min_m pg_catalog.float8, OUT max_m pg_catalog.float8) RETURNS pg_catalog.record
+    AS 'MODULE_PATHNAME', 'pg_wkt_bounds_float8' LANGUAGE C IMMUTABLE STRICT PARALLEL SAFE COST 20;
+COMMENT ON FUNCTION @extschema@.wkt_bounds_float8(@extschema@.wkt) IS 'the bounds of each axis, rounded outwards to doubles; null where there are none';
+CREATE FUNCTION @extschema@.wkt_box(@extschema@.wkt) RETURNS pg_catalog.box
+    AS 'MODULE_PATHNAME', 'pg_wkt_box' LANGUAGE C IMMUTABLE STRICT PARALLEL SAFE COST 20;
+COMMENT ON FUNCTION @extschema@.wkt_box(@extschema@.wkt) IS 'the bounds of x and y, rounded outwards; null where there is no point';
 
 -- A text that is read once: its value, or what wkt_explain says of it.
 CREATE FUNCTION @extschema@.wkt_read(pg_catalog.text, places pg_catalog.int4 DEFAULT 18, OUT value @extschema@.wkt,

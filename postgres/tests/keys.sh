@@ -38,6 +38,20 @@ is "dialects: an empty list has one" 0 "$(ask keys "select count(*) from dialect
 is "dialects: the type takes one" 0 "$(ask keys "select count(*) from dialects where by_type(t, 18) <> 'refused' and not exists (select from generate_series(0, 18) p where wkt_reads(t, p))")"
 echo "dialects: $(wc -l < "$dir/dialects") texts"
 
+# Numbers as doubles: the nearest, and of bounds the nearest outside of them. Those of more places are none of the type, which
+# a cast of a text without reading brings in.
+grep -v '^#' "$here/../tests/data/doubles.tsv" > "$dir/doubles"
+chmod 644 "$dir/doubles"
+ask keys "create table doubles (number text, below float8, nearest float8, above float8)" "copy doubles from '$dir/doubles'" \
+    "create function as_value(text) returns wkt language internal immutable strict as 'textsend'" \
+    "create table double_points as select *, as_value(format('POINT ZM(%1\$s %1\$s %1\$s %1\$s)', number)) at from doubles"
+is "doubles: others than those of the table" "" "$(ask keys "select d.number, p, b from double_points d, wkt_points_float8(at) p, wkt_bounds_float8(at) b
+    where (nearest, nearest, nearest, nearest) is distinct from (x, y, z, p.m) or (wkt_x(at), wkt_y(at), wkt_z(at), wkt_m(at)) is distinct from (x, y, z, p.m)
+        or (below, below, above, above, below, above, below, above) is distinct from (min_x, min_y, max_x, max_y, min_z, max_z, min_m, max_m)")"
+is "doubles: other boxes" "" "$(ask keys "select number, wkt_box(at) from double_points where array[((wkt_box(at))[0])[0], ((wkt_box(at))[1])[1]] <> array[above, below]")"
+is "doubles: others than those of numeric" 0 "$(ask keys "select count(*) from double_points, wkt_points(at) p where p.x::float8 <> wkt_x(at)")"
+echo "doubles: $(wc -l < "$dir/doubles") numbers"
+
 # The keys that stores keep: a text with more after its geometry is refused here, and any other has its key.
 if [ -f "$here/../tests/data/keys.tsv" ]; then
     grep -v '^#' "$here/../tests/data/keys.tsv" | sed 's/\\/\\\\/g' > "$dir/kept"

@@ -17,12 +17,14 @@ is "queries: refused" "2 8 expected_y,4  " "$(ask page "select format('%s %s %s'
 # A text that is too long is refused by the domain before the generated column reads it.
 fails page "insert into received values (repeat('x', 1000001))" 'value for domain short_text violates check constraint'
 is "queries: a short text" "POINT(1 2)" "$(ask page "insert into received values ('point(1.0 2)') returning key")"
-# Extents: exact, by the index, and nothing for what is empty.
-ask page "insert into places select 10 + n, at::wkt from unnest('{POINT EMPTY,MULTIPOINT(EMPTY),\"LINESTRING(5.000001 0,6 1)\",\"POLYGON((-1 5,-2 6,0 7,-1 5))\",\"POLYGON((0 5,9 5,9 9,0 5))\"}'::text[])
+# Boxes: by the index, nothing for what is empty, and with wkt_bounds exact.
+ask page "insert into places select 10 + n, at::wkt from unnest('{POINT EMPTY,MULTIPOINT(EMPTY),\"LINESTRING(5.000001 0,6 1)\",\"POLYGON((-1 5,-2 6,0 7,-1 5))\",\"POLYGON((0 5,9 5,9 9,0 5))\",\"POINT(5.000002 5)\"}'::text[])
     with ordinality a(at, n)"
-extents="from places where (extent(at)).x && '[0,5]' and (extent(at)).y && '[0,5]'"
-is "queries: extents" "1 1 14 15" "$(ask page "set enable_seqscan = off" "select id $extents order by id" | paste -sd ' ')"
-[[ $(ask page "set enable_seqscan = off" "explain select id $extents") == *"Index Scan using places_x_y_idx"* ]] || wrong "queries: extents without their index"
+boxes=$(sed -n "s/^SELECT id FROM \(places.* && '(0,0),(5,5)'.*\);$/\1/p" "$here/README.md")
+is "queries: boxes" "1 1 13 14 15,1 1 14 15" "$(while read -r from; do ask page "set enable_seqscan = off" "select id from $from order by id" | paste -sd ' '; done <<< "$boxes" | paste -sd ,)"
+while read -r from; do
+    [[ $(ask page "set enable_seqscan = off" "explain select id from $from") == *"Index Scan "*"places_wkt_box_idx"* ]] || wrong "queries: boxes without their index: $from"
+done <<< "$boxes"
 # How long all paths of a value are, where they take most, as SECURITY.md says.
 for shape in "points LINESTRING 5000" "each MULTIPOINT 3333"; do
     read -r call kind rows <<< "$shape"
