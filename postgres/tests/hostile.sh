@@ -59,7 +59,7 @@ ask open "create table secrets (who text, t text, at wkt)" "insert into secrets 
     "create view seen with (security_barrier) as select * from secrets where who = current_user" "grant select on seen to stranger"
 is "hostile: a view" "POINT(1 2)" "$(stranger "select wkt_canonical(t) from seen where wkt_canonical(t) <> '' and wkt_same(t, 'POINT(1 2)') and t::wkt = at")"
 [[ $(stranger "explain select * from seen where at = 'POINT(5 6)'") == *"Index Cond: (at = "* ]] || wrong "hostile: a comparison behind a view uses no index"
-for sql in "drop function wkt_canonical(text, int)" "alter type wkt rename to other" "create cast (bytea as wkt) without function" "create function mine(text) returns text as '\$libdir/wkt', 'pg_wkt_out' language c" \
+for sql in "drop function wkt_canonical(text, int, text)" "alter type wkt rename to other" "create cast (bytea as wkt) without function" "create function mine(text) returns text as '\$libdir/wkt', 'pg_wkt_out' language c" \
     "create type mine" "alter operator family wkt_ops using btree add function 1 (wkt, text) btint4cmp(int, int)"; do
     said=$(stranger "$sql" 2>&1) && [[ $sql == "create type mine" ]] || [[ $said == *"must be"* || $said == *"denied"* ]] || wrong "hostile: $sql: $said"
 done

@@ -74,8 +74,8 @@ tenant 'create schema "Big Place"' "create schema \"it's \"\"here\"" 'create ext
 is "tenant: quoted schemas" "t|t" "$(used '"Big Place"')"
 PGUSER=tenant fails rented "set search_path = \"Big Place\", \"it's \"\"here\"; select wkt('POINT(1 2)'::text)" 'function wkt(text) does not exist'
 PGUSER=tenant fails rented 'alter extension wkt set schema m' 'does not support SET SCHEMA'
-PGUSER=tenant fails rented 'drop function "Big Place".wkt_canonical(text, int)' 'requires it'
-PGUSER=tenant fails rented "create or replace function \"Big Place\".wkt_canonical(text, places int default 18) returns text language sql return ''" 'must be owner of function'
+PGUSER=tenant fails rented 'drop function "Big Place".wkt_canonical(text, int, text)' 'requires it'
+PGUSER=tenant fails rented "create or replace function \"Big Place\".wkt_canonical(text, places int default 18, dialect text default '') returns text language sql return ''" 'must be owner of function'
 tenant "drop extension wkt_postgis" "drop extension wkt"
 PGUSER=tenant fails rented "create extension wkt schema \"it's \"\"here\"" 'must not contain any of'
 ask postgres "drop database rented" "drop role tenant"
