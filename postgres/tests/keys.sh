@@ -16,7 +16,7 @@ of_type="coalesce((select k from generate_series(least(places, 18), 0, -1) p, by
 is "rules: rows of the table that have another key" "" "$(ask keys "select * from (select *, by_text(t, places), by_type(t, places) from rules) r where key <> by_text or by_type <> $of_type")"
 is "rules: a row is read exactly if it has a key" 0 "$(ask keys "select count(*) from rules where wkt_reads(t, places) <> (key <> 'refused')")"
 is "rules: a row is null exactly if it is refused, and has an explanation" 0 "$(ask keys "select count(*) from rules
-    where (places <= 18 and coalesce(wkt_or_null(t, least(places, 18))::text, 'refused') <> key) or (wkt_explain(t, places) is null) <> (key <> 'refused')")"
+    where (places <= 18 and coalesce(wkt_or_null(t, least(places, 18))::text, 'refused') <> by_type(t, places)) or (wkt_explain(t, places) is null) <> (key <> 'refused')")"
 is "rules: two rows are the same exactly if their keys are" 0 "$(ask keys "select count(*) from rules a, rules b
     where a.key <> 'refused' and b.key <> 'refused' and a.places = b.places and wkt_same(a.t, b.t, a.places) <> (a.key = b.key)")"
 echo "rules: $(wc -l < "$dir/rules") keys"
@@ -29,8 +29,9 @@ ask keys "create table dialects (dialect text, places int, t text, srid int, key
          \$\$ begin return wkt_canonical(t, places, dialect); exception when invalid_text_representation then return 'refused'; end \$\$"
 is "dialects: rows of the table that have another key, SRID or place" "" "$(ask keys "select d, answer, wkt_srid(t), e.place from dialects d, in_dialect(t, places, dialect) answer, wkt_explain(t, places, dialect) e
     where key <> answer or srid is distinct from wkt_srid(t) or d.place is distinct from e.place or wkt_reads(t, places, dialect) <> (key <> 'refused')")"
+of_fewer="coalesce((select k from generate_series(places, 0, -1) p, in_dialect(t, p, dialect) k where k <> 'refused' limit 1), 'refused')"
 is "dialects: rows that wkt_or_null and wkt_read answer otherwise" "" "$(ask keys "select d, r from dialects d, wkt_read(t, least(places, 18), dialect) r
-    where places <= 18 and ((coalesce(value::text, 'refused'), r.place) is distinct from (key, d.place) or value is distinct from wkt_or_null(t, places, dialect))")"
+    where places <= 18 and ((coalesce(value::text, 'refused'), r.place) is distinct from ($of_fewer, case when value is null then d.place end) or value is distinct from wkt_or_null(t, places, dialect))")"
 is "dialects: two rows are the same exactly if their keys are" 0 "$(ask keys "select count(*) from dialects a, dialects b
     where a.key <> 'refused' and b.key <> 'refused' and wkt_same(a.t, b.t, 0, 'ewkt,exponents,nan') <> (a.key = b.key) and wkt_reads(a.t, 0, 'ewkt,exponents,nan') and wkt_reads(b.t, 0, 'ewkt,exponents,nan')")"
 is "dialects: what is read without one has another key in all" 0 "$(ask keys "select count(*) from rules where key <> 'refused' and wkt_canonical(t, places, 'ewkt,exponents,nan') <> key")"
