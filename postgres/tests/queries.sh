@@ -41,12 +41,30 @@ fails page "insert into bookings values ('point(1.0 2)', '[2026-01-01 12:00, 202
 fails page "insert into bookings values ($long, '[2026-01-02, infinity)')" "conflicting key value violates exclusion constraint"
 # A foreign table over this server: what is sent there.
 ask page "alter server other options (add host '$PGHOST', set dbname 'page')" "create user mapping for public server other" \
-    "create foreign table elsewhere (id int, at wkt(6)) server other options (table_name 'places')"
+    "create foreign table elsewhere (id int, at wkt(6), t text, kind text) server other options (table_name 'places')"
 sent() { ask page "explain (verbose, costs off) $1" | sed -n 's/.*Remote SQL: //p'; }
 for asked in "at = 'point(3.0 4)'|WHERE ((at OPERATOR(public.=) 'POINT(3 4)'" "wkt_num_points(at) > 1 order by at|WHERE ((public.wkt_num_points(at) > 1)) ORDER BY at"; do
     [[ $(sent "select at from elsewhere where ${asked%|*}") == *"${asked#*|}"* ]] || wrong "queries: not sent: $asked: $(sent "select at from elsewhere where ${asked%|*}")"
 done
+sent_where() { sent "select id from elsewhere where $1" | sed -n 's/.* WHERE //p'; }
+while IFS='|' read -r asked told; do is "queries: sent of $asked" "$told" "$(sent_where "$asked")"; done <<'CONDITIONS'
+wkt_box(at) && '(1,1),(2,2)'|((public.wkt_box(at) && '(2,2),(1,1)'::box))
+wkt_x(at) > 3|((public.wkt_x(at) > 3::double precision))
+wkt_same(t, 'POINT(1 2)', dialect => 'ewkt')|(public.wkt_same(t, 'POINT(1 2)'::text, 18, 'ewkt'::text))
+wkt_canonical(t) = 'POINT(1 2)'|((public.wkt_canonical(t, 18, ''::text) = 'POINT(1 2)'::text))
+kind = 'POINT'|((kind = 'POINT'))
+wkt_kind(at) = 'POINT'|
+wkt_version() = '1'|
+at in ('POINT(1 2)', 'POINT(3 4)')|
+at::text like 'POINT%'|
+(wkt_bounds(at)).min_x > 3|
+CONDITIONS
 is "queries: answered from there" "POINT(3 4)" "$(ask page "select at from elsewhere where at = 'point(3.0 4)'")"
+# A function of another role beside these: an error, or the answer to another type, as README.md says.
+ask page "create role planter" "grant create on schema public to planter" "set role planter" "create function wkt_canonical(text) returns text language sql return 'planted'" "create function wkt_reads(varchar) returns bool language sql return true"
+fails page "select wkt_canonical('POINT(1 2)'::text)" "is not unique"
+is "queries: a planted function" "POINT(1 2) f t" "$(ask page "select wkt_canonical('POINT(1 2)', 18), wkt_reads('x'), wkt_reads('x'::varchar)" | tr '|' ' ')"
+ask page "drop owned by planter" "drop role planter"
 # META.json names what is there, in the version of the library.
 meta="'$(sed "s/'/''/g" "$here/META.json")'::jsonb"
 is "META.json: versions" "$(sed -n 's/^#define WKT_VERSION "\(.*\)"/\1/p' "$wkt/wkt.h")" \
