@@ -1,8 +1,9 @@
 /* A number of a canonical text as a double, exactly: the nearest (of two the even one), or the nearest that isn't greater, or
  * that isn't less. SQLite's extension includes this file too.
  *
- * Neither the locale nor the C library has a say in it, but for ldexp. A canonical number has at most 39 digits, of which at
- * most 36 are behind the point, and its units are at most 2^127: so no result is subnormal or infinite. */
+ * The locale has no say in it, and of the C library ldexp alone. The processor rounds to the nearest, as it does unless it is
+ * told otherwise. A canonical number has at most 39 digits, of which at most 36 are behind the point, and its units are at most
+ * 2^127: so no result is subnormal or infinite. */
 #ifndef WKT_DOUBLES_H
 #define WKT_DOUBLES_H
 
@@ -86,7 +87,7 @@ static inline double double_of_small(uint64_t units, int places, Rounding roundi
     return found;
 }
 
-/* The number of so many bytes. */
+/* The number of so many bytes. What is no canonical number gives some double. */
 static inline double double_of(const char *at, size_t length, Rounding rounding) {
     const char *end = at + length, *point = NULL;
     bool is_minus = length > 0 && *at == '-';
@@ -101,7 +102,7 @@ static inline double double_of(const char *at, size_t length, Rounding rounding)
         else
             units = wide_times(units, 10, (uint32_t)(*at - '0'));
     }
-    places = point ? (int)(end - point) : 0;
+    places = point == NULL ? 0 : end - point < 36 ? (int)(end - point) : 36;
     if (is_minus) rounding = (Rounding)-rounding;
     if (FLT_EVAL_METHOD == 0 && units.high == 0 && units.low < (uint64_t)1 << 53 && places <= 19)
         found = double_of_small(units.low, places, rounding);
