@@ -11,15 +11,15 @@ objects="select pg_describe_object(classid, objid, 0), obj_description(objid, cl
 ask postgres "create database created"
 ask created "create extension wkt"
 [ "$(ask created "$objects" | wc -l)" -gt 100 ] || wrong "updates: few objects: $(ask created "$objects")"
-for version in $(ask created "select version from pg_available_extension_versions where name = 'wkt' and not installed"); do
+for from_version in $(ask created "select version from pg_available_extension_versions where name = 'wkt' and not installed"); do
     ask postgres "create database older"
-    ask older "create extension wkt version '$version'" "create table kept as select 'point(1 2.0)'::wkt at"
-    [ "$(ask older "$objects")" != "$(ask created "$objects")" ] || wrong "updates: $version has the objects of the present version"
+    ask older "create extension wkt version '$from_version'" "create table kept as select 'point(1 2.0)'::wkt at"
+    [ "$(ask older "$objects")" != "$(ask created "$objects")" ] || wrong "updates: $from_version has the objects of the present version"
     ask older "alter extension wkt update"
-    is "updates: from $version: other objects" "" "$(diff <(ask created "$objects") <(ask older "$objects"))"
-    is "updates: from $version: contents" "POINT(1 2)|1" "$(ask older "select at, wkt_x(at) from kept")"
+    is "updates: from $from_version: other objects" "" "$(diff <(ask created "$objects") <(ask older "$objects"))"
+    is "updates: from $from_version: contents" "POINT(1 2)|1" "$(ask older "select at, wkt_x(at) from kept")"
     ask postgres "drop database older"
-    tried="${tried:-}, from $version"
+    tried="${tried:-}, from $from_version"
 done
 rm "$folder"/wkt--0.9*
 echo "CREATE FUNCTION wkt_next(text) RETURNS text LANGUAGE sql IMMUTABLE STRICT AS 'SELECT \$1';" > "$folder/wkt--1.0--1.1.sql"
