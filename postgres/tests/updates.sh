@@ -14,7 +14,7 @@ ask created "create extension wkt"
 for from_version in $(ask created "select version from pg_available_extension_versions where name = 'wkt' and not installed"); do
     ask postgres "create database older"
     ask older "create extension wkt version '$from_version'" "create table kept as select 'point(1 2.0)'::wkt at"
-    [ "$(ask older "$objects")" != "$(ask created "$objects")" ] || wrong "updates: $from_version has the objects of the present version"
+    [ "$from_version" != 0.9 ] || [ "$(ask older "$objects")" != "$(ask created "$objects")" ] || wrong "updates: 0.9 has the objects of the present version"
     ask older "alter extension wkt update"
     is "updates: from $from_version: other objects" "" "$(diff <(ask created "$objects") <(ask older "$objects"))"
     is "updates: from $from_version: contents" "POINT(1 2)|1" "$(ask older "select at, wkt_x(at) from kept")"
