@@ -21,9 +21,9 @@ is "queries: a short text" "POINT(1 2)" "$(ask page "insert into received values
 ask page "insert into places select 10 + n, at::wkt from unnest('{POINT EMPTY,MULTIPOINT(EMPTY),\"LINESTRING(5.000001 0,6 1)\",\"POLYGON((-1 5,-2 6,0 7,-1 5))\",\"POLYGON((0 5,9 5,9 9,0 5))\",\"POINT(5.000002 5)\"}'::text[])
     with ordinality a(at, n)"
 boxes=$(sed -n "s/^SELECT id FROM \(places.* && '(0,0),(5,5)'.*\);$/\1/p" "$here/README.md")
-is "queries: boxes" "1 1 13 14 15,1 1 14 15" "$(while read -r from; do ask page "set enable_seqscan = off" "select id from $from order by id" | paste -sd ' '; done <<< "$boxes" | paste -sd ,)"
-while read -r from; do
-    [[ $(ask page "set enable_seqscan = off" "explain select id from $from") == *"Index Scan "*"places_wkt_box_idx"* ]] || wrong "queries: boxes without their index: $from"
+is "queries: boxes" "1 1 13 14 15,1 1 14 15" "$(while read -r tables; do ask page "set enable_seqscan = off" "select id from $tables order by id" | paste -sd ' '; done <<< "$boxes" | paste -sd ,)"
+while read -r tables; do
+    [[ $(ask page "set enable_seqscan = off" "explain select id from $tables") == *"Index Scan "*"places_wkt_box_idx"* ]] || wrong "queries: boxes without their index: $tables"
 done <<< "$boxes"
 # How long all paths of a value are, where they take most, as SECURITY.md says.
 for shape in "points LINESTRING 5000" "each MULTIPOINT 3333"; do

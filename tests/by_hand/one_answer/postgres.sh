@@ -33,8 +33,8 @@ delete from texts where t is null or not whole;
 select 'said.wkt_canonical', n, said(t, places, d) from texts;
 -- The type has 18 places at most, and also takes what fewer places read.
 create table held as select n, wkt_or_null(t, places, d) v, wkt_reads(t, places, d) reads, d from texts where places <= 18;
-select 'held.wkt_or_null', n, left((v is not null)::text, 1) from held where v is null or reads;
-select 'value.wkt_or_null', n, coalesce(v::text, 'null') from held where v is null or reads;
+select 'held.wkt_or_null', n, left((v is not null and reads)::text, 1) from held;
+select 'value.wkt_or_null', n, coalesce(case when reads then v end::text, 'null') from held;
 select 'cast.wkt_or_null', n, left((v is not null)::text, 1) from held where d = '';
 select 'held.wkt_reads', n, left(wkt_reads(t, places, d)::text, 1) from texts;
 select 'held.wkt_explain', n, left((wkt_explain(t, places, d) is null)::text, 1) from texts;
