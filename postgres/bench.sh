@@ -74,6 +74,30 @@ measured "sum(max_x) from wkt_bounds(w)" "$alone" "select sum(max_x) from square
 measured "count(value) from wkt_read(g)" "$alone" "select count(value) from squares, wkt_read(g);"
 measured "count(wkt_or_null(g))" "$alone" "select count(wkt_or_null(g)) from squares;"
 sql -c "drop table squares"
+# The points as both types, and a tenth as many lines of ten points.
+sql -c "create table t (g text)" -c "copy t from '$dir/points'" -c "create table dots as select g::wkt as w, g::geometry as p from t" -c "drop table t" \
+    -c "create table ways as select s::wkt as w, s::geometry as p from (select format('LINESTRING(%s)', string_agg(format('%s %s', x + i * 0.001, y + i * 0.0007), ',')) s
+        from (select n, (random() * 360 - 180)::numeric(9,6) x, (random() * 180 - 90)::numeric(9,6) y from generate_series(1, $((rows / 10))) n) a, generate_series(1, 10) i group by n) b" \
+    -c "analyze dots" -c "analyze ways"
+table "$rows points"
+measured "sum(wkt_x(w))" "$alone" "select sum(wkt_x(w)) from dots;"
+measured "sum(ST_X(p))" "$alone" "select sum(ST_X(p)) from dots;"
+measured "sum(x) from wkt_points_float8(w)" "$alone" "select sum(x) from dots, wkt_points_float8(w);"
+measured "sum(x) from wkt_points(w)" "$alone" "select sum(x) from dots, wkt_points(w);"
+measured "sum(ST_X(d.geom)) from ST_DumpPoints(p) d" "$alone" "select sum(ST_X(d.geom)) from dots, ST_DumpPoints(p) d;"
+measured "sum of the four numbers of wkt_box(w)" "$alone" "select sum((b[0])[0] + (b[0])[1] + (b[1])[0] + (b[1])[1]) from (select wkt_box(w) b from dots offset 0) a;"
+measured "sum of the four of wkt_bounds_float8(w)" "$alone" "select sum(min_x + min_y + max_x + max_y) from dots, wkt_bounds_float8(w);"
+measured "sum of the four of wkt_bounds(w)" "$alone" "select sum(min_x + min_y + max_x + max_y) from dots, wkt_bounds(w);"
+measured "sum of ST_XMin(p) to ST_YMax(p)" "$alone" "select sum(ST_XMin(p) + ST_YMin(p) + ST_XMax(p) + ST_YMax(p)) from dots;"
+for what in dots ways; do
+    table "an index over $(sql -At -c "select count(*) from $what") $what"
+    measured "spgist (wkt_box(w))" "$alone" "create index on $what using spgist (wkt_box(w));"
+    measured "gist (wkt_box(w))" "$alone" "create index on $what using gist (wkt_box(w));"
+    measured "gist (p), PostGIS's" "$alone" "create index on $what using gist (p);"
+    measured "INSERT INTO a table with spgist (wkt_box(w))" "$alone create table other (like $what); create index on other using spgist (wkt_box(w));" "insert into other select * from $what;"
+    measured "INSERT INTO a table with gist (p)" "$alone create table other (like $what); create index on other using gist (p);" "insert into other select * from $what;"
+done
+sql -c "drop table dots, ways"
 for what in points mixed; do
     table "$(wc -l < "$dir/$what") of $what: COPY into"
     copied "text" "g text" $what ""

@@ -1,4 +1,4 @@
-/* What a value holds: its points, its parts, its bounds. */
+/* What a value holds: its points, its parts, its bounds. Numbers are exact, as numeric, or doubles. */
 #include "wkt_pg.h"
 
 #include "catalog/pg_type.h"
@@ -7,7 +7,10 @@
 #include "utils/array.h"
 #include "utils/builtins.h"
 #include "utils/fmgrprotos.h"
+#include "utils/geo_decls.h"
 #include "utils/memutils.h"
+
+#include "doubles.h"
 
 #define SCAN_GROW(old, size) ((old) ? repalloc_huge(old, size) : palloc(size))
 #define SCAN_PAUSE() CHECK_FOR_INTERRUPTS()
@@ -25,9 +28,20 @@ static Datum numeric_of(Span number) {
 }
 
 /* A number as a column, which is null where there is none. */
-static void put_number(Datum *row, bool *nulls, int column, Span number) {
+typedef Datum (*Column)(Span number, Rounding rounding);
+
+static Datum as_numeric(Span number, Rounding rounding) {
+    (void)rounding;
+    return numeric_of(number);
+}
+
+static Datum as_float8(Span number, Rounding rounding) {
+    return Float8GetDatum(double_of(number.at, number.length, rounding));
+}
+
+static void put_number(Datum *row, bool *nulls, int column, Span number, Column as, Rounding rounding) {
     nulls[column] = number.length == 0;
-    row[column] = nulls[column] ? (Datum)0 : numeric_of(number);
+    row[column] = nulls[column] ? (Datum)0 : as(number, rounding);
 }
 
 static Datum path_of(const Scanner *scan) {
@@ -77,8 +91,7 @@ static FuncCallContext *rows_of(FunctionCallInfo fcinfo, Scanner (*begin)(const 
     return SRF_PERCALL_SETUP();
 }
 
-PG_FUNCTION_INFO_V1(pg_wkt_points);
-Datum pg_wkt_points(PG_FUNCTION_ARGS) {
+static Datum points(FunctionCallInfo fcinfo, Column as) {
     FuncCallContext *rows = rows_of(fcinfo, scan_over);
     MemoryContext before = MemoryContextSwitchTo(rows->multi_call_memory_ctx);
     Span numbers[4];
@@ -87,9 +100,15 @@ Datum pg_wkt_points(PG_FUNCTION_ARGS) {
     MemoryContextSwitchTo(before);
     if (!found) SRF_RETURN_DONE(rows);
     row[0] = path_of(rows->user_fctx);
-    for (int i = 0; i < 4; i++) put_number(row, nulls, 1 + i, numbers[i]);
+    for (int i = 0; i < 4; i++) put_number(row, nulls, 1 + i, numbers[i], as, ROUND_NEAREST);
     SRF_RETURN_NEXT(rows, HeapTupleGetDatum(heap_form_tuple(rows->tuple_desc, row, nulls)));
 }
+
+PG_FUNCTION_INFO_V1(pg_wkt_points);
+Datum pg_wkt_points(PG_FUNCTION_ARGS) { return points(fcinfo, as_numeric); }
+
+PG_FUNCTION_INFO_V1(pg_wkt_points_float8);
+Datum pg_wkt_points_float8(PG_FUNCTION_ARGS) { return points(fcinfo, as_float8); }
 
 /* The text of a part: its header, and its body. */
 static text *text_of_part(const char *header, Span body) {
@@ -135,8 +154,7 @@ Datum pg_wkt_num_parts(PG_FUNCTION_ARGS) {
     PG_RETURN_INT32(scan_count_parts(&scan));
 }
 
-PG_FUNCTION_INFO_V1(pg_wkt_bounds);
-Datum pg_wkt_bounds(PG_FUNCTION_ARGS) {
+static Datum bounds(FunctionCallInfo fcinfo, Column as) {
     static const int columns[4] = {0, 1, 4, 6};
     Scanner scan = scan_value(PG_GETARG_TEXT_PP(0));
     Span least[4], greatest[4];
@@ -144,8 +162,51 @@ Datum pg_wkt_bounds(PG_FUNCTION_ARGS) {
     bool nulls[8];
     scan_bounds(&scan, least, greatest);
     for (int i = 0; i < 4; i++) {
-        put_number(row, nulls, columns[i], least[i]);
-        put_number(row, nulls, columns[i] + (i < 2 ? 2 : 1), greatest[i]);
+        put_number(row, nulls, columns[i], least[i], as, ROUND_DOWN);
+        put_number(row, nulls, columns[i] + (i < 2 ? 2 : 1), greatest[i], as, ROUND_UP);
     }
     return row_of(fcinfo, row, nulls);
 }
+
+PG_FUNCTION_INFO_V1(pg_wkt_bounds);
+Datum pg_wkt_bounds(PG_FUNCTION_ARGS) { return bounds(fcinfo, as_numeric); }
+
+PG_FUNCTION_INFO_V1(pg_wkt_bounds_float8);
+Datum pg_wkt_bounds_float8(PG_FUNCTION_ARGS) { return bounds(fcinfo, as_float8); }
+
+/* The bounds of x and y; null where there is no point. */
+PG_FUNCTION_INFO_V1(pg_wkt_box);
+Datum pg_wkt_box(PG_FUNCTION_ARGS) {
+    Scanner scan = scan_value(PG_GETARG_TEXT_PP(0));
+    Span least[4], greatest[4];
+    BOX *box;
+    scan_bounds(&scan, least, greatest);
+    if (least[0].length == 0) PG_RETURN_NULL();
+    box = palloc(sizeof *box);
+    box->low.x = double_of(least[0].at, least[0].length, ROUND_DOWN);
+    box->low.y = double_of(least[1].at, least[1].length, ROUND_DOWN);
+    box->high.x = double_of(greatest[0].at, greatest[0].length, ROUND_UP);
+    box->high.y = double_of(greatest[1].at, greatest[1].length, ROUND_UP);
+    PG_RETURN_BOX_P(box);
+}
+
+/* A number of a point; null where it has none. */
+static Datum coordinate(FunctionCallInfo fcinfo, int axis) {
+    Scanner scan = scan_value(PG_GETARG_TEXT_PP(0));
+    Span numbers[4];
+    scan_header(&scan);
+    if (scan.kind != WKT_POINT)
+        ereport(ERROR, (errcode(ERRCODE_INVALID_PARAMETER_VALUE),
+                        errmsg("a %s has no single x, y, z and m", scan_kinds[scan.kind]),
+                        errhint("wkt_points_float8 has a row for each point.")));
+    if (!scan_point(&scan, numbers) || numbers[axis].length == 0) PG_RETURN_NULL();
+    return as_float8(numbers[axis], ROUND_NEAREST);
+}
+
+#define IS_COORDINATE(name, axis) \
+    PG_FUNCTION_INFO_V1(name); \
+    Datum name(PG_FUNCTION_ARGS) { return coordinate(fcinfo, axis); }
+IS_COORDINATE(pg_wkt_x, 0)
+IS_COORDINATE(pg_wkt_y, 1)
+IS_COORDINATE(pg_wkt_z, 2)
+IS_COORDINATE(pg_wkt_m, 3)

@@ -90,10 +90,10 @@ static bool scan_sees_number(const Scanner *scan) {
     return scan->at < scan->end && (*scan->at == '-' || (*scan->at >= '0' && *scan->at <= '9'));
 }
 
-/* A number of a coordinate, and the space behind it. */
+/* A number of a coordinate, and the space behind it. What may follow a number comes before what it may have. */
 static Span scan_number(Scanner *scan) {
     Span number = {scan->at, 0};
-    while (scan->at < scan->end && *scan->at != ' ' && *scan->at != ',' && *scan->at != ')') scan->at++;
+    while (scan->at < scan->end && ',' < *scan->at) scan->at++;
     number.length = (size_t)(scan->at - number.at);
     if (scan_sees(scan, ' ')) scan->at++;
     return number;
@@ -117,8 +117,9 @@ static int32_t scan_count_points(Scanner *scan) {
 }
 
 static size_t scan_whole_digits(Span number) {
-    const char *point = memchr(number.at, '.', number.length);
-    return point ? (size_t)(point - number.at) : number.length;
+    size_t digits = 0;
+    while (digits < number.length && number.at[digits] != '.') digits++;
+    return digits;
 }
 
 /* Below 0 where the first number is less, above 0 where it is greater. Canonical numbers have no zeros before their first
@@ -142,8 +143,12 @@ static void scan_bounds(Scanner *scan, Span least[4], Span greatest[4]) {
     while (scan_point(scan, numbers))
         for (int i = 0; i < 4; i++) {
             if (numbers[i].length == 0) continue;
-            if (least[i].length == 0 || scan_compare(numbers[i], least[i]) < 0) least[i] = numbers[i];
-            if (greatest[i].length == 0 || scan_compare(numbers[i], greatest[i]) > 0) greatest[i] = numbers[i];
+            if (least[i].length == 0)
+                least[i] = greatest[i] = numbers[i];
+            else if (scan_compare(numbers[i], least[i]) < 0)
+                least[i] = numbers[i];
+            else if (scan_compare(numbers[i], greatest[i]) > 0)
+                greatest[i] = numbers[i];
         }
 }
 

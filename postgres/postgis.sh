@@ -26,6 +26,25 @@ MULTIPOLYGON(((0 0,4 0,2 4,0 0)),((10 10,14 10,12 14,10 10)))
 GEOMETRYCOLLECTION(POINT(1 2),GEOMETRYCOLLECTION(LINESTRING(0 0,1 1)))
 GEOMETRYCOLLECTION EMPTY
 TEXTS
+# What PostGIS changes, and what it refuses.
+while read -r text back; do is "retagged: $text" "$back" "$(ask places "select replace(replace('$text', '_', ' ')::wkt::geometry::wkt::text, ' ', '_')")"; done <<'TEXTS'
+GEOMETRYCOLLECTION(POINT_Z(1_2_3)) GEOMETRYCOLLECTION_Z(POINT_Z(1_2_3))
+GEOMETRYCOLLECTION_Z(POINT_Z(1_2_3),POINT_EMPTY) GEOMETRYCOLLECTION_Z(POINT_Z(1_2_3),POINT_Z_EMPTY)
+GEOMETRYCOLLECTION_Z(GEOMETRYCOLLECTION_EMPTY) GEOMETRYCOLLECTION_Z(GEOMETRYCOLLECTION_Z_EMPTY)
+TEXTS
+while IFS='|' read -r text error; do fails places "select '$text'::wkt::geometry" "$error"; done <<'TEXTS'
+GEOMETRYCOLLECTION(POINT(1 2),POINT Z(1 2 3))|Dimensions mismatch
+GEOMETRYCOLLECTION Z(POINT(1 2))|can not mix dimensionality
+LINESTRING(1 2)|geometry requires more points
+POLYGON((0 0,1 0,0 0))|geometry requires more points
+POLYGON((0 0,1 0,0 1,1 1))|geometry contains non-closed rings
+POLYGON((0 0,1 0,0 1,0 0),EMPTY)|parse error
+TEXTS
+# Null in the place of each refusal; a text is still read as one, and not as a geometry.
+is "or null" "POINT(1 2)|1|1|1|1|1|1" "$(ask places "select wkt_or_null(ST_SetSRID(ST_MakePoint(1, 2), 4326)), count(*) filter (where wkt_or_null(g) is null and n = 1), count(*) filter (where wkt_or_null(g) is null and n = 2),
+    count(*) filter (where wkt_or_null(g) is null and n = 3), count(*) filter (where wkt_or_null(g) is null and n = 4), count(*) filter (where wkt_or_null(g) is null and n = 5), count(*) filter (where wkt_or_null(g) is null and n = 6)
+    from (values (1, 'CIRCULARSTRING(0 0,1 1,2 0)'::geometry), (2, ST_MakePoint('NaN', 2)), (3, ST_MakePoint(0.0012345678901234567, 2)), (4, ST_MakePoint(1e15, 2)), (5, ST_MakePoint(1e-9, 2)), (6, null), (7, 'POINT(1 2)')) v(n, g)")"
+is "or null: of a text" "POINT(0.100000000000000001 2)||POINT(1 2)" "$(ask places "select wkt_or_null('POINT(0.100000000000000001 2)'), wkt_or_null(null), wkt_or_null('POINT(1 2)'::varchar)")"
 is "no SRID comes in" "POINT(1 2)" "$(ask places "select ST_SetSRID('POINT(1 2)'::geometry, 4326)::wkt")"
 is "the geometry has no SRID" 0 "$(ask places "select ST_SRID('POINT(1 2)'::wkt::geometry)")"
 is "a modifier" "POINT(1.5 2)" "$(ask places "select ST_MakePoint(1.5, 2)::wkt(1)")"

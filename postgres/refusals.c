@@ -148,7 +148,7 @@ Datum pg_wkt_read(PG_FUNCTION_ARGS) {
     Datum row[1 + REFUSAL_COLUMNS] = {0};
     bool nulls[1 + REFUSAL_COLUMNS] = {false, true, true, true, true, true};
     text *answer;
-    if (canonical_of(&asked, &answer))
+    if (has_value(&asked, &answer))
         row[0] = PointerGetDatum(answer);
     else {
         Refusal refusal = refusal_of(&asked);

@@ -3,43 +3,25 @@
 -- Each name has its schema, since this runs as a superuser: who owns the extension's schema may have put functions, operators
 -- and types of any name there, and the search path begins with it.
 
--- Over text. places, 0 to 36: how many digits after the point a number may have; nothing is rounded.
-CREATE FUNCTION @extschema@.wkt_canonical(pg_catalog.text, places pg_catalog.int4 DEFAULT 18) RETURNS pg_catalog.text
-    AS 'MODULE_PATHNAME', 'pg_wkt_canonical' LANGUAGE C IMMUTABLE STRICT PARALLEL SAFE COST 10;
-COMMENT ON FUNCTION @extschema@.wkt_canonical(pg_catalog.text, pg_catalog.int4) IS 'the canonical text of a geometry';
-CREATE FUNCTION @extschema@.wkt_same(pg_catalog.text, pg_catalog.text, places pg_catalog.int4 DEFAULT 18) RETURNS pg_catalog.bool
-    AS 'MODULE_PATHNAME', 'pg_wkt_same' LANGUAGE C IMMUTABLE STRICT PARALLEL SAFE COST 20;
-COMMENT ON FUNCTION @extschema@.wkt_same(pg_catalog.text, pg_catalog.text, pg_catalog.int4)
-    IS 'whether two texts have the same canonical text';
-CREATE FUNCTION @extschema@.wkt_reads(pg_catalog.text, places pg_catalog.int4 DEFAULT 18) RETURNS pg_catalog.bool
-    AS 'MODULE_PATHNAME', 'pg_wkt_reads' LANGUAGE C IMMUTABLE STRICT PARALLEL SAFE COST 10;
-COMMENT ON FUNCTION @extschema@.wkt_reads(pg_catalog.text, pg_catalog.int4) IS 'whether a text has a canonical text';
-CREATE FUNCTION @extschema@.wkt_explain(pg_catalog.text, places pg_catalog.int4 DEFAULT 18, OUT place pg_catalog.int4,
-    OUT expected pg_catalog.text, OUT cause pg_catalog.text, OUT hint pg_catalog.text, OUT message pg_catalog.text,
-    OUT shown pg_catalog.text) RETURNS pg_catalog.record
-    AS 'MODULE_PATHNAME', 'pg_wkt_explain' LANGUAGE C IMMUTABLE STRICT PARALLEL SAFE COST 20;
-COMMENT ON FUNCTION @extschema@.wkt_explain(pg_catalog.text, pg_catalog.int4)
-    IS 'where and why a text is refused; null where it is read';
--- The same of texts in dialects, which other tools write: 'ewkt', 'srid,untagged,exponents,nan'. These have no defaults, so
--- that each call of the others stays theirs, and so do indexes over them. An SRID is no part of a geometry.
-CREATE FUNCTION @extschema@.wkt_canonical(pg_catalog.text, places pg_catalog.int4, dialect pg_catalog.text) RETURNS pg_catalog.text
-    AS 'MODULE_PATHNAME', 'pg_wkt_canonical' LANGUAGE C IMMUTABLE STRICT PARALLEL SAFE COST 10;
-COMMENT ON FUNCTION @extschema@.wkt_canonical(pg_catalog.text, pg_catalog.int4, pg_catalog.text)
-    IS 'the canonical text of a geometry in a dialect';
-CREATE FUNCTION @extschema@.wkt_same(pg_catalog.text, pg_catalog.text, places pg_catalog.int4, dialect pg_catalog.text)
-    RETURNS pg_catalog.bool AS 'MODULE_PATHNAME', 'pg_wkt_same' LANGUAGE C IMMUTABLE STRICT PARALLEL SAFE COST 20;
+-- Over text. places, 0 to 36: how many digits after the point a number may have; nothing is rounded. dialect: what other tools
+-- write beyond the grammar, as 'ewkt' or 'srid,untagged,exponents,nan'; an SRID is no part of a geometry.
+CREATE FUNCTION @extschema@.wkt_canonical(pg_catalog.text, places pg_catalog.int4 DEFAULT 18, dialect pg_catalog.text DEFAULT '')
+    RETURNS pg_catalog.text AS 'MODULE_PATHNAME', 'pg_wkt_canonical' LANGUAGE C IMMUTABLE STRICT PARALLEL SAFE COST 10;
+COMMENT ON FUNCTION @extschema@.wkt_canonical(pg_catalog.text, pg_catalog.int4, pg_catalog.text) IS 'the canonical text of a geometry';
+CREATE FUNCTION @extschema@.wkt_same(pg_catalog.text, pg_catalog.text, places pg_catalog.int4 DEFAULT 18,
+    dialect pg_catalog.text DEFAULT '') RETURNS pg_catalog.bool AS 'MODULE_PATHNAME', 'pg_wkt_same' LANGUAGE C IMMUTABLE STRICT PARALLEL SAFE COST 20;
 COMMENT ON FUNCTION @extschema@.wkt_same(pg_catalog.text, pg_catalog.text, pg_catalog.int4, pg_catalog.text)
-    IS 'whether two texts in a dialect have the same canonical text, whatever their SRIDs';
-CREATE FUNCTION @extschema@.wkt_reads(pg_catalog.text, places pg_catalog.int4, dialect pg_catalog.text) RETURNS pg_catalog.bool
-    AS 'MODULE_PATHNAME', 'pg_wkt_reads' LANGUAGE C IMMUTABLE STRICT PARALLEL SAFE COST 10;
-COMMENT ON FUNCTION @extschema@.wkt_reads(pg_catalog.text, pg_catalog.int4, pg_catalog.text)
-    IS 'whether a text in a dialect has a canonical text';
-CREATE FUNCTION @extschema@.wkt_explain(pg_catalog.text, places pg_catalog.int4, dialect pg_catalog.text, OUT place pg_catalog.int4,
+    IS 'whether two texts have the same canonical text, whatever their SRIDs';
+CREATE FUNCTION @extschema@.wkt_reads(pg_catalog.text, places pg_catalog.int4 DEFAULT 18, dialect pg_catalog.text DEFAULT '')
+    RETURNS pg_catalog.bool AS 'MODULE_PATHNAME', 'pg_wkt_reads' LANGUAGE C IMMUTABLE STRICT PARALLEL SAFE COST 10;
+COMMENT ON FUNCTION @extschema@.wkt_reads(pg_catalog.text, pg_catalog.int4, pg_catalog.text) IS 'whether a text has a canonical text';
+CREATE FUNCTION @extschema@.wkt_explain(pg_catalog.text, places pg_catalog.int4 DEFAULT 18, dialect pg_catalog.text DEFAULT '',
+    OUT place pg_catalog.int4,
     OUT expected pg_catalog.text, OUT cause pg_catalog.text, OUT hint pg_catalog.text, OUT message pg_catalog.text,
     OUT shown pg_catalog.text) RETURNS pg_catalog.record
     AS 'MODULE_PATHNAME', 'pg_wkt_explain' LANGUAGE C IMMUTABLE STRICT PARALLEL SAFE COST 20;
 COMMENT ON FUNCTION @extschema@.wkt_explain(pg_catalog.text, pg_catalog.int4, pg_catalog.text)
-    IS 'where and why a text in a dialect is refused; null where it is read';
+    IS 'where and why a text is refused; null where it is read';
 CREATE FUNCTION @extschema@.wkt_srid(pg_catalog.text) RETURNS pg_catalog.int4
     AS 'MODULE_PATHNAME', 'pg_wkt_srid' LANGUAGE C IMMUTABLE STRICT PARALLEL SAFE;
 COMMENT ON FUNCTION @extschema@.wkt_srid(pg_catalog.text) IS 'the number of SRID=..; in front of a text; null where it has none';
@@ -98,13 +80,9 @@ CREATE CAST (pg_catalog.text AS @extschema@.wkt)
 CREATE CAST (@extschema@.wkt AS pg_catalog.text) WITHOUT FUNCTION AS ASSIGNMENT;
 CREATE CAST (@extschema@.wkt AS @extschema@.wkt)
     WITH FUNCTION @extschema@.wkt(@extschema@.wkt, pg_catalog.int4, pg_catalog.bool) AS IMPLICIT;
-CREATE FUNCTION @extschema@.wkt_or_null(pg_catalog.text, places pg_catalog.int4 DEFAULT 18) RETURNS @extschema@.wkt
-    AS 'MODULE_PATHNAME', 'pg_wkt_or_null' LANGUAGE C IMMUTABLE STRICT PARALLEL SAFE COST 10;
-COMMENT ON FUNCTION @extschema@.wkt_or_null(pg_catalog.text, pg_catalog.int4) IS 'the value of a text; null where it is refused';
-CREATE FUNCTION @extschema@.wkt_or_null(pg_catalog.text, places pg_catalog.int4, dialect pg_catalog.text) RETURNS @extschema@.wkt
-    AS 'MODULE_PATHNAME', 'pg_wkt_or_null' LANGUAGE C IMMUTABLE STRICT PARALLEL SAFE COST 10;
-COMMENT ON FUNCTION @extschema@.wkt_or_null(pg_catalog.text, pg_catalog.int4, pg_catalog.text)
-    IS 'the value of a text in a dialect; null where it is refused';
+CREATE FUNCTION @extschema@.wkt_or_null(pg_catalog.text, places pg_catalog.int4 DEFAULT 18, dialect pg_catalog.text DEFAULT '')
+    RETURNS @extschema@.wkt AS 'MODULE_PATHNAME', 'pg_wkt_or_null' LANGUAGE C IMMUTABLE STRICT PARALLEL SAFE COST 10;
+COMMENT ON FUNCTION @extschema@.wkt_or_null(pg_catalog.text, pg_catalog.int4, pg_catalog.text) IS 'the value of a text; null where it is refused';
 CREATE FUNCTION @extschema@.length(@extschema@.wkt) RETURNS pg_catalog.int4
     AS 'byteaoctetlen' LANGUAGE internal IMMUTABLE STRICT PARALLEL SAFE;
 COMMENT ON FUNCTION @extschema@.length(@extschema@.wkt) IS 'the number of characters, which are ASCII';
@@ -137,19 +115,39 @@ CREATE FUNCTION @extschema@.wkt_bounds(@extschema@.wkt, OUT min_x pg_catalog.num
     OUT min_m pg_catalog.numeric, OUT max_m pg_catalog.numeric) RETURNS pg_catalog.record
     AS 'MODULE_PATHNAME', 'pg_wkt_bounds' LANGUAGE C IMMUTABLE STRICT PARALLEL SAFE COST 20;
 COMMENT ON FUNCTION @extschema@.wkt_bounds(@extschema@.wkt) IS 'the least and the greatest number of each axis; null where there is none';
+-- The same as doubles: the nearest of points, and of bounds the nearest that isn't within them.
+CREATE FUNCTION @extschema@.wkt_x(@extschema@.wkt) RETURNS pg_catalog.float8
+    AS 'MODULE_PATHNAME', 'pg_wkt_x' LANGUAGE C IMMUTABLE STRICT PARALLEL SAFE;
+COMMENT ON FUNCTION @extschema@.wkt_x(@extschema@.wkt) IS 'x of a point, as the nearest double; null where it has none';
+CREATE FUNCTION @extschema@.wkt_y(@extschema@.wkt) RETURNS pg_catalog.float8
+    AS 'MODULE_PATHNAME', 'pg_wkt_y' LANGUAGE C IMMUTABLE STRICT PARALLEL SAFE;
+COMMENT ON FUNCTION @extschema@.wkt_y(@extschema@.wkt) IS 'y of a point, as the nearest double; null where it has none';
+CREATE FUNCTION @extschema@.wkt_z(@extschema@.wkt) RETURNS pg_catalog.float8
+    AS 'MODULE_PATHNAME', 'pg_wkt_z' LANGUAGE C IMMUTABLE STRICT PARALLEL SAFE;
+COMMENT ON FUNCTION @extschema@.wkt_z(@extschema@.wkt) IS 'z of a point, as the nearest double; null where it has none';
+CREATE FUNCTION @extschema@.wkt_m(@extschema@.wkt) RETURNS pg_catalog.float8
+    AS 'MODULE_PATHNAME', 'pg_wkt_m' LANGUAGE C IMMUTABLE STRICT PARALLEL SAFE;
+COMMENT ON FUNCTION @extschema@.wkt_m(@extschema@.wkt) IS 'm of a point, as the nearest double; null where it has none';
+CREATE FUNCTION @extschema@.wkt_points_float8(@extschema@.wkt, OUT path pg_catalog.int4[],
+    OUT x pg_catalog.float8, OUT y pg_catalog.float8, OUT z pg_catalog.float8, OUT m pg_catalog.float8) RETURNS SETOF pg_catalog.record
+    AS 'MODULE_PATHNAME', 'pg_wkt_points_float8' LANGUAGE C IMMUTABLE STRICT PARALLEL SAFE COST 100;
+COMMENT ON FUNCTION @extschema@.wkt_points_float8(@extschema@.wkt) IS 'the points of a value, a row each, as the nearest doubles';
+CREATE FUNCTION @extschema@.wkt_bounds_float8(@extschema@.wkt, OUT min_x pg_catalog.float8, OUT min_y pg_catalog.float8,
+    OUT max_x pg_catalog.float8, OUT max_y pg_catalog.float8, OUT min_z pg_catalog.float8, OUT max_z pg_catalog.float8,
+    OUT min_m pg_catalog.float8, OUT max_m pg_catalog.float8) RETURNS pg_catalog.record
+    AS 'MODULE_PATHNAME', 'pg_wkt_bounds_float8' LANGUAGE C IMMUTABLE STRICT PARALLEL SAFE COST 20;
+COMMENT ON FUNCTION @extschema@.wkt_bounds_float8(@extschema@.wkt) IS 'the bounds of each axis, rounded outwards to doubles; null where there are none';
+CREATE FUNCTION @extschema@.wkt_box(@extschema@.wkt) RETURNS pg_catalog.box
+    AS 'MODULE_PATHNAME', 'pg_wkt_box' LANGUAGE C IMMUTABLE STRICT PARALLEL SAFE COST 20;
+COMMENT ON FUNCTION @extschema@.wkt_box(@extschema@.wkt) IS 'the bounds of x and y, rounded outwards; null where there is no point';
 
 -- A text that is read once: its value, or what wkt_explain says of it.
-CREATE FUNCTION @extschema@.wkt_read(pg_catalog.text, places pg_catalog.int4 DEFAULT 18, OUT value @extschema@.wkt,
+CREATE FUNCTION @extschema@.wkt_read(pg_catalog.text, places pg_catalog.int4 DEFAULT 18, dialect pg_catalog.text DEFAULT '',
+    OUT value @extschema@.wkt,
     OUT place pg_catalog.int4, OUT expected pg_catalog.text, OUT cause pg_catalog.text, OUT hint pg_catalog.text,
     OUT message pg_catalog.text) RETURNS pg_catalog.record
     AS 'MODULE_PATHNAME', 'pg_wkt_read' LANGUAGE C IMMUTABLE STRICT PARALLEL SAFE COST 10;
-COMMENT ON FUNCTION @extschema@.wkt_read(pg_catalog.text, pg_catalog.int4) IS 'the value of a text, or why it is refused';
-CREATE FUNCTION @extschema@.wkt_read(pg_catalog.text, places pg_catalog.int4, dialect pg_catalog.text, OUT value @extschema@.wkt,
-    OUT place pg_catalog.int4, OUT expected pg_catalog.text, OUT cause pg_catalog.text, OUT hint pg_catalog.text,
-    OUT message pg_catalog.text) RETURNS pg_catalog.record
-    AS 'MODULE_PATHNAME', 'pg_wkt_read' LANGUAGE C IMMUTABLE STRICT PARALLEL SAFE COST 10;
-COMMENT ON FUNCTION @extschema@.wkt_read(pg_catalog.text, pg_catalog.int4, pg_catalog.text)
-    IS 'the value of a text in a dialect, or why it is refused';
+COMMENT ON FUNCTION @extschema@.wkt_read(pg_catalog.text, pg_catalog.int4, pg_catalog.text) IS 'the value of a text, or why it is refused';
 
 -- Compared by their bytes, in btrees and hashes, by the functions that PostgreSQL has for bytea: equality compares lengths
 -- before it fetches a long value, and no index depends on a collation.

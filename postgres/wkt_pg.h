@@ -76,6 +76,9 @@ static inline uint32_t places_of(int32 places, int32 most) {
     return (uint32_t)places;
 }
 
+/* wkt_type.c */
+extern bool has_value(Question *asked, text **answer);
+
 /* refusals.c */
 extern char *quoted(const char *given, size_t length);
 extern Datum refuse(Node *context, const Question *asked);

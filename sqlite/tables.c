@@ -1,9 +1,10 @@
 /* Table-valued functions: the points, the parts and the bounds of a text. A text that is refused is an error, and a null has
- * no rows. Numbers are texts, since they are exact, and SQLite has no decimals. */
+ * no rows. Numbers are doubles, and beside them the exact texts, since SQLite has no decimals. */
 #include "wkt_sqlite.h"
 SQLITE_EXTENSION_INIT3
 
 #define SCAN_GROW(old, size) sqlite3_realloc64(old, size)
+#include "../postgres/doubles.h"
 #include "../postgres/parts.h"
 
 int points_in(const char *canonical, size_t length) {
@@ -45,8 +46,13 @@ typedef struct Table {
     const Function *function;
 } Table;
 
-static void put_span(sqlite3_context *context, Span span) {
-    if (span.length > 0) sqlite3_result_text64(context, span.at, span.length, SQLITE_TRANSIENT, SQLITE_UTF8);
+/* A number as a double or as its text; null where there is none. */
+static void put_number(sqlite3_context *context, Span number, bool is_text, Rounding rounding) {
+    if (number.length == 0) return;
+    if (is_text)
+        sqlite3_result_text64(context, number.at, number.length, SQLITE_TRANSIENT, SQLITE_UTF8);
+    else
+        sqlite3_result_double(context, double_of(number.at, number.length, rounding));
 }
 
 void put_made(sqlite3_context *context, sqlite3_str *made) {
@@ -75,7 +81,7 @@ static void point_column(Cursor *cursor, sqlite3_context *context, int column) {
     if (column == 0)
         put_path(cursor, context);
     else
-        put_span(context, cursor->numbers[column - 1]);
+        put_number(context, cursor->numbers[(column - 1) % 4], column > 4, ROUND_NEAREST);
 }
 
 static bool next_part(Cursor *cursor) { return scan_part(&cursor->scan, &cursor->part); }
@@ -104,13 +110,20 @@ static bool next_bounds(Cursor *cursor) {
 
 static void bounds_column(Cursor *cursor, sqlite3_context *context, int column) {
     static const int numbers[8] = {0, 1, 4, 5, 2, 6, 3, 7};
-    put_span(context, cursor->numbers[numbers[column]]);
+    int number = numbers[column % 8];
+    put_number(context, cursor->numbers[number], column >= 8, number < 4 ? ROUND_DOWN : ROUND_UP);
 }
 
+/* Their types have numbers compared as numbers, also with a text. */
 static const Function functions[] = {
-    {"wkt_points", "path, x, y, z, m", 5, scan_over, next_point, point_column},
+    {"wkt_points", "path, x REAL, y REAL, z REAL, m REAL, x_text TEXT, y_text TEXT, z_text TEXT, m_text TEXT", 9,
+     scan_over, next_point, point_column},
     {"wkt_each", "path, kind, part", 3, scan_over_parts, next_part, part_column},
-    {"wkt_bounds", "min_x, min_y, max_x, max_y, min_z, max_z, min_m, max_m", 8, scan_over, next_bounds, bounds_column},
+    {"wkt_bounds",
+     "min_x REAL, min_y REAL, max_x REAL, max_y REAL, min_z REAL, max_z REAL, min_m REAL, max_m REAL, min_x_text TEXT, "
+     "min_y_text TEXT, max_x_text TEXT, max_y_text TEXT, min_z_text TEXT, max_z_text TEXT, min_m_text TEXT, max_m_text "
+     "TEXT",
+     16, scan_over, next_bounds, bounds_column},
 };
 
 static int connect(sqlite3 *db, void *function, int count, const char *const *words, sqlite3_vtab **table,

@@ -1,5 +1,7 @@
 """The extension from Python's sqlite3: test.py FOLDER-OF-mod_wkt.so FOLDER-OF-wkt.h REPOSITORY"""
+import math
 import os
+import random
 import re
 import resource
 import sqlite3
@@ -8,7 +10,10 @@ import sys
 import tempfile
 import threading
 import time
+from decimal import Context, Decimal
+from fractions import Fraction
 
+EXACT = Context(prec=60)
 folder, library, repository = sys.argv[1:4]
 
 
@@ -151,7 +156,7 @@ for encoding in ("UTF-16le", "UTF-16be"):
     wide.execute("insert into t values ('point ( 1.0 2 )')")
     same(wide.execute("select key, wkt_reads('PÖINT(1 2)') from t").fetchone(), ("POINT(1 2)", 0))
     same(ask(wide, "wkt_canonical('SRID=1;POINT(1 2 3)', 18, 'ewkt') || wkt_srid('SRID=1;')"), "POINT Z(1 2 3)1")
-    same(wide.execute("select x, path from wkt_points('multipoint(1 2.0)')").fetchone(), ("1", "[1,1]"))
+    same(wide.execute("select x, x_text, path from wkt_points('multipoint(1 2.0)')").fetchone(), (1.0, "1", "[1,1]"))
 for encoding in ("UTF-8", "UTF-16le", "UTF-16be"):
     wide = connect()
     wide.execute(f"pragma encoding = '{encoding}'")
@@ -212,8 +217,8 @@ for dialects, places, text, srid, key, place in table("dialects"):
         assert answer.startswith(f"error: invalid well-known text: at character {place}: "), (asked, answer)
     rows += 1
 assert rows > 120
-with open(repository + "/tests/data/keys.tsv", encoding="utf-8", newline="\n") as table:
-    for row in table:
+with open(repository + "/tests/data/keys.tsv", encoding="utf-8", newline="\n") as kept:
+    for row in kept:
         if not row.startswith("#"):
             text, *keys = row.rstrip("\n").split("\t")
             for places, key in zip((0, 6, 15, 18, 24, 36), keys):
@@ -227,6 +232,49 @@ with open(repository + "/tests/data/keys.tsv", encoding="utf-8", newline="\n") a
                     ), (text, answer)
                 rows += 1
 print("Python:", rows, "keys")
+
+# Numbers as doubles: the nearest, and of bounds the nearest outside of them; beside them the exact texts.
+numbers = 0
+for number, below, nearest, above in table("doubles"):
+    point = f"POINT({number} {number})"
+    places = len(number.partition(".")[2])
+    of_point = db.execute("select x, y, x_text, y_text from wkt_points(?, ?)", (point, places)).fetchone()
+    same(of_point, (float(nearest), float(nearest), number, number))
+    of_bounds = db.execute("select min_x, max_y, min_x_text, max_y_text from wkt_bounds(?, ?)", (point, places))
+    same(of_bounds.fetchone(), (float(below), float(above), number, number))
+    numbers += 1
+assert numbers > 60
+
+
+def drawn(draw):
+    """A number of up to 36 places, as units: of a double's digits, around the middle of two doubles, or of any bits."""
+    places = draw.randrange(37)
+    units = draw.randrange(2 ** draw.randrange(1, 128))
+    if draw.random() < 0.3:
+        places = draw.randrange(1, 18)
+        units = round(draw.uniform(0, 180) * 10**places)
+    elif draw.random() < 0.5:
+        fraction = Fraction(draw.randrange(2**53, 2**54)) * Fraction(2) ** draw.randrange(-160, 74)
+        units = int(fraction * 10**places) + draw.randrange(2)
+    if units >= 2**127:
+        units %= 2**127
+    return (-units if draw.random() < 0.5 else units), places
+
+
+count, seed = int(os.environ.get("NUMBERS", 20_000)), int(os.environ.get("SEED", 1))
+draw = random.Random(seed)
+for _ in range(count):
+    units, places = drawn(draw)
+    exact = Fraction(units, 10**places)
+    nearest = units / 10**places
+    text = f"POINT({Decimal(units).scaleb(-places, EXACT):f} 0)"
+    x, least, greatest = db.execute(
+        "select x, min_x, max_x from wkt_points(?1, ?2), wkt_bounds(?1, ?2)", (text, places)
+    ).fetchone()
+    same(x, nearest)
+    same(least, nearest if nearest <= exact else math.nextafter(nearest, -math.inf))
+    same(greatest, nearest if nearest >= exact else math.nextafter(nearest, math.inf))
+print(f"Python: {numbers + count} numbers as doubles (seed {seed})")
 
 # A canonical text may be many times as long as its text in a dialect, and longer than a text may be.
 powers = "LINESTRING(" + "1e37 2e30," * 100_000 + "0 0)"

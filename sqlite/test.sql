@@ -72,13 +72,24 @@ pragma integrity_check;
 create table shapes (id integer primary key, g text);
 insert into shapes (g) values ('point zm (1 2.50 -3 4)'), ('POINT EMPTY'), ('polygon((0 0,4 0,2 4,0 0),(1 1,2 1,2 2,1 1))'),
     ('MULTIPOINT M(EMPTY,3 4 5)'), ('GEOMETRYCOLLECTION(POINT Z(1 2 3),GEOMETRYCOLLECTION(MULTILINESTRING((0 0,1 1),EMPTY)),POINT M(5 6 7))'), (null);
-select id, path, x, y, z, m, typeof(x) from shapes, wkt_points(g) where id <> 3;
+select id, path, x, y, z, m, typeof(x), x_text, y_text, z_text, m_text, typeof(x_text) from shapes, wkt_points(g) where id <> 3;
 select path, x, y from shapes, wkt_points(g) where id = 3 and path like '[2,%';
 select id, path, kind, part from shapes, wkt_each(g);
 select id, b.* from shapes, wkt_bounds(g) b;
-select min_x, max_x, min_y, max_y from wkt_bounds('linestring(-10 9.5,-9.75 10,-10.25 9.123456789012345678)');
+select min_x_text, max_x_text, min_y_text, max_y_text from wkt_bounds('linestring(-10 9.5,-9.75 10,-10.25 9.123456789012345678)');
+-- Numbers compare as numbers, and the doubles of bounds are outside of them; the texts beside them are exact
+create table sizes (g text);
+insert into sizes values ('POINT(9 1)'), ('POINT(10 1)'), ('POINT(-3 1)'), ('POINT EMPTY');
+select max(max_x), min(min_x), max(x), sum(x), typeof(sum(x)) from sizes, wkt_bounds(g), wkt_points(g);
+select count(*) from sizes, wkt_bounds(g) where max_x > 100;
+select x_text from sizes, wkt_points(g) where x between 1 and 9.5;
+select x_text from sizes, wkt_points(g) where x > '9' order by x desc;
+select x_text from sizes, wkt_points(g) order by x;
+select min_x < 0.1, max_x = 0.1, min_y = 0.3, max_y > 0.3, min_x_text, max_y_text from wkt_bounds('POINT(0.1 0.3)');
+create table plain as select g, b.* from sizes, wkt_bounds(g) b;
+select g from plain where max_x > 9;
 select id, wkt_num_points(g), wkt_num_parts(g), wkt_kind(g), wkt_dimension(g) from shapes;
-select count(*) from wkt_points('POINT(1.5 2)', 1), wkt_each('MULTIPOINT(1 2,3 4)', '6.0') where x = '1.5';
+select count(*) from wkt_points('POINT(1.5 2)', 1), wkt_each('MULTIPOINT(1 2,3 4)', '6.0') where x = 1.5 and x = '1.5' and x_text = 1.5;
 select count(*) from wkt_points;
 select count(*) from wkt_points('POINT(1 2)', null);
 select count(*) from wkt_points('POINT(1 2', 6);
@@ -99,8 +110,8 @@ select wkt_reads('POINT(180 90)', 35), wkt_reads('POINT(180 90)', 36), wkt_or_nu
 select wkt_same('POINT(0.000000000000000000000000000000000001 1)', 'POINT(0 1)', 36), wkt_same('POINT(0.123456789012345678901234 1)', 'point(+0.1234567890123456789012340 1.0)', 24.0);
 select wkt_canonical('POINT(2 180)', 36);
 select wkt_explain('POINT(2 0.1234567890123456789012345)', 24);
-select x, y from wkt_points('POINT(0.000000000000000000000000000000000001 -170)', 36);
-select min_x, max_x from wkt_bounds('LINESTRING(-0.000000000000000000000000000000000001 0,0.000000000000000000000000000000000002 0)', 36);
+select x, y, x_text, y_text from wkt_points('POINT(0.000000000000000000000000000000000001 -170)', 36);
+select min_x, max_x, min_x_text, max_x_text from wkt_bounds('LINESTRING(-0.000000000000000000000000000000000001 0,0.000000000000000000000000000000000002 0)', 36);
 -- Dialects, by their names
 select wkt_canonical('SRID=4326;POINT(1 2.0 3)', 18, 'ewkt'), wkt_canonical('POINT(1e3 5e-5)', 5, 'exponents'), wkt_canonical('POINT(nan nan)', 6, 'nan'), wkt_canonical('POINT(1 2)', 0, '');
 select length(wkt_canonical('POINT(1e37 1)', 0, 'exponents')), wkt_or_null('SRID=1;POINT(1 2)', 6, 'untagged'), wkt_or_null('SRID=1;POINT(1 2)', '6', 'untagged,srid');

@@ -35,8 +35,11 @@ SELECT wkt_or_null('POINT(1 2)', 19, 'srid');
 SELECT wkt_canonical(NULL, 18, 'srid'), wkt_canonical('POINT(1 2)', NULL, 'srid'), wkt_canonical('POINT(1 2)', 18, NULL), wkt_same('POINT(1 2)', 'POINT(1 2)', 18, NULL), wkt_reads('POINT(1 2)', 18, NULL), wkt_explain('POINT(1', 18, NULL), wkt_srid(NULL);
 -- What a planner may do with them
 SELECT oid::regprocedure, provolatile, proisstrict, proparallel, proleakproof, prosecdef FROM pg_proc WHERE 'dialect' = ANY (proargnames) OR proname = 'wkt_srid' ORDER BY oid::regprocedure::text COLLATE "C";
--- Calls without a dialect are those that they were
-SELECT wkt_canonical('POINT(1 2)', '6'), wkt_canonical('POINT(1 2)', places => 6), wkt_same('POINT(1 2)', 'POINT(1 2)', '6'), 'wkt_canonical(text,int)'::regprocedure, 'wkt_explain(text,int)'::regprocedure;
+-- By its name, without places
+SELECT wkt_canonical('SRID=1;POINT(1 2)', dialect => 'ewkt'), wkt_same('SRID=1;POINT(1 2)', 'POINT(1 2)', dialect => 'srid'), wkt_reads('POINT(1e1 2)', dialect => 'exponents'), wkt_or_null('POINT(nan nan)', dialect => 'nan'),
+    (wkt_read('POINT(1 2 3)', dialect => 'untagged')).value, (wkt_explain('SRID=1;POINT(1', dialect => 'srid')).place;
+-- Calls without a dialect
+SELECT wkt_canonical('POINT(1 2)', '6'), wkt_canonical('POINT(1 2)', places => 6), wkt_same('POINT(1 2)', 'POINT(1 2)', '6'), 'wkt_canonical'::regproc;
 -- Keys of a column as it came, and its SRIDs
 CREATE TABLE texts (t text, srid int GENERATED ALWAYS AS (wkt_srid(t)) STORED, key wkt GENERATED ALWAYS AS (wkt_canonical(t, 18, 'ewkt')::wkt) STORED);
 CREATE UNIQUE INDEX ON texts (wkt_canonical(t, 18, 'ewkt'));

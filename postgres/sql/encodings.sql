@@ -5,6 +5,7 @@ CREATE DATABASE wkt_latin1 ENCODING 'LATIN1' LOCALE 'C' TEMPLATE template0;
 CREATE EXTENSION wkt;
 SELECT wkt_canonical('point(1 2.0)'), 'point(1 2.0)'::wkt, wkt_same('POINT(1 2)', 'point(1 2)');
 SELECT octet_length(U&'P\00D6INT'), wkt_reads(U&'P\00D6INT(1 2)'), wkt_kind(U&'POINT(1 2) \00D6') AS kind;
+SELECT wkt_box('linestring(1 2.5,3 4)'), wkt_x('POINT(0.1 2)'), wkt_or_null(U&'POINT(1 2) \00D6', dialect => 'ewkt') IS NULL AS none, wkt_or_null('SRID=1;POINT(2e20 2)', dialect => 'ewkt,exponents');
 SELECT wkt_canonical(U&'P\00D6INT(1 2)');
 SELECT wkt_canonical(U&'GEOMETRYCOLLECTION(POINT(1 2),\00D6\00D6(1 2))');
 SELECT (wkt_explain(U&'POINT(1 2) \00D6\00E9')).shown;

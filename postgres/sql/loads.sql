@@ -6,9 +6,17 @@ SELECT t, r.* FROM (VALUES (1, 'point ( 1.0 2 )'), (2, 'POINT(1)'), (3, 'POINT(1
 SELECT * FROM wkt_read('POINT(1.1234567 2)');
 SELECT * FROM wkt_read('POINT(1 2)', 19);
 SELECT (wkt_read('POINT(1 2)')).value, pg_typeof((wkt_read('POINT(1 2)')).value);
--- It agrees with the other calls
+-- It has the value that a cast has, and so has wkt_or_null: also a number that is too large for the places, if fewer read it
+CREATE FUNCTION casted(t text, places int) RETURNS wkt LANGUAGE plpgsql AS
+    $$ BEGIN RETURN wkt(t, places, false); EXCEPTION WHEN invalid_text_representation THEN RETURN NULL; END $$;
 SELECT count(*) AS others FROM (VALUES ('POINT(1 2)'), ('POINT(1'), ('POINT(1.5 2)'), ('POINT(200000000000000000000 2)'), ('x')) v(t), generate_series(0, 18) p, wkt_read(t, p) r
-    WHERE r.value IS DISTINCT FROM wkt_or_null(t, p) OR (r.place IS NULL) <> wkt_reads(t, p) OR (r.expected IS NULL) <> wkt_reads(t, p);
+    WHERE r.value IS DISTINCT FROM casted(t, p) OR r.value IS DISTINCT FROM wkt_or_null(t, p) OR (r.place IS NULL) <> (r.value IS NOT NULL) OR (r.expected IS NULL) <> (r.value IS NOT NULL);
+SELECT wkt_or_null('POINT(200000000000000000000 0.5)'), wkt_or_null('POINT(200000000000000000000 0.5)', 1), (wkt_read('POINT(200000000000000000000 0.50)')).value, wkt_or_null('POINT(200000000000000000000 0.5)', 0);
+-- The functions over text read with these places alone
+SELECT wkt_reads('POINT(200000000000000000000 2)'), wkt_reads('POINT(200000000000000000000 2)', 6), (wkt_explain('POINT(200000000000000000000 2)')).hint, wkt_canonical(at::text, 6) FROM (VALUES ('POINT(200000000000000000000 2)'::wkt)) v(at);
+-- With exponents too: what 1e21, 2000e17 and 0.5e-1 are counts, and not their digits
+SELECT t, wkt_or_null(t, dialect => 'exponents') FROM (VALUES (1, 'POINT(1e21 2)'), (2, 'POINT(2000e17 0.5e-1)'), (3, 'POINT(2E+20 12.50e-2)'), (4, 'POINT(2e20 1e-18)'), (5, 'POINT(0e99 20000000000000000000000e-1)'), (6, 'POINT(1e39 1)'), (7, 'POINT(1e21 2')) v(n, t) ORDER BY n;
+SELECT t, wkt_or_null(t, dialect => 'ewkt') FROM (VALUES ('SRID=4326;POINT(200000000000000000000 2 0.25)')) v(t);
 -- A load with a table of what is refused
 CREATE TABLE lines (n int GENERATED ALWAYS AS IDENTITY, t text);
 COPY lines (t) FROM stdin;

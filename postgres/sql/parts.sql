@@ -16,6 +16,27 @@ SELECT min_x, max_x FROM wkt_bounds('LINESTRING(170141183460469231731 0,-1701411
 SELECT min_x = min AND max_x = max AS as_numbers FROM (SELECT ('LINESTRING(' || string_agg(format('%s 0', x), ',') || ')')::wkt g, min(x), max(x) FROM
     (SELECT round((hashint4(i) % 1000)::numeric / (1 + abs(hashint4(-i)) % 7), i % 4) x FROM generate_series(1, 200) i) a) b, wkt_bounds(g);
 SELECT id, (wkt_bounds(g)).max_y, wkt_points(g) FROM shapes WHERE id IN (1, 2);
+-- The same as doubles: the nearest of points, and of bounds the nearest outside of them
+SELECT id, p.*, pg_typeof(x) FROM shapes, wkt_points_float8(g) p WHERE id IN (1, 4, 5);
+SELECT id, b.*, wkt_box(g) FROM shapes, wkt_bounds_float8(g) b ORDER BY id;
+SELECT wkt_x('POINT ZM(0.1 -2.5 3 4)'), wkt_y('POINT ZM(0.1 -2.5 3 4)'), wkt_z('POINT ZM(0.1 -2.5 3 4)'), wkt_m('POINT ZM(0.1 -2.5 3 4)'), wkt_x('POINT EMPTY'), wkt_z('POINT M(1 2 3)'), wkt_m('POINT M(1 2 3)');
+SELECT min_x < 0.1 AS below, max_x = 0.1 AS at_it, min_y = 0.3 AS at_it, max_y > 0.3 AS above, wkt_box(g) = box(point(min_x, min_y), point(max_x, max_y)) AS box FROM (VALUES ('POINT(0.1 0.3)'::wkt)) v(g), wkt_bounds_float8(g);
+SELECT wkt_x('MULTIPOINT((1 2))');
+SELECT wkt_m('GEOMETRYCOLLECTION(POINT(1 2))');
+SELECT count(*) AS other_doubles FROM (SELECT i, ('MULTIPOINT(' || string_agg(format('%s %s', round((hashint4(i * j) % 1000)::numeric / 7, i % 19), hashint4(j) % 100), ',') || ')')::wkt g FROM generate_series(1, 200) i, generate_series(1, 5) j GROUP BY i) s,
+    LATERAL (SELECT e.x::float8 <> d.x OR e.y::float8 <> d.y AS differ FROM wkt_points(g) e JOIN wkt_points_float8(g) d USING (path)) p WHERE differ;
+SELECT sum(x), count(*), wkt_box(min(g)) FROM (SELECT ('LINESTRING(' || repeat('0.5 2,', 100000) || '1 1)')::wkt g) s, wkt_points_float8(g);
+-- An index of boxes
+CREATE TABLE boxes AS SELECT i, format('LINESTRING(%s %s,%s %s)', i % 100, i / 100, i % 100 + 0.7, i / 100 + 0.3)::wkt AS at FROM generate_series(0, 9999) i;
+INSERT INTO boxes VALUES (-1, 'POINT EMPTY'), (-2, NULL);
+CREATE INDEX ON boxes USING spgist (wkt_box(at));
+ANALYZE boxes;
+SET enable_seqscan = off;
+EXPLAIN (COSTS OFF) SELECT i FROM boxes WHERE wkt_box(at) && '(10.7,20.3),(11,22)';
+SELECT i FROM boxes WHERE wkt_box(at) && '(10.7,20.3),(11,22)' ORDER BY i;
+SELECT i FROM boxes WHERE wkt_box(at) <@ '(13,31),(11,30)' ORDER BY i;
+RESET enable_seqscan;
+SELECT i FROM boxes WHERE wkt_box(at) && '(10.7,20.3),(11,22)' ORDER BY i;
 -- A part is a value again; a large number keeps its places
 SELECT bool_and(part = part::text::wkt), count(*) FROM shapes, wkt_each(g);
 SELECT part, x FROM wkt_each(('multipoint(200000000000000000000 1)'::text)::wkt(6)), wkt_points(part);

@@ -49,7 +49,7 @@ SELECT t, e.place, e.expected, e.cause, e.hint, e.message FROM (VALUES (1, 'POIN
     (7, 'POINT(1e3 2)'), (8, 'SRID=4326;POINT(1 2)'), (9, 'POINT(1 2 3)'), (10, 'POINT()'), (11, 'LINESTRING(0 0 1 1)'), (12, NULL)) v(id, t), wkt_explain(t, 6) e ORDER BY id;
 SELECT (wkt_explain(t, 6)).cause, count(*) FROM (VALUES ('POINT(1'), ('POINT(1 2)'), ('POINT(2'), ('POINT(1 2) x'), ('POINT(1.1234567 2)'), (NULL)) v(t) GROUP BY 1 ORDER BY 1;
 SELECT count(*) AS others FROM (VALUES ('POINT(1 2)'), ('POINT(1'), ('POINT(1.5 2)'), ('POINT(200000000000000000000 2)'), ('x'), ('POINT(1 2) x')) v(t), generate_series(0, 18) p, wkt_read(t, p) r, wkt_explain(t, p) e
-    WHERE (r.place, r.expected, r.cause, r.hint, r.message) IS DISTINCT FROM (e.place, e.expected, e.cause, e.hint, e.message);
+    WHERE (r.place, r.expected, r.cause, r.hint, r.message) IS DISTINCT FROM (e.place, e.expected, e.cause, e.hint, e.message) AND (r.value IS NULL OR r.place IS NOT NULL);
 SELECT wkt_explain('POINT(1 2)') IS NULL AS is_null, wkt_explain('POINT(1') IS NULL AS is_not;
 -- What isn't printable stands in a message by its number
 SELECT wkt_canonical(E'\x1b[2J\x07\n\tPOINT(1 2)\x7f');

@@ -81,6 +81,8 @@ CREATE TABLE parted_0 PARTITION OF parted FOR VALUES WITH (MODULUS 2, REMAINDER 
 CREATE TABLE parted_1 PARTITION OF parted FOR VALUES WITH (MODULUS 2, REMAINDER 1);
 INSERT INTO parted SELECT at FROM places;
 SELECT count(*) FROM parted WHERE at = 'point(2 1)';
+-- A call of the casts' functions with a null is null, also where the planner leaves out the call
+SELECT wkt(at, 18, b) IS NULL AS wider, wkt(at, 6, b) IS NULL AS same, wkt(at::text, 18, b) IS NULL AS of_text, wkt(at, b::int, true) IS NULL AS places FROM (SELECT at, nullif(id, id)::bool AS b FROM places LIMIT 1 OFFSET 0) a;
 -- Wider places keep the keys; narrower ones are refused where a key has more digits
 ALTER TABLE again ALTER at TYPE wkt(9);
 SELECT md5(string_agg(at::text, ' ' ORDER BY id)) = (SELECT md5(string_agg(at::text, ' ' ORDER BY id)) FROM (TABLE places UNION ALL SELECT 9, 'POINT(9 9)') a) AS the_same FROM again;

@@ -9,7 +9,7 @@ made() {
 }
 before=$(made LDFLAGS= LDFLAGS_SL=)
 is "build: nothing changed" "$before" "$(made)"
-for file in library/wkt.h library/libwkt.a built/wkt_pg.h built/parts.h built/dialects.h built/printable.h built/wkt_type.c; do
+for file in library/wkt.h library/libwkt.a built/wkt_pg.h built/parts.h built/doubles.h built/dialects.h built/printable.h built/wkt_type.c; do
     touch "$dir/$file"
     after=$(made LDFLAGS= LDFLAGS_SL=)
     [ "$after" != "$before" ] || wrong "build: wkt.so isn't made anew after $file changed"

@@ -46,9 +46,9 @@ PGUSER=stranger fails open "set search_path = front, pg_catalog; select 'POINT(1
 ask open "create table kept (at wkt primary key, key text generated always as (wkt_canonical(at::text)) stored, digest bytea generated always as (wkt_digest(at)) stored unique)" \
     "create function called(text) returns text security definer language plpgsql as \$\$ begin insert into public.kept values (\$1::public.wkt) on conflict do nothing;
         return (select pg_catalog.concat_ws(' ', max_x, public.wkt_num_points(at), public.wkt_same(key, \$1), public.wkt_kind(at), (public.wkt_read(\$1)).place, public.wkt_explain(\$1), public.wkt_srid('SRID=4326;' || \$1),
-                public.wkt_same(key, public.wkt_canonical('SRID=1;' || \$1, 18, 'ewkt'), 18, 'nan'))
-            from public.kept, public.wkt_bounds(at) order by at limit 1); end \$\$" "create index on kept using hash (at)"
-is "hostile: functions in front" "2.5 2 t LINESTRING 4326 t" "$(stranger "set search_path = front, pg_catalog" "select public.called('linestring ( 1 2, 2.50 3)')")"
+                public.wkt_same(key, public.wkt_canonical('SRID=1;' || \$1, 18, 'ewkt'), 18, 'nan'), public.wkt_box(at), (select pg_catalog.min(p.y) from public.wkt_points_float8(at) p), public.wkt_x('POINT(7 8)'))
+            from public.kept, public.wkt_bounds(at) order by at limit 1); end \$\$" "create index on kept using hash (at)" "create index on kept using spgist (public.wkt_box(at))"
+is "hostile: functions in front" "2.5 2 t LINESTRING 4326 t (2.5,3),(1,2) 2 7" "$(stranger "set search_path = front, pg_catalog" "select public.called('linestring ( 1 2, 2.50 3)')")"
 is "hostile: a lying operator" "2 2 1" "$(ask open "insert into kept values ('POINT(1 2)')" "grant select on kept to stranger" "set role stranger" "set search_path = front, pg_catalog" \
     "select pg_catalog.count(distinct at), pg_catalog.count(*), (select pg_catalog.count(*) from public.kept where at operator(public.=) 'point(1.0 2)') from public.kept" | tr '|' ' ')"
 is "hostile: is no superuser" f "$(ask open "select rolsuper from pg_roles where rolname = 'stranger'")"
@@ -59,7 +59,7 @@ ask open "create table secrets (who text, t text, at wkt)" "insert into secrets 
     "create view seen with (security_barrier) as select * from secrets where who = current_user" "grant select on seen to stranger"
 is "hostile: a view" "POINT(1 2)" "$(stranger "select wkt_canonical(t) from seen where wkt_canonical(t) <> '' and wkt_same(t, 'POINT(1 2)') and t::wkt = at")"
 [[ $(stranger "explain select * from seen where at = 'POINT(5 6)'") == *"Index Cond: (at = "* ]] || wrong "hostile: a comparison behind a view uses no index"
-for sql in "drop function wkt_canonical(text, int)" "alter type wkt rename to other" "create cast (bytea as wkt) without function" "create function mine(text) returns text as '\$libdir/wkt', 'pg_wkt_out' language c" \
+for sql in "drop function wkt_canonical(text, int, text)" "alter type wkt rename to other" "create cast (bytea as wkt) without function" "create function mine(text) returns text as '\$libdir/wkt', 'pg_wkt_out' language c" \
     "create type mine" "alter operator family wkt_ops using btree add function 1 (wkt, text) btint4cmp(int, int)"; do
     said=$(stranger "$sql" 2>&1) && [[ $sql == "create type mine" ]] || [[ $said == *"must be"* || $said == *"denied"* ]] || wrong "hostile: $sql: $said"
 done

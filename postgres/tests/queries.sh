@@ -17,12 +17,14 @@ is "queries: refused" "2 8 expected_y,4  " "$(ask page "select format('%s %s %s'
 # A text that is too long is refused by the domain before the generated column reads it.
 fails page "insert into received values (repeat('x', 1000001))" 'value for domain short_text violates check constraint'
 is "queries: a short text" "POINT(1 2)" "$(ask page "insert into received values ('point(1.0 2)') returning key")"
-# Extents: exact, by the index, and nothing for what is empty.
-ask page "insert into places select 10 + n, at::wkt from unnest('{POINT EMPTY,MULTIPOINT(EMPTY),\"LINESTRING(5.000001 0,6 1)\",\"POLYGON((-1 5,-2 6,0 7,-1 5))\",\"POLYGON((0 5,9 5,9 9,0 5))\"}'::text[])
+# Boxes: by the index, nothing for what is empty, and with wkt_bounds exact.
+ask page "insert into places select 10 + n, at::wkt from unnest('{POINT EMPTY,MULTIPOINT(EMPTY),\"LINESTRING(5.000001 0,6 1)\",\"POLYGON((-1 5,-2 6,0 7,-1 5))\",\"POLYGON((0 5,9 5,9 9,0 5))\",\"POINT(5.000002 5)\"}'::text[])
     with ordinality a(at, n)"
-extents="from places where (extent(at)).x && '[0,5]' and (extent(at)).y && '[0,5]'"
-is "queries: extents" "1 1 14 15" "$(ask page "set enable_seqscan = off" "select id $extents order by id" | paste -sd ' ')"
-[[ $(ask page "set enable_seqscan = off" "explain select id $extents") == *"Index Scan using places_x_y_idx"* ]] || wrong "queries: extents without their index"
+boxes=$(sed -n "s/^SELECT id FROM \(places.* && '(0,0),(5,5)'.*\);$/\1/p" "$here/README.md")
+is "queries: boxes" "1 1 13 14 15,1 1 14 15" "$(while read -r tables; do ask page "set enable_seqscan = off" "select id from $tables order by id" | paste -sd ' '; done <<< "$boxes" | paste -sd ,)"
+while read -r tables; do
+    [[ $(ask page "set enable_seqscan = off" "explain select id from $tables") == *"Index Scan "*"places_wkt_box_idx"* ]] || wrong "queries: boxes without their index: $tables"
+done <<< "$boxes"
 # How long all paths of a value are, where they take most, as SECURITY.md says.
 for shape in "points LINESTRING 5000" "each MULTIPOINT 3333"; do
     read -r call kind rows <<< "$shape"
@@ -39,12 +41,30 @@ fails page "insert into bookings values ('point(1.0 2)', '[2026-01-01 12:00, 202
 fails page "insert into bookings values ($long, '[2026-01-02, infinity)')" "conflicting key value violates exclusion constraint"
 # A foreign table over this server: what is sent there.
 ask page "alter server other options (add host '$PGHOST', set dbname 'page')" "create user mapping for public server other" \
-    "create foreign table elsewhere (id int, at wkt(6)) server other options (table_name 'places')"
+    "create foreign table elsewhere (id int, at wkt(6), t text, kind text) server other options (table_name 'places')"
 sent() { ask page "explain (verbose, costs off) $1" | sed -n 's/.*Remote SQL: //p'; }
 for asked in "at = 'point(3.0 4)'|WHERE ((at OPERATOR(public.=) 'POINT(3 4)'" "wkt_num_points(at) > 1 order by at|WHERE ((public.wkt_num_points(at) > 1)) ORDER BY at"; do
     [[ $(sent "select at from elsewhere where ${asked%|*}") == *"${asked#*|}"* ]] || wrong "queries: not sent: $asked: $(sent "select at from elsewhere where ${asked%|*}")"
 done
+sent_where() { sent "select id from elsewhere where $1" | sed -n 's/.* WHERE //p'; }
+while IFS='|' read -r asked told; do is "queries: sent of $asked" "$told" "$(sent_where "$asked")"; done <<'CONDITIONS'
+wkt_box(at) && '(1,1),(2,2)'|((public.wkt_box(at) && '(2,2),(1,1)'::box))
+wkt_x(at) > 3|((public.wkt_x(at) > 3::double precision))
+wkt_same(t, 'POINT(1 2)', dialect => 'ewkt')|(public.wkt_same(t, 'POINT(1 2)'::text, 18, 'ewkt'::text))
+wkt_canonical(t) = 'POINT(1 2)'|((public.wkt_canonical(t, 18, ''::text) = 'POINT(1 2)'::text))
+kind = 'POINT'|((kind = 'POINT'))
+wkt_kind(at) = 'POINT'|
+wkt_version() = '1'|
+at in ('POINT(1 2)', 'POINT(3 4)')|
+at::text like 'POINT%'|
+(wkt_bounds(at)).min_x > 3|
+CONDITIONS
 is "queries: answered from there" "POINT(3 4)" "$(ask page "select at from elsewhere where at = 'point(3.0 4)'")"
+# A function of another role beside these: an error, or the answer to another type, as README.md says.
+ask page "create role planter" "grant create on schema public to planter" "set role planter" "create function wkt_canonical(text) returns text language sql return 'planted'" "create function wkt_reads(varchar) returns bool language sql return true"
+fails page "select wkt_canonical('POINT(1 2)'::text)" "is not unique"
+is "queries: a planted function" "POINT(1 2) f t" "$(ask page "select wkt_canonical('POINT(1 2)', 18), wkt_reads('x'), wkt_reads('x'::varchar)" | tr '|' ' ')"
+ask page "drop owned by planter" "drop role planter"
 # META.json names what is there, in the version of the library.
 meta="'$("$here/../dist/version.sh" in "$here/META.json" | sed "s/'/''/g")'::jsonb"
 is "META.json: versions" "$(sed -n 's/^#define WKT_VERSION "\(.*\)"/\1/p' "$wkt/wkt.h")" \

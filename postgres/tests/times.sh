@@ -75,6 +75,8 @@ while read -r ms sql; do cancelled cancel "$ms" "$sql"; done <<'CALLS'
 1800 (wkt_read(t || ',')).hint from long where id = 2
 1200 count(*) from long, wkt_points(t::wkt) where id = 2
 1300 wkt_num_points(t::wkt) from long where id = 2
+1200 count(*) from long, wkt_points_float8(t::wkt) where id = 2
+1300 wkt_box(t::wkt) from long where id = 2
 1100 count(*) from long, wkt_each(t::wkt) where id = 2
 1200 wkt_kind(repeat(repeat('9', 1000000), 600))
 2700 repeat(repeat('9', 1000000), 600)::wkt
