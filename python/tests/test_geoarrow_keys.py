@@ -1,5 +1,6 @@
 """Keys of GeoArrow's columns, whose doubles become the decimals that `repr` writes."""
 import decimal
+import random
 import struct
 import unittest
 
@@ -32,6 +33,11 @@ def lists(offsets, within, rows=None, large=False):
     ends = struct.pack("<%d%s" % (len(offsets), "q" if large else "i"), *offsets)
     held = offsets[1:] if rows is None else rows
     return Node("+L" if large else "+l", len(offsets) - 1, (bits_of(held), ends), (within,))
+
+
+def plain(number):
+    """What `repr` writes, without an exponent or zeros at the end."""
+    return "{:f}".format(decimal.Decimal(repr(number)).normalize())
 
 
 def keys_of(name, node, *given, **more):
@@ -137,8 +143,66 @@ class Kinds(Arrow):
         made = keys_of("point", interleaved([(it, 1) for it in values]), 6, "null")
         fits = [len(it.partition(".")[2]) <= 6 for it in wanted]
         self.assertEqual([status == 0 for status in made.statuses], fits)
+        self.assertEqual(keys_of("point", interleaved([(5.0, -0.0)]), 0).to_pylist(), ["POINT(5 0)"])
         many = separated([(1e-40, 1), (1e300, 1)])
         self.assertEqual(keys_of("point", many, invalid="null").statuses.tolist(), [13, 13])
+
+    def test_there_and_back(self):
+        """Keys of the doubles that arrays of 64 bits become: of 2^53 units and more too each is rounded once."""
+        make = random.Random(20261201)
+        for most, places in ((180, 15), (180, 14), (1e7, 9), (5e-4, 22)):
+            pairs = [(make.uniform(-most, most), make.uniform(-most, most)) for _ in range(3000)]
+            texts = ["POINT(%s %s)" % tuple(map(plain, pair)) for pair in pairs]
+            texts = [text for text in wkt.canonical(texts, places, "null") if text is not None]
+            self.assertGreater(len(texts), 1000)
+            made = wkt.to_arrays_column(texts, places).geoarrow()
+            self.assertEqual(wkt.keys(made, places).to_pylist(), texts)
+
+    def test_wide(self):
+        """Numbers that 64 bits don't hold at the places of their row have the key that their text has."""
+        pairs = [(6.123e-17, 1.0), (500000.12345678906, 1e-15), (1e20, -0.25), (-179.99999999999997, 1e-18), (1.0, 2.0)]
+        texts = [tuple(map(plain, pair)) for pair in pairs]
+        self.assertEqual(keys_of("point", interleaved(pairs), 20, "null")[0], "POINT(0.00000000000000006123 1)")
+        made = keys_of("point", interleaved(pairs[1:])).to_pylist()
+        self.assertEqual(made, ["POINT(%s %s)" % it for it in texts[1:]])
+        line = lists([0, 3, 3, 5], interleaved(pairs))
+        wanted = ["LINESTRING(%s %s,%s %s,%s %s)" % sum(texts[:3], ()), "LINESTRING EMPTY"]
+        wanted.append("LINESTRING(%s %s,%s %s)" % sum(texts[3:], ()))
+        self.assertEqual(keys_of("linestring", lists([0, 2, 2, 5], interleaved(pairs)), 36, "null")[1], wanted[1])
+        self.assertEqual(keys_of("linestring", line, 18, "null").to_pylist(), [None, *wanted[1:]])
+        self.assertEqual(keys_of("linestring", line, 20, "null").to_pylist(), [None, *wanted[1:]])
+        inner = separated([(1e-18, 170.0), (0.1, 200.0), (2.0, 2.5)])
+        made = keys_of("multipoint", lists([0, 1, 3], inner)).to_pylist()
+        self.assertEqual(made, ["MULTIPOINT((%s 170))" % plain(1e-18), "MULTIPOINT((0.1 200),(2 2.5))"])
+
+    def test_same_as_texts(self):
+        """With any places those rows are refused whose texts are, and the places that are named read them."""
+        make = random.Random(7)
+        fine = [6.123e-17, 0.0, 1e22, 2.0**63, 2.0**127, -1.71e38, 170.1, 170.2, 500000.12345678906, 1e-36, 5e-324]
+        pairs = [(make.choice(fine), make.uniform(-1, 1) * 10.0 ** make.randrange(-9, 20)) for _ in range(200)]
+        texts = ["POINT(%s %s)" % tuple(map(plain, pair)) for pair in pairs]
+        for places in (0, 9, 18, 19, 30, 36):
+            made = keys_of("point", interleaved(pairs), places, "null")
+            self.assertEqual(made.to_pylist(), wkt.canonical(texts, places, "null"))
+            for text in [text for text, key in zip(texts, made) if key is None][:40]:
+                with self.assertRaises(wkt.WktError) as raised:
+                    keys_of("point", interleaved([pairs[texts.index(text)]]), places)
+                named = str(raised.exception).partition("; places=")[2].partition(" ")[0]
+                reads = [it for it in range(37) if wkt.canonical(text, it, "null") is not None]
+                self.assertIn(int(named), reads) if named else self.assertEqual(reads, [])
+
+    def test_causes(self):
+        for pair, places, why in (
+            ((1.5, NAN), 18, "nan is no decimal: NaN and infinity have no key"),
+            ((-INFINITE, 1.5), 18, "-inf is no decimal: NaN and infinity have no key"),
+            ((0.1234567, 1.0), 6, "0.1234567 has 7 places, at most 6 are allowed; places=7 reads the row"),
+            ((200.0, 1.0), 36, "200 is too large for 36 places; places=35 reads the row"),
+            ((1e-36, 200.0), 18, "%s has 36 places, at most 18 are allowed; no number of places reads the row"
+             % plain(1e-36)),
+        ):  # fmt: skip
+            with self.assertRaises(wkt.WktError) as raised:
+                keys_of("point", interleaved([(1, 2), pair]), places)
+            self.assertEqual((str(raised.exception), raised.exception.status), ("row 1: " + why, 13))
 
     def test_streams(self):
         chunks = [lists(ends, interleaved(SIX)) for ends in ([0, 2], [0], [0, 3, 6])]

@@ -91,6 +91,9 @@ class Doubles(unittest.TestCase):
             self.assertEqual((raised.exception.row, raised.exception.status), (1, status))
         self.assertEqual(wkt.keys(wrong, 6, "null"), [self.TEXTS[0], None, None, None])
         self.assertEqual(wkt.keys(wrong[3:]), ["POINT(0.3333333333333333 1)"])
+        rings = [shapely.LinearRing([(0, 0), (4, 0), (2, 4.5)]), made[2], shapely.LinearRing()]
+        wanted = ["LINESTRING(0 0,4 0,2 4.5,0 0)", self.TEXTS[2], "LINESTRING EMPTY"]
+        self.assertEqual(wkt.keys(rings), wanted)
         for text in self.TEXTS:
             self.assertEqual(wkt.keys(wkt.geometries(wkt.to_arrays_column([text, None, text]))), [text, None, text])
 

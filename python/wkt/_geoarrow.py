@@ -2,6 +2,7 @@
 from typing import Any, NamedTuple, Tuple
 
 from . import _arrow
+from ._doubles import nearest
 from ._names import DIMENSIONS, KINDS
 from ._native import _fast
 from ._values import numpy
@@ -22,8 +23,8 @@ class GeoArrow(NamedTuple):
     """The buffers of a GeoArrow array with interleaved coordinates, as NumPy arrays. It has `__arrow_c_array__`.
 
     extension: its name, such as "geoarrow.polygon". dimension: one of DIMENSIONS.
-    coordinates: shape (coordinates, width), float64: each the nearest to the decimal, where that has less than 2^53
-    units (15 digits). An empty point is NaN, in a multipoint too, and so is a null one.
+    coordinates: shape (coordinates, width), float64: each the nearest to the decimal, and of two the even one. An empty
+    point is NaN, in a multipoint too, and so is a null one.
     offsets: int32 arrays, from the outermost on: none of points, one of line strings and multipoints, two of polygons
     and multilinestrings, three of multipolygons.
     valid: shape (rows,), bool: False of a row that is null or refused.
@@ -146,11 +147,7 @@ def geoarrow(held: Any, places: int) -> GeoArrow:
     width = len(DIMENSIONS[at])
     rows = held.number_offsets // width
     offsets = _offsets(held, kind, rows)  # before the coordinates, since these take memory
-    if places <= 22:  # ten to it is a double
-        coordinates = held.numbers / 10.0**places
-    else:
-        coordinates = numpy.array([number / 10**places for number in held.numbers.tolist()], float)
-    coordinates = coordinates.reshape(-1, width)
+    coordinates = nearest(held.numbers, places).reshape(-1, width)
     if kind in (0, 3):
         offsets, coordinates = offsets[:-1], _points(offsets[-1], coordinates)
     return GeoArrow("geoarrow." + KINDS[kind].lower(), DIMENSIONS[at], coordinates, offsets, valid)

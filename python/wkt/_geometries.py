@@ -1,12 +1,13 @@
 """Keys of geometries that are no texts: of Shapely 2 (and GeoPandas) and of GeoArrow; and geometries of arrays."""
+import re
 import sys
 from typing import Any, Dict, Iterator, List, Optional, Tuple
 
 from . import _arrow
 from ._arrays import ColumnArrays, from_arrays, from_arrays_column
 from ._buffers import Texts, joined
-from ._columns import check_invalid, is_series
-from ._doubles import decimals, scaled
+from ._columns import canonical_rows, check_invalid, is_series
+from ._doubles import cause_of, decimals, scaled, written
 from ._errors import WktError, printable, words_of
 from ._geoarrow import LISTS, GeoArrow
 from ._names import COLLECTION, DIMENSIONS, KINDS, NULL
@@ -14,9 +15,10 @@ from ._native import _fast
 from ._values import numpy, places_of
 
 BAD_NUMBER = 13  # WKT_BAD_NUMBER of include/wkt.h
-# Shapely's numbers of kinds. A LinearRing (2) and a GeometryCollection (7) have no arrays.
-_KINDS = {0: 0, 1: 1, 3: 2, 4: 3, 5: 4, 6: 5}
+# Shapely's number of each kind. A LinearRing (2) is a LINESTRING, and a GeometryCollection (7) has no arrays.
+_KINDS = (0, 1, 3, 4, 5, 6)
 _BLOCK = 100_000
+_MOST = 1.7e38  # units of 128 bits
 
 
 def _shapely() -> Any:
@@ -72,8 +74,37 @@ def _some(values: Any, offsets: Any, rows: Any) -> Tuple[Any, Any]:
     return values[numpy.repeat(rows, counts)], numpy.concatenate([[0], numpy.cumsum(counts[rows])])
 
 
+def _arrays_texts(held: Dict[str, Any], some: Any, units: Any, places: int) -> Tuple[List[Optional[str]], List[int]]:
+    """The canonical texts of some rows, which a mask says, with such numbers, and the status of each."""
+    count = int(some.sum())
+    held = {**held, "numbers": units}
+    pairs = [_some(held[name], held[name[:-1] + "_offsets"], some) for name in ("numbers", "rings", "polygons")]
+    words = [numpy.full(count, held[name], numpy.uint32) for name in ("kinds", "dimensions")]
+    flat = [part for pair in pairs for part in pair]
+    return from_arrays_column(ColumnArrays._make([*words, *flat, numpy.zeros(count, numpy.uint32), places]))
+
+
+def _wide_texts(held: Dict[str, Any], some: Any, places: int) -> Tuple[List[Optional[str]], List[int]]:
+    """The same of rows with numbers that 64 bits don't hold, by texts with these. A refused one stays as it is."""
+    numbers = held["numbers"]
+    texts, codes = _arrays_texts(held, some, numpy.arange(len(numbers)), 0)  # where each number stands
+    for i, text in enumerate(texts):
+        if text is not None:
+            texts[i] = re.sub("[0-9]+", lambda at: written(float(numbers[int(at[0])])), text)
+    answers: List[int] = []
+    for i, made in enumerate(canonical_rows(texts, places, "null", None, answers)):
+        if made is not None:
+            texts[i] = made
+        elif texts[i] is not None:
+            codes[i] = BAD_NUMBER
+    return texts, codes
+
+
 def texts_of(held: Dict[str, Any], places: int) -> Tuple[List[Optional[str]], List[int]]:
-    """The canonical texts of such rows, whose numbers are doubles, and the status of each."""
+    """The canonical texts of such rows, whose numbers are doubles, and the status of each.
+
+    Of a row whose numbers are refused (13) it is the text that `canonical` refuses.
+    """
     offsets = held["number_offsets"]
     units, used, has = decimals(held["numbers"], places)
     rows = len(offsets) - 1
@@ -81,20 +112,13 @@ def texts_of(held: Dict[str, Any], places: int) -> Tuple[List[Optional[str]], Li
     most = numpy.zeros(rows, numpy.int64)
     numpy.maximum.at(most, number_rows, used)
     units, fits = scaled(units, used, most[number_rows])
-    good = numpy.ones(rows, bool)
-    good[number_rows[~(has & fits)]] = False
+    fits &= has & (numpy.abs(held["numbers"]) < _MOST / 10.0**places)
+    most[number_rows[~fits]] = -1
     texts: List[Optional[str]] = [None] * rows
-    statuses = [0 if it else BAD_NUMBER for it in good.tolist()]
-    for own in numpy.unique(most[good]).tolist():  # a call has numbers of so many places
-        some = good & (most == own)
-        count = int(some.sum())
-        pairs = [
-            _some(units if name == "numbers" else held[name], held[name[:-1] + "_offsets"], some)
-            for name in ("numbers", "rings", "polygons")
-        ]
-        words = [numpy.full(count, held[name], numpy.uint32) for name in ("kinds", "dimensions")]
-        flat = [part for pair in pairs for part in pair]
-        made, codes = from_arrays_column(ColumnArrays._make([*words, *flat, numpy.zeros(count, numpy.uint32), own]))
+    statuses = [0] * rows
+    for own in numpy.unique(most).tolist():  # a call has numbers of so many places
+        some = most == own
+        made, codes = _wide_texts(held, some, places) if own < 0 else _arrays_texts(held, some, units, own)
         for row, text, code in zip(numpy.flatnonzero(some).tolist(), made, codes):
             texts[row], statuses[row] = text, code
     return texts, statuses
@@ -135,8 +159,8 @@ def _blocks(coordinates: Any, lists: Any, rows: int) -> Iterator[Tuple[Any, Any]
         first = last
 
 
-def _geo_texts(kind: int, dimension: int, parts: Any, places: int) -> Texts:
-    """The canonical texts of a chunk of GeoArrow."""
+def _geo_texts(kind: int, dimension: int, parts: Any, places: int) -> Tuple[List[Optional[str]], Any]:
+    """The texts of a chunk of GeoArrow as of `texts_of`, and the status of each."""
     bits, rows, doubles, lists = parts
     bits = numpy.unpackbits(numpy.frombuffer(bits, numpy.uint8), bitorder="little")[:rows]
     valid = bits if len(bits) else numpy.ones(rows, numpy.uint8)
@@ -149,10 +173,7 @@ def _geo_texts(kind: int, dimension: int, parts: Any, places: int) -> Texts:
             made, codes = texts_of(ragged(kind, dimension, *block), places)
             texts += made
             statuses += codes
-    held = [text if text and it else "" for text, it in zip(texts, valid.tolist())]
-    ends = numpy.cumsum([0, *map(len, held)])
-    codes = numpy.where(valid, numpy.array(statuses, numpy.uint32), numpy.uint32(NULL))
-    return Texts(numpy.frombuffer("".join(held).encode(), numpy.uint8), ends, codes)
+    return texts, numpy.where(valid, numpy.array(statuses, numpy.uint32), numpy.uint32(NULL))
 
 
 def _geo_keys(column: Any, places: int, invalid: str) -> Any:
@@ -163,19 +184,23 @@ def _geo_keys(column: Any, places: int, invalid: str) -> Any:
     kind, dimension, metadata = _geo_type(about)
     made, first = [], 0
     for parts in chunks:
-        texts = _geo_texts(kind, dimension, parts, places)
-        _raise_first(texts.statuses, invalid, first)
-        made.append(texts)
-        first += len(texts.statuses)
+        texts, statuses = _geo_texts(kind, dimension, parts, places)
+        _raise_first(texts, statuses, places, invalid, first)
+        held = [text if text and status == 0 else "" for text, status in zip(texts, statuses.tolist())]
+        data = numpy.frombuffer("".join(held).encode(), numpy.uint8)
+        made.append(Texts(data, numpy.cumsum([0, *map(len, held)]), statuses))
+        first += len(statuses)
     return _arrow.ArrowTexts._of(joined(made), metadata)
 
 
-def _raise_first(statuses: Any, invalid: str, first: int) -> None:
+def _raise_first(texts: Any, statuses: Any, places: int, invalid: str, first: int) -> None:
     """Raises the error of the first row that is neither answered nor null, the first of which is `first`."""
     wrong = numpy.flatnonzero((statuses != 0) & (statuses != NULL))
     if invalid == "raise" and len(wrong):
-        status = int(statuses[wrong[0]])
-        raise WktError(status, words_of(status), first + int(wrong[0]))
+        row = int(wrong[0])
+        status = int(statuses[row])
+        why = cause_of(texts[row], places) if status == BAD_NUMBER else words_of(status)
+        raise WktError(status, why, first + row)
 
 
 def _coordinates(shapely: Any, kind: int, held: Any, z: bool, m: bool) -> Tuple[Any, Tuple[Any, ...]]:
@@ -188,6 +213,9 @@ def _coordinates(shapely: Any, kind: int, held: Any, z: bool, m: bool) -> Tuple[
         if not len(held):
             return numpy.empty((0, 2 + z + m)), lists
     more = dict(include_m=m) if hasattr(shapely, "has_m") else {}
+    if kind == 1:  # its arrays of lines are without rings
+        coordinates, rows = shapely.get_coordinates(held, include_z=z, return_index=True, **more)
+        return coordinates, (numpy.searchsorted(rows, numpy.arange(len(held) + 1)),)
     _, coordinates, offsets = shapely.to_ragged_array(held, include_z=z, **more)
     return coordinates, lists + offsets[::-1]
 
@@ -195,10 +223,11 @@ def _coordinates(shapely: Any, kind: int, held: Any, z: bool, m: bool) -> Tuple[
 def _shapely_texts(shapely: Any, held: Any, places: int) -> Tuple[Any, Any]:
     """The canonical texts of an array of geometries, and the status of each."""
     kinds = shapely.get_type_id(held)
+    kinds[kinds == 2] = 1
     flags = [shapely.has_z(held), shapely.has_m(held) if hasattr(shapely, "has_m") else numpy.zeros(len(held), bool)]
     texts = numpy.full(len(held), None, object)
     statuses = numpy.where(kinds == -1, NULL, COLLECTION).astype(int)
-    for theirs, kind in _KINDS.items():
+    for kind, theirs in enumerate(_KINDS):
         for dimension in range(4):
             z, m = dimension in (1, 3), dimension in (2, 3)
             rows = numpy.flatnonzero((kinds == theirs) & (flags[0] == z) & (flags[1] == m))
@@ -219,9 +248,9 @@ def keys(geometries: Any, places: int = 18, invalid: str = "raise") -> Any:
     A coordinate is the shortest decimal that is the same double, as `repr` writes it. That is tested, and not proved. A
     point whose numbers are all NaN is EMPTY.
     places: a coordinate that has more is refused. invalid: "raise" or "null".
-    WktError: a coordinate has too many places, or is NaN or infinite, or 64 bits don't hold its units of as many places
-    as the others of its row need (13), or the geometry is a collection (24): it
-    names the row. TypeError: there is no Shapely 2, or the column is of something else. ValueError: it is wrong.
+    A row is refused where `canonical` with these places refuses its numbers. WktError: a coordinate has too many
+    places, or is too large for these, and it says which places read the row; or one is NaN or infinite (13); or the
+    geometry is a collection (24). It names the row. TypeError: there is no Shapely 2, or the column is of something else. ValueError: it is wrong.
     """
     places = places_of(places)
     check_invalid(invalid, ("raise", "null"))
@@ -230,7 +259,8 @@ def keys(geometries: Any, places: int = 18, invalid: str = "raise") -> Any:
     shapely, series = _shapely(), geometries if is_series(geometries) else None
     held = numpy.array(geometries if series is None else list(series), object).reshape(-1)
     texts, statuses = _shapely_texts(shapely, held, places)
-    _raise_first(statuses, invalid, 0)
+    _raise_first(texts, statuses, places, invalid, 0)
+    texts[statuses != 0] = None
     if series is None:
         return texts.tolist()
     answer = sys.modules["pandas"].Series(texts, index=series.index, name=series.name, dtype=object)
@@ -274,7 +304,7 @@ def geometries(arrays: ColumnArrays) -> Any:
     # Shapely takes no arrays with M, and of those with something EMPTY it makes other geometries, or ends the process.
     plain = made.valid & ~_with_empty(made) & (not measured)
     if plain.any():
-        known = shapely.GeometryType({v: k for k, v in _KINDS.items()}[kind])
+        known = shapely.GeometryType(_KINDS[kind])
         coordinates, offsets = _taken(made, plain)
         answer[plain] = shapely.from_ragged_array(known, coordinates, offsets[::-1] or None)
     rest = numpy.flatnonzero(made.valid & ~plain)
