@@ -82,7 +82,7 @@ class GeoArrow(unittest.TestCase):
         """Each double is that which Python reads of the decimal: of units up to 64 bits, of halves the even one."""
         make = random.Random(11)
         units = [2**53 + i for i in range(-3, 6)] + [2**63 - 1, 2**63 - 512, 2**62 + 256, 2**62 + 768, 5 * 10**17 + 1]
-        units += [make.randrange(2 ** make.randrange(1, 64)) for _ in range(1500)]
+        units += [make.randrange(2 ** make.randrange(1, 64)) for _ in range(400)]
         units += [-unit for unit in units] + [-(2**63)]
         for places in (0, 1, 9, 14, 15, 18, 22, 23, 36):
             numbers, rows = numpy.array(units + [0], "int64"), numpy.arange(len(units) // 2 + 2)

@@ -250,7 +250,8 @@ def keys(geometries: Any, places: int = 18, invalid: str = "raise") -> Any:
     places: a coordinate that has more is refused. invalid: "raise" or "null".
     A row is refused where `canonical` with these places refuses its numbers. WktError: a coordinate has too many
     places, or is too large for these, and it says which places read the row; or one is NaN or infinite (13); or the
-    geometry is a collection (24). It names the row. TypeError: there is no Shapely 2, or the column is of something else. ValueError: it is wrong.
+    geometry is a collection (24). It names the row. TypeError: there is no Shapely 2, or the column is of something
+    else. ValueError: it is wrong.
     """
     places = places_of(places)
     check_invalid(invalid, ("raise", "null"))
