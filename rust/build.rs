@@ -12,6 +12,12 @@ fn main() {
     if env::var_os("DOCS_RS").is_some() {
         return;
     }
+    let is = |name: &str, value: &str| {
+        env::var(format!("CARGO_CFG_TARGET_{name}")).as_deref() == Ok(value)
+    };
+    if is("FAMILY", "wasm") && is("OS", "unknown") {
+        stop("wasm32-unknown-unknown has no C library, which libwkt needs: in a browser use the package for JavaScript");
+    }
     let clone = format!("{}/..", env!("CARGO_MANIFEST_DIR"));
     let native = Path::new(env!("CARGO_MANIFEST_DIR")).join("native");
     match env::var("WKT_LIB_DIR") {

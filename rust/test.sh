@@ -39,6 +39,11 @@ run "$(cargo --version)" cargo test --offline --target-dir "$dir/found"
 [ -x /usr/bin/cargo ] || fail "no Debian cargo: tests/needs.sh installs it"
 run "$(/usr/bin/cargo --version), geo-types, serde" env PATH="/usr/bin:$PATH" cargo test --offline --all-features --target-dir "$dir/debian"
 
+# A target without a C library is refused with a reason, and not by a compiler that misses a header.
+script=$(find "$dir/found" -name build-script-build -path '*wkt_proved-*' | head -n 1)
+said=$(CARGO_CFG_TARGET_FAMILY=wasm CARGO_CFG_TARGET_OS=unknown "$script" 2>&1) && fail "wasm32-unknown-unknown isn't refused"
+[[ $said == *"wasm32-unknown-unknown has no C library"* ]] || fail "wasm32-unknown-unknown: $said"
+
 # A later library, of other names and with later.c in their place.
 renamed=()
 for name in canonical explain hint infer message; do renamed+=("--redefine-sym=wkt_$name=now_$name"); done

@@ -8,7 +8,7 @@
 #define TEXT(s) (const uint8_t *)(s), strlen(s)
 #define COUNT(list) (sizeof list / sizeof *list)
 
-/* Where a text is refused, what was expected there, and why. */
+/* Where a text is refused, what was expected there, and why. To the places WKT_WHOLE and dialects may be added. */
 static void explain(const char *text, uint32_t places) {
     static const char *const expectations[] = WKT_EXPECTED;
     static const char *const hints[] = WKT_HINTS;
@@ -18,14 +18,14 @@ static void explain(const char *text, uint32_t places) {
     if (expected < COUNT(expectations)) printf(", at byte %zu %s was expected", start, expectations[expected]);
     if (wkt_hint(TEXT(text), places, &hint) != WKT_OK || hint == WKT_HINT_NONE || hint >= COUNT(hints)) return;
     printf(": ");
-    printf(hints[hint], places);
+    printf(hints[hint], places % WKT_WHOLE);
 }
 
 static void canonical(const char *text, uint32_t places) {
     uint8_t out[256];
     size_t needed, end;
     wkt_status s = wkt_canonical(TEXT(text), places, out, sizeof out, &needed, &end);
-    printf("%-28s %2u places: ", text, places);
+    printf("%-28s %2u places: ", text, places % WKT_WHOLE);
     if (s == WKT_OK)
         printf("%.*s (ends at %zu)", (int)needed, out, end);
     else if (s <= WKT_LAST_REFUSAL) {
@@ -39,6 +39,7 @@ static void canonical(const char *text, uint32_t places) {
 int main(void) {
     canonical("point ( 10 -20.50 ) more", 6);
     canonical("POINT(1.0000005 2)", 6);
+    canonical("POINT(1.0000005 2)", 6 | WKT_WHOLE);
     canonical("POINT(1.0000005 2)", 18);
     canonical("POINT(1)", 6);
     canonical("POINT(1 2 3)", 6);

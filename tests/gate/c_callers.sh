@@ -83,6 +83,7 @@ for words in 'at byte 10 `)` was expected: a third number needs Z or M' 'at byte
     'at byte 16 a second number was expected: with 18 places the number is read' 'at byte 6 a first number was expected: numbers have at most 6'; do
     grep -qF "$words" "$dir/said" || fail "show: it lacks $words"
 done
+[ "$(grep -c 'numbers have at most 6 places here' "$dir/said")" = 2 ] || fail "show: with WKT_WHOLE it says other places"
 for example in lines stream; do
     "$dir/$example" < crates/wktline/stdin | cmp - crates/wktline/stdout || fail "$example: another output than wktline's"
     ! "$dir/$example" < crates/wktline/stdin > /dev/full || fail "$example: an output that is lost has status 0"

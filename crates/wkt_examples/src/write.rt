@@ -249,7 +249,8 @@ fn fails_at(rt: &impl Abort, group: &Figure, calls: usize) {
     let mut sink = Slow::new(1, calls);
     let answer = write_geometry(&mut WriterWrapper::new(&mut sink), group);
     holds(rt, matches!(answer, Err(Error::FmtError(_))));
-    equal(rt, sink.taken(), &ALL.as_bytes()[..calls]);
+    holds(rt, ALL.as_bytes().starts_with(sink.taken()));
+    equal(rt, sink.taken().len(), calls);
     equal(rt, sink.failures, 1);
 }
 
