@@ -141,7 +141,7 @@ done
 says 'install gcc.*then run capi/build.sh again' env CC=nowhere-gcc capi/build.sh "$dir/none"
 printf '#!/bin/sh\ncase "$*" in *-dM*) exec gcc "$@" ;; esac\necho riscv64-linux-gnu\n' > "$dir/cc" && chmod 755 "$dir/cc"
 says "C compiler true isn't supported: name gcc or clang" env CC=true capi/build.sh "$dir/none"
-[[ $(CC='gcc -m32' dist/objects.sh) == x86_64_32-linux-gnu:\ portable\ C,* ]] || wrong "gcc -m32 takes the objects of 64 bits"
+[[ $(CC='gcc -m32' WKT_C_LIB=dist dist/objects.sh) == x86_64_32-linux-gnu:\ portable\ C,* ]] || wrong "gcc -m32 takes the objects of 64 bits"
 says 'riscv64-linux-gnu: portable C' env CC="$dir/cc" WKT_C_LIB=dist capi/build.sh "$dir/none"
 says 'capi/build.sh in a clone of wkt makes it' env WKT_LIB_DIR=/nowhere python3 -c 'import sys; sys.path.insert(0, "python"); import backend; backend.build_wheel(sys.argv[1])' "$dir"
 if ! skips rust; then
