@@ -112,8 +112,9 @@ export class Wkt {
     const otherLength = engine.length;
     const status = engine.same(at, length, otherAt, otherLength, how);
     if (status === STATUS.OK) return engine.number(0) === 1;
-    // Which of them is refused: the status may be that of the other.
-    const place = isRefusal(status) ? this.#explained(one, at, length, how) ?? this.#explained(other, otherAt, otherLength, how) : null;
+    // The status is of one of them: the first that is refused so.
+    const refused = isRefusal(status) ? [this.#explained(one, at, length, how), this.#explained(other, otherAt, otherLength, how)] : [];
+    const place = refused.find((why) => why?.status === status) ?? refused.find((why) => why) ?? null;
     engine.forget();
     throw new WktError(place?.status ?? status, place);
   }

@@ -3,7 +3,7 @@ import test from 'node:test';
 import assert from 'node:assert/strict';
 import { createServer } from 'node:http';
 import { spawnSync } from 'node:child_process';
-import { cpSync, mkdirSync, mkdtempSync, readdirSync, rmSync, writeFileSync } from 'node:fs';
+import { cpSync, mkdirSync, mkdtempSync, readFileSync, readdirSync, rmSync, writeFileSync } from 'node:fs';
 import { tmpdir } from 'node:os';
 import { join, relative } from 'node:path';
 import { pathToFileURL } from 'node:url';
@@ -74,15 +74,19 @@ test('what is no module', async () => {
   for (const source of [7, null, {}, []]) await assert.rejects(load(source), TypeError);
 });
 
-test('npm packs nothing without the module', { skip: spawnSync('npm', ['--version']).error && 'no npm' }, () => {
+test('npm packs no folder that pack.sh has not put together', { skip: spawnSync('npm', ['--version']).error && 'no npm' }, () => {
   const folder = mkdtempSync(join(tmpdir(), 'wkt-'));
   try {
     cpSync(new URL('../', import.meta.url), folder, { recursive: true });
     const packed = () => spawnSync('npm', ['pack', '--offline', '--json', '--loglevel=error'], { cwd: folder, encoding: 'utf8' });
     const stopped = packed();
     assert.notEqual(stopped.status, 0);
-    assert.match(stopped.stderr, /no wkt\.wasm here/);
+    assert.match(stopped.stderr, /javascript\/pack\.sh puts the package together/);
     assert.deepEqual(readdirSync(folder).filter((name) => name.endsWith('.tgz')), []);
+    writeFileSync(join(folder, 'NOTICE'), 'whose code it is');
+    // As pack.sh leaves it: what a clone prepares is there.
+    const manifest = join(folder, 'package.json');
+    writeFileSync(manifest, readFileSync(manifest, 'utf8').replace(/^ *"prepare":.*\n/m, ''));
     writeFileSync(join(folder, 'wkt.wasm'), 'a module');
     mkdirSync(join(folder, 'cjs'));
     writeFileSync(join(folder, 'cjs/inline.cjs'), 'the same');

@@ -45,7 +45,7 @@ grep -v '^#' "$here/../tests/data/doubles.tsv" > "$dir/doubles"
 chmod 644 "$dir/doubles"
 ask keys "create table doubles (number text, below float8, nearest float8, above float8)" "copy doubles from '$dir/doubles'" \
     "create function as_value(text) returns wkt language internal immutable strict as 'textsend'" \
-    "create table double_points as select *, as_value(format('POINT ZM(%1\$s %1\$s %1\$s %1\$s)', number)) at from doubles"
+    "create table double_points as select *, as_value(format('POINT ZM(%1\$s %1\$s %1\$s %1\$s)', number)) as at from doubles"
 is "doubles: others than those of the table" "" "$(ask keys "select d.number, p, b from double_points d, wkt_points_float8(at) p, wkt_bounds_float8(at) b
     where (nearest, nearest, nearest, nearest) is distinct from (x, y, z, p.m) or (wkt_x(at), wkt_y(at), wkt_z(at), wkt_m(at)) is distinct from (x, y, z, p.m)
         or (below, below, above, above, below, above, below, above) is distinct from (min_x, min_y, max_x, max_y, min_z, max_z, min_m, max_m)")"

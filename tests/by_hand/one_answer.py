@@ -9,7 +9,7 @@ texts.py, which shares nothing with it. The programs in one_answer/ call the fac
     canonical, null      the canonical text, or the status as !13; `null` for any status
     value, held          by a database's wkt_or_null; whether the text is read, as its calls say
     front, line          the text of the geometry in front, with its end; of a line, `refused` for a status
-    reads, cast          whether a text is read; whether a database's type takes it
+    reads, cast, taken   whether a text is read; whether a database's type takes it as a literal; and as a text
     explain, said, check where and why it is refused; as a database says it; as the command does
     infer, inferred      the kind and dimension of the header; kind: by a database; sort: by the command
     arrays, back, geo    arrays of the text as read; the text of these; as GeoArrow
@@ -66,8 +66,8 @@ def geo(arrays, places):
     """Arrays as GeoArrow has them: the sizes of the lists, and doubles; a point that is empty is NaN."""
     kind, dimension, *parts = arrays.split(" ")
     numbers, rings, polygons = ([int(it) for it in part.split(",") if it] for part in parts)
-    # Ten to the 23rd and more are no doubles.
-    width, coordinates = len(dimension), [n / (10.0**places if places <= 22 else 10**places) for n in numbers]
+    # A quotient of two ints is rounded once.
+    width, coordinates = len(dimension), [n / 10**places for n in numbers]
     sizes = [b - a for a, b in zip(rings, rings[1:])]
     if kind in ("Point", "MultiPoint"):
         starts = [a * width for a in rings[:-1]]
@@ -118,7 +118,7 @@ class Compared:
     def add(self, form, n, answer):
         kind = form.partition(".")[0]
         if kind == "explain":  # These words say how many places the number has.
-            answer = re.sub(r"\|.* has \d+ places, at most (\d+) are allowed$", r"|" + PLACES % r"\1", answer)
+            answer = re.sub(r"\|.* has (?:\d+|too many) places, at most (\d+) are allowed$", r"|" + PLACES % r"\1", answer)
         wanted = self.right[n].get(kind, "nothing")
         self.found[form] += 1
         if form not in self.missing:

@@ -102,6 +102,8 @@ def single(n, row):
     faces.say("front.one", n, f"!{status}" if status else f"{end} {text}")
     if row.places <= 18:
         faces.say("cast.one", n, "ft"[is_value(row)])
+        taken = any(canonical(row.text, 256 + places)[0] == 0 for places in range(row.places + 1))
+        faces.say("taken.one", n, "ft"[taken])
     faces.say("explain.one", n, explain(row.text, asked))
     faces.say("infer.one", n, infer(row.text))
     held, back = arrays(row.text, asked)

@@ -35,7 +35,7 @@ select 'said.wkt_canonical', n, said(t, places, d) from texts;
 create table held as select n, wkt_or_null(t, places, d) v, wkt_reads(t, places, d) reads, d from texts where places <= 18;
 select 'held.wkt_or_null', n, left((v is not null and reads)::text, 1) from held;
 select 'value.wkt_or_null', n, coalesce(case when reads then v end::text, 'null') from held;
-select 'cast.wkt_or_null', n, left((v is not null)::text, 1) from held where d = '';
+select 'taken.wkt_or_null', n, left((v is not null)::text, 1) from held where d = '';
 select 'held.wkt_reads', n, left(wkt_reads(t, places, d)::text, 1) from texts;
 select 'held.wkt_explain', n, left((wkt_explain(t, places, d) is null)::text, 1) from texts;
 select 'cast.literal', n, is_value(t, places) from texts where places <= 18;
