@@ -118,7 +118,8 @@ class Compared:
     def add(self, form, n, answer):
         kind = form.partition(".")[0]
         if kind == "explain":  # These words say how many places the number has.
-            answer = re.sub(r"\|.* has (?:\d+|too many) places, at most (\d+) are allowed$", r"|" + PLACES % r"\1", answer)
+            said = r"\|.* has (?:\d+|too many) places, at most (\d+) are allowed$"
+            answer = re.sub(said, r"|" + PLACES % r"\1", answer)
         wanted = self.right[n].get(kind, "nothing")
         self.found[form] += 1
         if form not in self.missing:
