@@ -177,15 +177,18 @@ test('options that a call has not', () => {
   assert.equal(wkt.canonical('POINT(1 2.0)', Object.create({ places: 1, other: 2 })), 'POINT(1 2)');
 });
 
-test('of two texts the first that is refused, and nothing of the other', () => {
+test('of two texts the first that is refused as the status says, and nothing of the other', () => {
   const texts = ['POINT(x 2)', 'POINT(1 2) more', 'POINT(1', 'LINESTRING(1 2,3 x)', 'FOO', 'POINT(1e5 2)', ''];
   for (const one of texts) {
-    const { status, words, message, place } = thrown(() => wkt.canonical(one));
+    const mine = thrown(() => wkt.canonical(one));
     for (const other of [...texts, 'POINT(1 2)']) {
+      // A text that begins with no geometry comes before one that has more behind it.
+      const theirs = other === 'POINT(1 2)' ? mine : thrown(() => wkt.canonical(other));
+      const { status, words, message, place } = mine.status === 30 && theirs.status < 30 ? theirs : mine;
       const error = thrown(() => wkt.same(one, other));
       assert.deepEqual([error.status, error.words, error.message, error.place], [status, words, message, place], `${one} ${other}`);
     }
-    assert.deepEqual(thrown(() => wkt.same('POINT(1 2)', one)).cause, { status, words, place });
+    assert.deepEqual(thrown(() => wkt.same('POINT(1 2)', one)).cause, { status: mine.status, words: mine.words, place: mine.place });
   }
 });
 
